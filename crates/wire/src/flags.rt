@@ -1,0 +1,44 @@
+// Flag words: seven bytes of which exactly one bit is to be set, and that one offered.
+use crate::numbers::number;
+ghost use mathlib.Core.Path.{_≡_};
+ghost use Prim.Native.Nat.{_<_, _^_};
+ghost use Rattle.wire.specs.Number.{leAt};
+ghost use Rattle.wire.specs.Flags.{isSet, choiceOf};
+
+// The place of the one flag that is set, D0 being 0; or no choice that is offered.
+pub enum Choice {
+    At(u8),
+    Refused,
+}
+
+// The seven flag bytes from i on, gathered into one word.
+pub fn flag_word(s: &[u8], i: usize) -> u64
+    ensures { λ r. ⌜ (r ≡ leAt 7 (now (s .entry)) i) × (r < 2 ^ 56) ⌝ }
+{
+    number(s, i, 7)
+}
+
+// Whether the bit at a place is among those offered.
+pub fn offers(offered: u8, place: u8) -> bool
+    ensures { λ r. ⌜ r ≡ isSet offered place ⌝ }
+{
+    if 8 <= place {
+        return false;
+    }
+    (offered >> place) % 2 == 1
+}
+
+// The flag that the seven bytes from i on choose.
+pub fn one_flag(s: &[u8], i: usize, offered: u8) -> Choice
+    ensures { λ r. ⌜ r ≡ choiceOf offered (leAt 7 (now (s .entry)) i) ⌝ }
+{
+    let n = flag_word(s, i);
+    if u64::count_ones(n) != 1 {
+        return Choice::Refused;
+    }
+    let place = u64::trailing_zeros(n) as u8;
+    if offers(offered, place) {
+        return Choice::At(place);
+    }
+    Choice::Refused
+}
