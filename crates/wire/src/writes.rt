@@ -1,5 +1,6 @@
 // Writing into a lent buffer: what is written goes in as far as the buffer reaches, and every other byte stays.
-use crate::numbers::{bytes16, bytes32};
+use crate::numbers::bytes16;
+use crate::numbers::bytes32;
 use crate::parts::head;
 ghost use mathlib.Core.Path.{_≡_};
 ghost use Prim.Native.Nat.{_+_, _≤_};

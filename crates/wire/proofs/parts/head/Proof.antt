@@ -1,18 +1,16 @@
+use mathlib.Core.Path.{sym}
+use native.Mathlib.Omega.{arith}
+use lib.Seq.{take-all, length-take-le}
 use borrow.Author.Needs.{needs}
 use Rattle.wire.proofs.parts.head.Statement.{statement}
 use Rattle.wire.proofs.parts.head.Tie as tie
-use Rattle.wire.proofs.parts.head.Reads as reads
-use Rattle.wire.proofs.parts.head.Lts as lts
 
--- src/parts.rt:21:9
 returns : tie.Need-returns
-returns c = ?
+returns c = sym (take-all (c .before .args .n) (c .before .args .s .now) (omega arith))
 
--- src/parts.rt:23:5
 slice-aggregate-result : tie.Need-slice-aggregate-result
-slice-aggregate-result c = ?
+slice-aggregate-result c = sym (length-take-le _ _ (omega arith))
 
--- src/parts.rt:17:1
 returns-2 : tie.Need-returns-2
 returns-2 c = search needs
 

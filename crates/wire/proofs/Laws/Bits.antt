@@ -1,0 +1,96 @@
+-- What the counts of a number's bits say of the bits. Assumes nothing.
+use mathlib.Core.Path.{_≡_, refl, ap, ap₂, sym, _∙_}
+use mathlib.Core.List.{List, [], _∷_}
+use mathlib.Core.Bool.{Bool, true, false, cond}
+use Prim.Native.Nat.{ℕ, zero, suc, _+_, _*_, _/_, _%_, _^_, _≤_, _<_}
+use native.Mathlib.Nat.{pow-succ', lt-of-lt-of-le, div-eq-of-lt}
+use native.Mathlib.Omega.{arith}
+use lib.Pow.{pow-mono}
+use lib.Dec.{eqb, lit<}
+use lib.ListN.{length}
+use lib.Count.{ones, ones-step, ones-ones, trailingZeros, under}
+use borrow.Author.Tests.{eqb-true, eqb-false, eq-eqb, ne-eqb}
+use Rattle.wire.specs.declared.flags.Choice.{Choice}
+use Rattle.wire.specs.declared.flags.Choice.the-variants.{At, Refused}
+use Rattle.wire.specs.Flags.{isSet, bitsOf, count, first, choiceOf}
+
+-- the number that bits stand for, D0 first
+digit : Bool → ℕ
+digit true = 1
+digit false = 0
+
+value : List Bool → ℕ
+value [] = 0
+value (b ∷ bs) = digit b + 2 * value bs
+
+digit-of : (n : ℕ) → digit (eqb (n % 2) 1) ≡ n % 2
+unfolding digit
+digit-of n = go (eqb (n % 2) 1) refl
+  where
+    go : (b : Bool) → eqb (n % 2) 1 ≡ b → digit b ≡ n % 2
+    go true e = omega (arith, eqb-true (n % 2) 1 e)
+    go false e = omega (arith, eqb-false (n % 2) 1 e)
+
+value-bits : (k n : ℕ) → n < 2 ^ k → value (bitsOf k n) ≡ n
+unfolding value bitsOf
+value-bits zero n h = omega arith
+value-bits (suc k) n h =
+    let ih : value (bitsOf k (n / 2)) ≡ n / 2 = value-bits k (n / 2) (omega (arith, pow-succ' 2 k)) in
+    omega (arith, digit-of n)
+
+length-bits : (k n : ℕ) → length (bitsOf k n) ≡ k
+unfolding bitsOf
+length-bits zero n = refl
+length-bits (suc k) n = ap suc (length-bits k (n / 2))
+
+-- a digit in front of a number
+ones-digit : (d v : ℕ) → d < 2 → ones (d + 2 * v) ≡ d + ones v
+ones-digit d v h =
+    let r : (d + 2 * v) % 2 ≡ d = omega arith in
+    let q : (d + 2 * v) / 2 ≡ v = omega arith in
+    ones-step (d + 2 * v) ∙ ap₂ (λ (x y : ℕ). x + ones y) r q
+
+zeros-digit : (k d v : ℕ) → d < 2 → trailingZeros (suc k) (d + 2 * v) ≡ under d (trailingZeros k v)
+unfolding trailingZeros
+zeros-digit k d v h =
+    let r : (d + 2 * v) % 2 ≡ d = omega arith in
+    let q : (d + 2 * v) / 2 ≡ v = omega arith in
+    ap₂ (λ (x y : ℕ). under x (trailingZeros k y)) r q
+
+ones-value : (bs : List Bool) → ones (value bs) ≡ count bs
+unfolding value count digit
+ones-value [] = ones-ones 0
+ones-value (true ∷ bs) = omega (arith, ones-digit 1 (value bs) (lit< tt), ones-value bs)
+ones-value (false ∷ bs) = omega (arith, ones-digit 0 (value bs) (lit< tt), ones-value bs)
+
+zeros-value : (k : ℕ) (bs : List Bool) → 0 < count bs → length bs ≤ k → trailingZeros k (value bs) ≡ first bs
+unfolding value count digit first
+zeros-value k [] p h = absurd (omega arith)
+zeros-value zero (b ∷ bs) p h = absurd (omega arith)
+zeros-value (suc k) (true ∷ bs) p h = zeros-digit k 1 (value bs) (lit< tt)
+zeros-value (suc k) (false ∷ bs) p h = zeros-digit k 0 (value bs) (lit< tt) ∙ ap suc (zeros-value k bs p (omega arith))
+
+-- no bit stands at a place past the byte
+pub high-clear : (n k : ℕ) → n < 256 → 8 ≤ k → isSet n k ≡ false
+unfolding isSet
+high-clear n k h p =
+    let small : n < 2 ^ k = lt-of-lt-of-le h (pow-mono p) in
+    rw (div-eq-of-lt small)
+
+-- `choiceOf`, by what the machine counts in the word
+module _ (offered n : ℕ) (h : n < 2 ^ 56) where
+  ones-bits : ones n ≡ count (bitsOf 56 n)
+  ones-bits = ap ones (sym (value-bits 56 n h)) ∙ ones-value (bitsOf 56 n)
+
+  zeros-bits : ones n ≡ 1 → trailingZeros 64 n ≡ first (bitsOf 56 n)
+  zeros-bits p =
+      let q : 0 < count (bitsOf 56 n) = omega (arith, ones-bits) in
+      ap (trailingZeros 64) (sym (value-bits 56 n h)) ∙ zeros-value 64 (bitsOf 56 n) q (omega (arith, length-bits 56 n))
+
+  pub not-one : (ones n ≡ 1 → ⊥) → choiceOf offered n ≡ Refused
+  unfolding choiceOf
+  not-one p = rw (ne-eqb (count (bitsOf 56 n)) 1 (λ q. p (ones-bits ∙ q)))
+
+  pub one : ones n ≡ 1 → choiceOf offered n ≡ cond (isSet offered (trailingZeros 64 n)) (At (trailingZeros 64 n)) Refused
+  unfolding choiceOf
+  one p = rw (eq-eqb (count (bitsOf 56 n)) 1 (sym ones-bits ∙ p), zeros-bits p)
