@@ -54,7 +54,8 @@ pub fn le32(s: &[u8], i: usize) -> u32
 pub fn bytes16(n: usize) -> [u8; 2]
     ensures { λ r. ⌜ r ≡ bytesOf 2 n ⌝ }
 {
-    [(n % 256) as u8, (n / 256 % 256) as u8]
+    let high = n / 256;
+    [(n % 256) as u8, (high % 256) as u8]
 }
 
 // The four bytes of n.

@@ -4,8 +4,8 @@ use borrow.Author.Needs.{needs}
 use Rattle.wire.proofs.numbers.bytes16.Statement.{statement}
 use Rattle.wire.proofs.numbers.bytes16.Tie as tie
 
-cast-t3 : tie.Need-cast-t3
-cast-t3 c = search needs
+cast-t4 : tie.Need-cast-t4
+cast-t4 c = search needs
 
 cast-t6 : tie.Need-cast-t6
 cast-t6 c = search needs
@@ -15,4 +15,4 @@ unfolding bytesOf
 returns c = refl
 
 pub bytes16-spec : {M : Type 1} → statement M
-bytes16-spec = tie.close (tie.spec cast-t3 cast-t6 returns)
+bytes16-spec = tie.close (tie.spec cast-t4 cast-t6 returns)
