@@ -8,7 +8,7 @@ mod writes;
 
 pub use flags::Choice;
 pub use flags::flag_word;
-pub use flags::offers;
+pub use flags::is_set;
 pub use flags::one_flag;
 pub use numbers::byte;
 pub use numbers::bytes16;

@@ -3,7 +3,7 @@ use mathlib.Core.Path.{_≡_, refl, ap, ap₂, sym, _∙_}
 use mathlib.Core.List.{List, [], _∷_}
 use mathlib.Core.Bool.{Bool, true, false, cond}
 use Prim.Native.Nat.{ℕ, zero, suc, _+_, _*_, _/_, _%_, _^_, _≤_, _<_}
-use native.Mathlib.Nat.{pow-succ', lt-of-lt-of-le, div-eq-of-lt}
+use native.Mathlib.Nat.{pow-succ', lt-of-lt-of-le, div-eq-of-lt, mod-lt, mod-add-div, mul-assoc}
 use native.Mathlib.Omega.{arith}
 use lib.Pow.{pow-mono}
 use lib.Dec.{eqb, lit<}
@@ -70,27 +70,46 @@ zeros-value zero (b ∷ bs) p h = absurd (omega arith)
 zeros-value (suc k) (true ∷ bs) p h = zeros-digit k 1 (value bs) (lit< tt)
 zeros-value (suc k) (false ∷ bs) p h = zeros-digit k 0 (value bs) (lit< tt) ∙ ap suc (zeros-value k bs p (omega arith))
 
--- no bit stands at a place past the byte
-pub high-clear : (n k : ℕ) → n < 256 → 8 ≤ k → isSet n k ≡ false
+-- no bit stands at a place past the width
+pub high-clear : (w n k : ℕ) → n < 2 ^ w → w ≤ k → isSet n k ≡ false
 unfolding isSet
-high-clear n k h p =
+high-clear w n k h p =
     let small : n < 2 ^ k = lt-of-lt-of-le h (pow-mono p) in
     rw (div-eq-of-lt small)
 
--- `choiceOf`, by what the machine counts in the word
-module _ (offered n : ℕ) (h : n < 2 ^ 56) where
-  ones-bits : ones n ≡ count (bitsOf 56 n)
-  ones-bits = ap ones (sym (value-bits 56 n h)) ∙ ones-value (bitsOf 56 n)
+-- the k lowest bits are those of the remainder
+more-bits : (k r q : ℕ) → bitsOf k (r + 2 ^ k * q) ≡ bitsOf k r
+unfolding bitsOf
+more-bits zero r q = refl
+more-bits (suc k) r q =
+    let e : 2 ^ suc k * q ≡ 2 * (2 ^ k * q) = ap (λ (m : ℕ). m * q) (pow-succ' 2 k) ∙ mul-assoc 2 (2 ^ k) q in
+    let m : (r + 2 * (2 ^ k * q)) % 2 ≡ r % 2 = omega arith in
+    let d : (r + 2 * (2 ^ k * q)) / 2 ≡ r / 2 + 2 ^ k * q = omega arith in
+    rw (e, m, d, more-bits k (r / 2) q)
 
-  zeros-bits : ones n ≡ 1 → trailingZeros 64 n ≡ first (bitsOf 56 n)
+low-bits : (k n : ℕ) → bitsOf k (n % 2 ^ k) ≡ bitsOf k n
+low-bits k n = sym (more-bits k (n % 2 ^ k) (n / 2 ^ k)) ∙ ap (bitsOf k) (mod-add-div n (2 ^ k))
+
+-- `choiceOf`, by what the machine counts in the 56 lowest bits of a word
+module _ (offered word : ℕ) where
+  abbrev n : ℕ
+  n = word % 2 ^ 56
+
+  small : n < 2 ^ 56
+  small = mod-lt word (lit< tt)
+
+  ones-bits : ones n ≡ count (bitsOf 56 word)
+  ones-bits = ap ones (sym (value-bits 56 n small)) ∙ ones-value (bitsOf 56 n) ∙ ap count (low-bits 56 word)
+
+  zeros-bits : ones n ≡ 1 → trailingZeros 64 n ≡ first (bitsOf 56 word)
   zeros-bits p =
-      let q : 0 < count (bitsOf 56 n) = omega (arith, ones-bits) in
-      ap (trailingZeros 64) (sym (value-bits 56 n h)) ∙ zeros-value 64 (bitsOf 56 n) q (omega (arith, length-bits 56 n))
+      let q : 0 < count (bitsOf 56 n) = omega (arith, ones-bits, ap count (low-bits 56 word)) in
+      ap (trailingZeros 64) (sym (value-bits 56 n small)) ∙ zeros-value 64 (bitsOf 56 n) q (omega (arith, length-bits 56 n)) ∙ ap first (low-bits 56 word)
 
-  pub not-one : (ones n ≡ 1 → ⊥) → choiceOf offered n ≡ Refused
+  pub not-one : (ones n ≡ 1 → ⊥) → choiceOf offered word ≡ Refused
   unfolding choiceOf
-  not-one p = rw (ne-eqb (count (bitsOf 56 n)) 1 (λ q. p (ones-bits ∙ q)))
+  not-one p = rw (ne-eqb (count (bitsOf 56 word)) 1 (λ q. p (ones-bits ∙ q)))
 
-  pub one : ones n ≡ 1 → choiceOf offered n ≡ cond (isSet offered (trailingZeros 64 n)) (At (trailingZeros 64 n)) Refused
+  pub one : ones n ≡ 1 → choiceOf offered word ≡ cond (isSet offered (trailingZeros 64 n)) (At (trailingZeros 64 n)) Refused
   unfolding choiceOf
-  one p = rw (eq-eqb (count (bitsOf 56 n)) 1 (sym ones-bits ∙ p), zeros-bits p)
+  one p = rw (eq-eqb (count (bitsOf 56 word)) 1 (sym ones-bits ∙ p), zeros-bits p)
