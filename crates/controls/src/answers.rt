@@ -1,6 +1,5 @@
 // A GET's full answer, before it is cut to wLength.
 ghost use mathlib.Core.Path.{_≡_};
-ghost use Prim.Native.Nat.{min};
 ghost use Rattle.controls.specs.Answers.{packed, answerBy};
 
 // The longest answer: a count and an entry of eight bytes for each of eight endpoints.
@@ -12,18 +11,12 @@ pub struct Answer {
     pub len: usize,
 }
 
-fn least(a: usize, b: usize) -> usize
-    ensures { λ r. ⌜ r ≡ min a b ⌝ }
-{
-    if a < b { a } else { b }
-}
-
 pub(crate) fn pack(answer: &[u8]) -> Answer
     ensures { λ r. ⌜ r ≡ packed (now (answer .entry)) ⌝ }
 {
     let mut bytes = [0u8; 65];
     wire::copy(&mut bytes, 0, answer);
-    let len = least(answer.len(), 65);
+    let len = wire::least(answer.len(), 65);
     Answer { bytes, len }
 }
 

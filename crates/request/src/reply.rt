@@ -1,6 +1,5 @@
 // A GET's answer goes to the start of the reply buffer, cut to wLength.
 ghost use mathlib.Core.Path.{_≡_};
-ghost use Prim.Native.Nat.{min};
 ghost use lib.ListN.{length};
 ghost use Rattle.request.specs.Reply.{sentOf, replyOf};
 
@@ -10,18 +9,12 @@ pub struct Sent {
     pub count: usize,
 }
 
-fn least(a: usize, b: usize) -> usize
-    ensures { λ r. ⌜ r ≡ min a b ⌝ }
-{
-    if a < b { a } else { b }
-}
-
 // The first wLength bytes of the answer, or all of it, where the buffer has room; else test 9's 0x20.
 pub fn send(answer: &[u8], wlength: usize, reply: &mut [u8]) -> Sent
     ensures { λ r. ⌜ r ≡ sentOf (now (answer .entry)) wlength (length (now (reply .entry))) ⌝ }
     ensures { λ _. ⌜ now (reply .exit) ≡ replyOf (now (answer .entry)) wlength (now (reply .entry)) ⌝ }
 {
-    let count = least(wlength, answer.len());
+    let count = wire::least(wlength, answer.len());
     if reply.len() < count {
         return Sent {
             code: 0x20,

@@ -15,6 +15,7 @@ pub use numbers::bytes16;
 pub use numbers::bytes32;
 pub use numbers::le16;
 pub use numbers::le32;
+pub use numbers::least;
 pub use parts::head;
 pub use parts::part;
 pub use parts::tail;
