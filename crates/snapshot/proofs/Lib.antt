@@ -1,0 +1,2 @@
+-- Laws that several proofs share, one topic to a file, and the demands as theorems.
+pub mod Laws
