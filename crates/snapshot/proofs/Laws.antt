@@ -5,3 +5,4 @@ pub mod Form
 pub mod Entries
 pub mod Merging
 pub mod Cursor
+pub mod Writing

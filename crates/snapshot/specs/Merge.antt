@@ -32,16 +32,16 @@ abbrev pub Apart : List ℕ → List ℕ → Type 0
 Apart a b = (k : ℕ) → (decode a k ≡ none) ⊎ (decode b k ≡ none)
 
 -- what merging answers: a form fault of either, then a room that is short of the merged snapshot
-abbrev pub mergeCode : List ℕ → List ℕ → List ℕ → ℕ
+unfoldable pub mergeCode : List ℕ → List ℕ → List ℕ → ℕ
 mergeCode first second out =
     cond (wellFormed first && wellFormed second) (cond (leb (length (merged first second)) (length out)) 0 noRoom) malformed
 
 -- how many bytes it reports
-abbrev pub mergeLen : List ℕ → List ℕ → List ℕ → ℕ
+unfoldable pub mergeLen : List ℕ → List ℕ → List ℕ → ℕ
 mergeLen first second out = cond (eqb (mergeCode first second out) 0) (length (merged first second)) 0
 
 -- what it leaves in the lent buffer: the merged snapshot at the start and every byte behind it as it was, or all as it was
-abbrev pub mergeOut : List ℕ → List ℕ → List ℕ → List ℕ
+unfoldable pub mergeOut : List ℕ → List ℕ → List ℕ → List ℕ
 mergeOut first second out =
     cond (eqb (mergeCode first second out) 0) (merged first second ++ drop (length (merged first second)) out) out
 

@@ -1,8 +1,8 @@
 -- The records of the five controls, from the bytes of their settings, are records of their keys. Assumes nothing.
 use Prim.Native.Nat.{ℕ, _+_, _-_, _≤_}
 use native.Mathlib.Omega.{arith}
-use mathlib.Core.Path.{_≡_, refl}
-use mathlib.Core.List.{List, [], _∷_}
+use mathlib.Core.Path.{refl}
+use mathlib.Core.List.{[], _∷_}
 use borrow.Author.Tests.{le-leb, eq-eqb, ne-eqb}
 use Rattle.wire.specs.Number.{leAt, number}
 use Rattle.snapshot.specs.Form.{sound, keyAt}

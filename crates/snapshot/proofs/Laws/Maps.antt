@@ -4,14 +4,14 @@ use native.Mathlib.Omega.{arith}
 use native.Mathlib.Nat.{zero-add}
 use mathlib.Core.Path.{_≡_, refl, sym, ap, _∙_, fun-ext}
 use mathlib.Core.Bool.{Bool, true, false, cond}
-use mathlib.Core.List.{List, [], _∷_, _++_, append-assoc}
+use mathlib.Core.List.{List, _++_, append-assoc}
 use mathlib.Core.Option.{Option, none, some}
-use lib.ListN.{length, take, drop, length-append}
+use lib.ListN.{length, take, length-append}
 use lib.Seq.{drop-at, take-at}
 use lib.Dec.{leb}
 use borrow.Author.Tests.{leb-true, leb-false}
 use Rattle.snapshot.specs.Form.{sizeOf}
-use Rattle.snapshot.specs.Records.{stands, skip, from, recordAt, decode, bytes, records, encode, Record, GoodAt, Good}
+use Rattle.snapshot.specs.Records.{stands, skip, from, recordAt, decode, bytes, records, encode, GoodAt, Good}
 use Rattle.snapshot.proofs.Laws.Sound.{stands-one, stands-nil, stands-below, stands-record, record-stands}
 
 at-good : (k : ℕ) (s : List ℕ) → GoodAt k (recordAt k s)

@@ -1,12 +1,12 @@
 -- A sound record is told from the bytes that it states to be its own, and from no others. Assumes nothing.
 use Prim.Native.Nat.{ℕ, zero, suc, _+_, _*_, _-_, _≤_, _<_}
-use mathlib.Core.Path.{_≡_, refl, sym, ap, ap₂, _∙_}
+use mathlib.Core.Path.{_≡_, refl, sym, ap₂, _∙_}
 use mathlib.Core.Bool.{Bool, true, false, cond, _&&_, false≢true}
 use mathlib.Core.List.{List, [], _∷_, _++_}
 use native.Mathlib.Omega.{arith}
 use lib.ListN.{length, getD, take, drop, length-drop, length-append, List·getD-append}
 use lib.Seq.{getD-take, getD-drop, ext-getD, length-take-le}
-use lib.Dec.{leb, ltb, eqb}
+use lib.Dec.{leb, eqb}
 use borrow.Author.Tests.{leb-true, ltb-true, eqb-true, le-leb, eq-eqb, ne-eqb, lt-ltb}
 use Rattle.wire.specs.Number.{leAt, number}
 use Rattle.wire.proofs.Laws.Numbers.{front}
@@ -134,8 +134,8 @@ module _ (s s′ : List ℕ) (p : Sound s) (long : lengthAt s ≤ length s′) (
       let n : length (tailAt s′) ≡ 12 = l s′ (omega arith) in
       ext-getD 0 _ _ (n ∙ sym (l s (omega (arith, p .within))))
       (λ i h.
-          getD-take 12 (drop 12 s′) i 0 (omega arith) ∙ getD-drop 12 s′ i 0 ∙ same (12 + i) (omega arith)
-          ∙ sym (getD-drop 12 s i 0) ∙ sym (getD-take 12 (drop 12 s) i 0 (omega arith)))
+      getD-take 12 (drop 12 s′) i 0 (omega arith) ∙ getD-drop 12 s′ i 0 ∙ same (12 + i) (omega arith)
+      ∙ sym (getD-drop 12 s i 0) ∙ sym (getD-take 12 (drop 12 s) i 0 (omega arith)))
 
   zeros-same : (b : Bool) → eqb (kindAt s) 0x0E ≡ b → cond b (zeros (tailAt s)) true ≡ true → cond b (zeros (tailAt s′)) true ≡ true
   zeros-same true e h = rw (same-tail (eqb-true _ _ e)) h

@@ -1,4 +1,4 @@
-use borrow.Author.Tests.{eq-eqb, ne-eqb, le-leb, lt-leb}
+use borrow.Author.Tests.{ne-eqb, le-leb, lt-leb}
 use Rattle.snapshot.proofs.keys.size_of.Statement.{statement}
 use Rattle.snapshot.proofs.keys.size_of.Tie as tie
 
