@@ -1,8 +1,10 @@
 pub mod Sound
+pub mod Keys
 pub mod Controls
 pub mod Maps
 pub mod Form
 pub mod Entries
 pub mod Merging
+pub mod Settings
 pub mod Cursor
 pub mod Writing

@@ -1,4 +1,5 @@
--- The snapshot: its form, its records, and merging.
+-- The snapshot: its form, its records, merging, and the snapshot of a list of settings.
 pub mod Form
 pub mod Records
 pub mod Merge
+pub mod Settings

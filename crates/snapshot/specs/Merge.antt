@@ -5,7 +5,7 @@ use mathlib.Core.Logic.{_⊎_}
 use mathlib.Core.Bool.{cond, _&&_}
 use mathlib.Core.List.{List, _++_}
 use mathlib.Core.Option.{Option, none, some}
-use lib.ListN.{length, drop}
+use lib.ListN.{length, take, drop}
 use lib.Dec.{leb, eqb}
 use Rattle.snapshot.specs.Form.{malformed, isEmpty, wellFormed}
 use Rattle.snapshot.specs.Records.{decode, encode}
@@ -44,6 +44,10 @@ mergeLen first second out = cond (eqb (mergeCode first second out) 0) (length (m
 unfoldable pub mergeOut : List ℕ → List ℕ → List ℕ → List ℕ
 mergeOut first second out =
     cond (eqb (mergeCode first second out) 0) (merged first second ++ drop (length (merged first second)) out) out
+
+-- what the caller is handed: as many bytes of the buffer as are reported
+unfoldable pub handed : List ℕ → List ℕ → List ℕ → List ℕ
+handed first second out = take (mergeLen first second out) (mergeOut first second out)
 
 -- the second's record where it has bytes, else the first's
 abbrev pub secondOr : List ℕ → List ℕ → List ℕ

@@ -90,3 +90,8 @@ Ascending low (e ∷ l) = (low ≤ e .0) × Ascending (suc (e .0)) l
 abbrev pub joined : List Entry → List ℕ
 joined [] = []
 joined (e ∷ l) = e .1 ++ joined l
+
+-- P holds of each, its key and its bytes
+abbrev pub Each : (ℕ → List ℕ → Type 0) → List Entry → Type 0
+Each P [] = Unit {0}
+Each P (e ∷ l) = P (e .0) (e .1) × Each P l
