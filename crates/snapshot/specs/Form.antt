@@ -1,5 +1,5 @@
 -- The form of a snapshot, document 01's "settings sheet": records in strictly ascending order of their keys, none of them with a fault.
-use Prim.Native.Nat.{ℕ, zero, suc, _-_}
+use Prim.Native.Nat.{ℕ, zero, suc, _+_, _*_, _-_}
 use mathlib.Core.Bool.{Bool, true, false, cond, _&&_}
 use mathlib.Core.List.{List, [], _∷_}
 use lib.ListN.{length, getD, take, drop}
@@ -79,6 +79,11 @@ sound s = all (tests (length s) (lengthAt s) (kindAt s) (getD s 4 0) (getD s 5 0
 -- the key of the record at the start of s
 unfoldable pub keyAt : List ℕ → ℕ
 keyAt s = keyFor (kindAt s) (getD s 5 0)
+
+-- the place in 01's order of the record at the start of s: its kind, then of face authentication the address, which is a byte. (`key-order`
+-- of proofs/Laws/Keys: the keys' numbers stand in this order.)
+abbrev pub place : List ℕ → ℕ
+place s = 256 * kindAt s + cond (eqb (kindAt s) 0x06) (getD s 5 0) 0
 
 abbrev pub isEmpty : List ℕ → Bool
 isEmpty [] = true

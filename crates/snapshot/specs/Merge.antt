@@ -49,6 +49,10 @@ mergeOut first second out =
 unfoldable pub handed : List ℕ → List ℕ → List ℕ → List ℕ
 handed first second out = take (mergeLen first second out) (mergeOut first second out)
 
+-- two merges into the same buffer answer alike: in verdict, length and every byte
+abbrev pub Alike : List ℕ → List ℕ → List ℕ → List ℕ → List ℕ → Type 0
+Alike a b c d out = (mergeCode a b out ≡ mergeCode c d out) × ((mergeLen a b out ≡ mergeLen c d out) × (mergeOut a b out ≡ mergeOut c d out))
+
 -- the second's record where it has bytes, else the first's
 abbrev pub secondOr : List ℕ → List ℕ → List ℕ
 secondOr first second = cond (isEmpty second) first second

@@ -7,14 +7,10 @@ use mathlib.Core.List.{List}
 use lib.ListN.{getD}
 use lib.Dec.{leb, eqb}
 use borrow.Author.Tests.{eqb-true, eqb-false, leb-true, leb-false, le-leb, lt-leb, ne-eqb}
-use Rattle.snapshot.specs.Form.{kindAt, sound, keyAt}
+use Rattle.snapshot.specs.Form.{kindAt, place, sound, keyAt}
 use Rattle.snapshot.proofs.Laws.Sound.{Sound, Kind, ev, face, metadata, hdr, throttle, kind-of, sound-parts, sound-of, sound-address}
 
--- the place of a record in the order: its kind, then of face authentication the address, which is a byte
-abbrev pub place : List ℕ → ℕ
-place s = 256 * kindAt s + cond (eqb (kindAt s) 0x06) (getD s 5 0) 0
-
--- and of a key
+-- the place of a key in the order
 placeOf : ℕ → ℕ
 placeOf k = cond (eqb k 0) 0x300 (cond (leb k 15) (0x680 + k) (cond (eqb k 16) 0x900 (cond (eqb k 17) 0xD00 0xE00)))
 

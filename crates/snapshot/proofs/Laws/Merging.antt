@@ -10,7 +10,8 @@ use Rattle.snapshot.specs.Form.{wellFormed}
 use Rattle.snapshot.specs.Records.{skip, from, recordAt, decode, encode, GoodAt, Good}
 use Rattle.snapshot.specs.Merge.{over, overs, merged, Apart}
 use Rattle.snapshot.proofs.Laws.Sound.{stands-nil}
-use Rattle.snapshot.proofs.Laws.Maps.{decode-good, decode-encode, encode-length}
+use Rattle.snapshot.proofs.Laws.Maps.{decode-good, decode-encode}
+use Rattle.snapshot.proofs.Laws.Lengths.{encode-length}
 use Rattle.snapshot.proofs.Laws.Form.{encode-decode, encode-formed}
 
 over-good : (k : ℕ) (a b : Option (List ℕ)) → GoodAt k a → GoodAt k b → GoodAt k (over a b)

@@ -5,35 +5,13 @@ use mathlib.Core.List.{List}
 use native.Mathlib.Omega.{arith}
 use lib.ListN.{length}
 use borrow.Author.Tests.{not-true, not-false, le-leb, lt-leb}
-use Rattle.wire.specs.Overlay.{overlay}
 use Rattle.snapshot.specs.Form.{wellFormed}
 use Rattle.snapshot.specs.Merge.{merged, mergeCode, mergeLen, mergeOut}
+use Rattle.snapshot.proofs.Laws.Answers.{first-malformed, second-malformed, short, accepted}
 use Rattle.snapshot.proofs.Laws.Writing.{overlay-fits}
 use borrow.Author.Needs.{needs}
 use Rattle.snapshot.proofs.merging.merge.Statement.{statement}
 use Rattle.snapshot.proofs.merging.merge.Tie as tie
-
-module _ (s t out : List ℕ) where
-  abbrev Answer : ℕ → ℕ → List ℕ → Type 0
-  Answer code len out′ = (code ≡ mergeCode s t out) × ((len ≡ mergeLen s t out) × (out′ ≡ mergeOut s t out))
-
-  first-malformed : wellFormed s ≡ false → Answer 0x22 0 out
-  unfolding mergeCode mergeLen mergeOut
-  first-malformed e = simp e (refl, (refl, refl))
-
-  module _ (e : wellFormed s ≡ true) where
-    second-malformed : wellFormed t ≡ false → Answer 0x22 0 out
-    unfolding mergeCode mergeLen mergeOut
-    second-malformed f = simp (e, f) (refl, (refl, refl))
-
-    module _ (f : wellFormed t ≡ true) where
-      no-room : length out < length (merged s t) → Answer 0x20 0 out
-      unfolding mergeCode mergeLen mergeOut
-      no-room h = simp (e, f, lt-leb (length (merged s t)) (length out) h) (refl, (refl, refl))
-
-      accepted : length (merged s t) ≤ length out → Answer 0 (length (merged s t)) (overlay out 0 (merged s t))
-      unfolding mergeCode mergeLen mergeOut
-      accepted h = simp (e, f, le-leb (length (merged s t)) (length out) h) (refl, (refl, overlay-fits out (merged s t) h))
 
 -- both snapshots are well formed
 both : (d : tie.Else2) → let a = d .before .before .before .before .before .before .before .args in
@@ -66,7 +44,7 @@ returns-3 : tie.Need-returns-3
 returns-3 c =
     let m = c .before .before in
     let w = both (m .before .before) in
-    no-room _ _ _ (w .0) (w .1) (omega (arith, c .if3 .taken, m .write-merged .ensures .0))
+    short _ _ _ (w .0) (w .1) (omega (arith, c .if3 .taken, m .write-merged .ensures .0))
 
 write-merged-requires-2 : tie.Need-write-merged-requires-2
 write-merged-requires-2 c κs = search needs
@@ -80,9 +58,11 @@ returns-4 c =
     let m = v .before .before .before .before in
     let w = both (m .before .before) in
     let a = m .before .before .before .before .before .before .before .before .before .args in
-    let r = accepted (a .first .now) (a .second .now) (a .out .now) (w .0) (w .1) (omega (arith, v .before .before .if3 .left, m .write-merged .ensures .0)) in
+    let m′ = merged (a .first .now) (a .second .now) in
+    let h : length m′ ≤ length (a .out .now) = omega (arith, v .before .before .if3 .left, m .write-merged .ensures .0) in
+    let r = accepted (a .first .now) (a .second .now) (a .out .now) (w .0) (w .1) h in
     let u = v .write-merged2 .ensures in
-    (r .0, (u .0 ∙ r .1 .0, u .1 ∙ r .1 .1))
+    (r .0, (u .0 ∙ r .1 .0, u .1 ∙ overlay-fits (a .out .now) m′ h ∙ r .1 .1))
 
 pub merge-spec : {M : Type 1} → statement M
 merge-spec =
