@@ -1,6 +1,6 @@
 // The form of a snapshot.
 use crate::keys::KEYS;
-use crate::records::passed_at;
+use crate::records::start_of;
 ghost use mathlib.Core.Path.{_≡_};
 ghost use Rattle.snapshot.specs.Form.{wellFormed, formCode};
 
@@ -11,13 +11,7 @@ pub(crate) const MALFORMED: u8 = 0x22;
 pub(crate) fn well_formed(snapshot: &[u8]) -> bool
     ensures { λ r. ⌜ r ≡ wellFormed (now (snapshot .entry)) ⌝ }
 {
-    let mut at = 0;
-    let mut key = 0;
-    while key < KEYS {
-        at += passed_at(snapshot, at, key);
-        key += 1;
-    }
-    at == snapshot.len()
+    start_of(snapshot, KEYS) == snapshot.len()
 }
 
 // The verdict on the form of any bytes: 0, or 0x22.

@@ -1,4 +1,4 @@
-// One record: whether it is sound, and its key.
+// The records of a snapshot: whether one is sound, its key, and going from one to the next.
 use crate::keys::KEYS;
 use crate::keys::key_for;
 use crate::keys::length_of;
@@ -6,7 +6,7 @@ use crate::keys::size_of;
 ghost use mathlib.Core.Path.{_≡_};
 ghost use lib.ListN.{drop};
 ghost use Rattle.snapshot.specs.Form.{all, tests, zeros};
-ghost use Rattle.snapshot.specs.Records.{keyOf, passed};
+ghost use Rattle.snapshot.specs.Records.{keyOf, passed, decode, bytes, Cursor};
 
 // Whether all bytes are zero.
 fn all_zero(s: &[u8]) -> bool
@@ -64,4 +64,29 @@ pub fn passed_at(s: &[u8], at: usize, key: usize) -> usize
         return size_of(key);
     }
     0
+}
+
+// Where the records of the keys below this one end.
+pub(crate) fn start_of(s: &[u8], key: usize) -> usize
+    ensures { λ r. ⌜ Cursor (now (s .entry)) r key ⌝ }
+{
+    let mut at = 0;
+    let mut k = 0;
+    while k < key {
+        at += passed_at(s, at, k);
+        k += 1;
+    }
+    at
+}
+
+// The record of a key, whole; empty where there is none.
+pub fn record_of(s: &[u8], key: usize) -> &[u8]
+    ensures { λ r. ⌜ now r ≡ bytes (decode (now (s .entry)) key) ⌝ }
+{
+    if KEYS <= key {
+        return wire::head(s, 0);
+    }
+    let at = start_of(s, key);
+    let n = passed_at(s, at, key);
+    wire::part(s, at, n)
 }

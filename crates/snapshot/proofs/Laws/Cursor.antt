@@ -11,7 +11,7 @@ use lib.Seq.{drop-drop}
 use lib.Dec.{eqb}
 use borrow.Author.Tests.{eq-eqb, ne-eqb}
 use Rattle.snapshot.specs.Form.{sizeOf, isEmpty, wellFormed}
-use Rattle.snapshot.specs.Records.{stands, passed, skip, from, recordAt, decode, bytes}
+use Rattle.snapshot.specs.Records.{stands, passed, skip, from, recordAt, decode, bytes, Cursor}
 use Rattle.snapshot.proofs.Laws.Sound.{stands-long}
 use Rattle.snapshot.proofs.Laws.Form.{formed-from}
 
@@ -38,11 +38,6 @@ record-passed k s = go (stands k s)
     go : (b : Bool) → bytes (cond b (some (take (sizeOf k) s)) none) ≡ take (cond b (sizeOf k) 0) s
     go true = refl
     go false = refl
-
--- the records of the keys below k of s end at `at`
-pub record Cursor (s : List ℕ) (at k : ℕ) : Type 0 where
-  pub within : at ≤ length s
-  pub here : drop at s ≡ from s k
 
 pub start : (s : List ℕ) → Cursor s 0 0
 unfolding from

@@ -12,12 +12,12 @@ use lib.Dec.{leb}
 use borrow.Author.Tests.{leb-true, leb-false}
 use Rattle.wire.specs.Overlay.{overlay}
 use Rattle.wire.proofs.Laws.Overlay.{fits, past, same-length}
-use Rattle.snapshot.specs.Records.{passed, decode, bytes, records, encode, GoodAt}
+use Rattle.snapshot.specs.Records.{passed, decode, bytes, records, encode, GoodAt, Cursor}
 use Rattle.snapshot.specs.Merge.{over, overs, merged, secondOr}
 use Rattle.snapshot.proofs.Laws.Sound.{stands-some}
 use Rattle.snapshot.proofs.Laws.Maps.{decode-good, records-split}
 use Rattle.snapshot.proofs.Laws.Merging.{merged-length}
-use Rattle.snapshot.proofs.Laws.Cursor.{Cursor, start, next, cursor-record}
+use Rattle.snapshot.proofs.Laws.Cursor.{start, next, cursor-record}
 
 -- where there is room for all of it at the start
 pub overlay-fits : (d x : List ℕ) → length x ≤ length d → overlay d 0 x ≡ x ++ drop (length x) d

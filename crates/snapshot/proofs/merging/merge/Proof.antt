@@ -1,12 +1,11 @@
-use Prim.Native.Nat.{ℕ, _≤_, _<_}
-use mathlib.Core.Path.{_≡_, refl, sym, _∙_}
-use mathlib.Core.Bool.{true, false}
-use mathlib.Core.List.{List}
+use Prim.Native.Nat.{_≤_}
+use mathlib.Core.Path.{_≡_, sym, _∙_}
+use mathlib.Core.Bool.{true}
 use native.Mathlib.Omega.{arith}
 use lib.ListN.{length}
-use borrow.Author.Tests.{not-true, not-false, le-leb, lt-leb}
+use borrow.Author.Tests.{not-true, not-false}
 use Rattle.snapshot.specs.Form.{wellFormed}
-use Rattle.snapshot.specs.Merge.{merged, mergeCode, mergeLen, mergeOut}
+use Rattle.snapshot.specs.Merge.{merged}
 use Rattle.snapshot.proofs.Laws.Answers.{first-malformed, second-malformed, short, accepted}
 use Rattle.snapshot.proofs.Laws.Writing.{overlay-fits}
 use borrow.Author.Needs.{needs}
