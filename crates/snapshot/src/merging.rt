@@ -17,6 +17,13 @@ pub struct Merged {
     pub len: usize,
 }
 
+// A refusal reports no bytes.
+fn refused(code: u8) -> Merged
+    ensures { λ r. ⌜ (r .code ≡ code) × (r .len ≡ 0) ⌝ }
+{
+    Merged { code, len: 0 }
+}
+
 // Writes the second record where it has bytes, else the first, over out from `at` on, as far as out reaches, and returns its length.
 fn put(first: &[u8], second: &[u8], out: &mut [u8], at: usize) -> usize
     ensures { λ r. ⌜ r ≡ length (secondOr (now (first .entry)) (now (second .entry))) ⌝ }
@@ -50,31 +57,22 @@ fn write_merged(first: &[u8], second: &[u8], out: &mut [u8]) -> usize
     n
 }
 
-// Merges two snapshots into the start of out.
+// Merges two snapshots into the start of out: a form fault of either is 0x22, then room short of the merged snapshot 0x20.
 pub fn merge(first: &[u8], second: &[u8], out: &mut [u8]) -> Merged
     ensures { λ r. ⌜ r .code ≡ mergeCode (now (first .entry)) (now (second .entry)) (now (out .entry)) ⌝ }
     ensures { λ r. ⌜ r .len ≡ mergeLen (now (first .entry)) (now (second .entry)) (now (out .entry)) ⌝ }
     ensures { λ _. ⌜ now (out .exit) ≡ mergeOut (now (first .entry)) (now (second .entry)) (now (out .entry)) ⌝ }
 {
     if !well_formed(first) {
-        return Merged {
-            code: MALFORMED,
-            len: 0,
-        };
+        return refused(MALFORMED);
     }
     if !well_formed(second) {
-        return Merged {
-            code: MALFORMED,
-            len: 0,
-        };
+        return refused(MALFORMED);
     }
     // Into no room nothing is written: this only measures.
     let mut none = [0u8; 0];
     if out.len() < write_merged(first, second, &mut none) {
-        return Merged {
-            code: NO_ROOM,
-            len: 0,
-        };
+        return refused(NO_ROOM);
     }
     let n = write_merged(first, second, out);
     Merged { code: 0, len: n }
