@@ -1,6 +1,7 @@
 -- What a SET's payload, and a snapshot's records, come to item by item: the first refusal answers, or all are taken.
 use Prim.Native.Nat.{ℕ, zero, suc}
 use mathlib.Core.List.{List, [], _∷_, _++_}
+use mathlib.Core.Option.{Option, none, some}
 use mathlib.Core.Bool.{Bool, cond}
 use lib.Dec.{eqb}
 use lib.ListN.{getD}
@@ -15,6 +16,16 @@ use Rattle.controls.specs.Throttle.{throttleItem}
 use Rattle.camera.specs.declared.profile.Profile.{Profile}
 use Rattle.camera.specs.declared.record.Camera.{Camera}
 use Rattle.camera.specs.Record.{keyOf, put}
+
+-- an item as the setting that it gives or holds, and back
+abbrev pub settingOf : Item → Option Setting
+settingOf Absent = none
+settingOf (Refused code) = none
+settingOf (Given s) = some s
+
+abbrev pub itemHeld : Option Setting → Item
+itemHeld none = Absent
+itemHeld (some s) = Given s
 
 -- the number of an item, 0 where it is taken or absent
 unfoldable pub codeOf : Item → ℕ

@@ -74,6 +74,12 @@ abbrev pub numberHeld : (ℕ → Setting) → Number → Option Setting
 numberHeld control N.Unset = none
 numberHeld control (N.Held n) = some (control n)
 
+abbrev pub metadataHeld : Number → Option Setting
+metadataHeld = numberHeld S.Metadata
+
+abbrev pub hdrHeld : Number → Option Setting
+hdrHeld = numberHeld S.Hdr
+
 abbrev pub throttleHeld : Throttle → Option Setting
 throttleHeld T.Unset = none
 throttleHeld (T.Held s) = some (S.Throttle s)
@@ -83,9 +89,13 @@ unfoldable pub held : Camera → ℕ → Option Setting
 held c k =
     cond (eqb k 0) (evHeld (c .ev))
     (cond (leb k 15) (faceHeld (0x80 + k) (getD (c .face) (k - 1) 0))
-    (cond (eqb k 16) (numberHeld S.Metadata (c .metadata))
-    (cond (eqb k 17) (numberHeld S.Hdr (c .hdr))
+    (cond (eqb k 16) (metadataHeld (c .metadata))
+    (cond (eqb k 17) (hdrHeld (c .hdr))
     (cond (eqb k 18) (throttleHeld (c .throttle)) none))))
+
+-- face settings with one more; an address outside 0x81..0x8F has no place
+unfoldable pub putFace : List ℕ → ℕ → ℕ → List ℕ
+putFace face address flags = cond (leb 0x81 address) (set face (address - 0x81) flags) face
 
 -- the record with one setting more
 unfoldable pub put : Camera → Setting → Camera
@@ -96,7 +106,7 @@ put c (S.Face address flags) = record {
   profile = c .profile;
   streaming = c .streaming;
   ev = c .ev;
-  face = cond (leb 0x81 address) (set (c .face) (address - 0x81) flags) (c .face);
+  face = putFace (c .face) address flags;
   metadata = c .metadata;
   hdr = c .hdr;
   throttle = c .throttle;

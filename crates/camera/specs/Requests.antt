@@ -5,10 +5,10 @@ use mathlib.Core.Bool.{Bool, true, false, cond, not, _&&_}
 use lib.Dec.{ltb, eqb}
 use lib.ListN.{length, take, drop}
 use Rattle.wire.specs.Rows.{Row, _⇒_, firstOf}
-use Rattle.request.specs.Setup.{isSetRequest, wLengthOf} 
+use Rattle.request.specs.Setup.{isSetRequest, wLengthOf}
 use Rattle.request.specs.Setup as setup
 use Rattle.request.specs.Tests.{requestTests}
-use Rattle.request.specs.Reply.{countOf}
+use Rattle.request.specs.Reply.{countOf, sentOf}
 use Rattle.controls.specs.declared.settings.Setting.{Setting}
 use Rattle.controls.specs.Ev.{evAnswer}
 use Rattle.controls.specs.Face.{faceAnswer}
@@ -82,3 +82,14 @@ replied c s payload reply =
     cond (eqb (requestCode c s payload (length reply)) 0 && not (isSetRequest s))
     (take (sentCount c s) (asked c s) ++ drop (sentCount c s) reply)
     reply
+
+-- past test 6: a SET of a selector, and a GET
+unfoldable pub setDone : Camera → ℕ → List ℕ → Outcome
+setDone c selector payload =
+    let code = firstOf ((eqb selector 0x0E && not (c .streaming) ⇒ 0x02) ∷ (not (eqb (setRefusal (c .profile) selector payload) 0) ⇒ setRefusal (c .profile) selector payload) ∷ []) in
+    outcomeBy code c (record { code = 0; count = 0; camera = puts c (setGives (c .profile) selector payload) })
+
+unfoldable pub getDone : Camera → List ℕ → ℕ → Outcome
+getDone c s room =
+    let sent = sentOf (asked c s) (wLengthOf s) room in
+    record { code = sent .code; count = sent .count; camera = c }

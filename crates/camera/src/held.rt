@@ -10,8 +10,8 @@ use crate::setting::control_refusal;
 use crate::setting::selector_of;
 use crate::setting::value_refusal;
 ghost use mathlib.Core.Path.{_≡_};
-ghost use Rattle.camera.specs.Record.{evHeld, faceHeld, throttleHeld, held, kept, wellFormed};
-ghost use Rattle.camera.specs.Items.{itemHeld, settingOf, metadataHeld, hdrHeld};
+ghost use Rattle.camera.specs.Record.{evHeld, faceHeld, metadataHeld, hdrHeld, throttleHeld, held, kept, wellFormed};
+ghost use Rattle.camera.specs.Items.{itemHeld, settingOf};
 
 fn held_ev(held: Ev) -> Item
     ensures { λ r. ⌜ r ≡ itemHeld (evHeld held) ⌝ }

@@ -13,10 +13,8 @@ use crate::setting::control_refusal;
 use crate::setting::item_at;
 use snapshot::KEYS;
 ghost use mathlib.Core.Path.{_≡_};
-ghost use Rattle.snapshot.specs.Records.{recordAt};
-ghost use lib.ListN.{drop};
-ghost use Rattle.camera.specs.Items.{puts, firstRefusal};
-ghost use Rattle.camera.specs.Snapshots.{selectorAt, recordItem, itemFor, loadItem, loadGives, loaded};
+ghost use Rattle.camera.specs.Items.{firstRefusal, puts};
+ghost use Rattle.camera.specs.Snapshots.{selectorAt, recordItem, itemIn, loadItem, loadGives, loaded};
 
 // The selector of a key.
 fn selector_at(key: usize) -> u8

@@ -13,9 +13,11 @@ use crate::setting::item_at;
 use crate::setting::takes_of;
 ghost use mathlib.Core.Path.{_≡_};
 ghost use lib.ListN.{length};
+ghost use Rattle.request.specs.Setup.{wLengthOf};
+ghost use Rattle.request.specs.Reply.{replyOf};
 ghost use Rattle.controls.specs.Answers.{packed};
-ghost use Rattle.camera.specs.Items.{itemCount, itemAt, setRefusal, setGives, puts};
-ghost use Rattle.camera.specs.Requests.{answerOf, setDone, getDone, getReply, requested, replied};
+ghost use Rattle.camera.specs.Items.{itemCount, setRefusal, setGives, puts};
+ghost use Rattle.camera.specs.Requests.{answerOf, asked, setDone, getDone, requested, replied};
 
 // How many items a SET's payload has.
 fn item_count(selector: u8, payload: &[u8]) -> u8
@@ -107,7 +109,7 @@ impl Camera {
     // Test 9 of a GET, then as much of its answer as wLength asks for.
     fn get(self, setup: &[u8], reply: &mut [u8]) -> Outcome
         ensures { λ r. ⌜ r ≡ getDone self (now (setup .entry)) (length (now (reply .entry))) ⌝ }
-        ensures { λ _. ⌜ now (reply .exit) ≡ getReply self (now (setup .entry)) (now (reply .entry)) ⌝ }
+        ensures { λ _. ⌜ now (reply .exit) ≡ replyOf (asked self (now (setup .entry))) (wLengthOf (now (setup .entry))) (now (reply .entry)) ⌝ }
     {
         let a = self.answer(request::selector(setup), request::code(setup));
         let n = a.len;

@@ -14,8 +14,8 @@ use controls::ev::Ev;
 use controls::throttle::Throttle;
 ghost use mathlib.Core.Path.{_≡_};
 ghost use Rattle.camera.specs.Profile.{takes};
-ghost use Rattle.camera.specs.Record.{selectorOf, controlRefusal, valueRefusal, put, withStreaming};
-ghost use Rattle.camera.specs.Items.{itemAt, givenOf, puts};
+ghost use Rattle.camera.specs.Record.{selectorOf, controlRefusal, valueRefusal, putFace, put, withStreaming};
+ghost use Rattle.camera.specs.Items.{codeOf, itemAt, givenOf, puts};
 
 pub(crate) fn selector_of(s: Setting) -> u8
     ensures { λ r. ⌜ r ≡ selectorOf s ⌝ }
