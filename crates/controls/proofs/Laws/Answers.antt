@@ -1,0 +1,36 @@
+-- Answers: their length, and what is packed. Assumes nothing.
+use mathlib.Core.Path.{_≡_, refl, ap, sym, _∙_}
+use mathlib.Core.List.{List, [], _∷_}
+use mathlib.Core.Bool.{Bool, true, false, cond}
+use Prim.Native.Nat.{ℕ, _≤_, _<_}
+use native.Mathlib.Omega.{arith}
+use lib.Dec.{eqb, lit≤}
+use lib.ListN.{length}
+use borrow.Author.Tests.{eq-eqb, ne-eqb}
+use Rattle.wire.specs.Number.{bytesOf}
+use Rattle.controls.specs.Answers.{answerBy}
+
+-- LEN, INFO and the rest
+module _ (code len info : ℕ) (value : List ℕ) where
+  pub answer-len : code ≡ 0x85 → answerBy code len info value ≡ bytesOf 2 len
+  unfolding answerBy
+  answer-len e = rw (eq-eqb code 0x85 e)
+
+  module _ (n : code ≡ 0x85 → ⊥) where
+    pub answer-info : code ≡ 0x86 → answerBy code len info value ≡ info ∷ []
+    unfolding answerBy
+    answer-info e = rw (ne-eqb code 0x85 n, eq-eqb code 0x86 e)
+
+    pub answer-value : (code ≡ 0x86 → ⊥) → answerBy code len info value ≡ value
+    unfolding answerBy
+    answer-value m = rw (ne-eqb code 0x85 n, ne-eqb code 0x86 m)
+
+  -- no longer than a bound of two or more on the control's bytes
+  pub answer-length : (m : ℕ) → 2 ≤ m → length value ≤ m → length (answerBy code len info value) ≤ m
+  unfolding answerBy bytesOf
+  answer-length m h g = go (eqb code 0x85) (eqb code 0x86)
+    where
+      go : (a b : Bool) → length (cond a (bytesOf 2 len) (cond b (info ∷ []) value)) ≤ m
+      go true b = h
+      go false true = omega arith
+      go false false = g
