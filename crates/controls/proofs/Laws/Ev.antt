@@ -1,12 +1,13 @@
 -- Laws of exposure compensation. Assumes nothing.
-use mathlib.Core.Path.{_≡_, refl, ap, ap₂, sym, _∙_}
+use mathlib.Core.Path.{_≡_, refl, ap, ap₂, _∙_}
 use mathlib.Core.Bool.{Bool, true, false, cond, and-eq-true-iff}
 use mathlib.Core.List.{List, _++_}
 use Prim.Native.Nat.{ℕ, zero, suc, _<_, _≤_, _^_, _/_}
-use native.Mathlib.Nat.{lt-of-le-of-lt, le-of-suc-le-suc}
+use native.Mathlib.Nat.{lt-of-le-of-lt}
 use native.Mathlib.Omega.{arith}
 use lib.Dec.{lit<, lit≤}
-use lib.ListN.{length, length-append}
+use lib.ListN.{length, take, drop, length-drop, take-append-drop}
+use lib.Seq.{take-all}
 use lib.IntN.{ℤ, pos, negsuc, _*ℤ_}
 use lib.Signed.{mag, leZ}
 use mir.Syntax.{w32}
@@ -16,11 +17,16 @@ use Rattle.wire.specs.Flags.{choiceOf}
 use Rattle.wire.specs.declared.flags.Choice.{Choice}
 use Rattle.wire.specs.declared.flags.Choice.the-variants.{At, Refused}
 use Rattle.wire.proofs.Laws.Bits.{chosen-below}
-use Rattle.wire.proofs.Laws.Numbers.{Bytes}
+use Rattle.wire.proofs.Laws.Numbers.{Bytes, below}
 use Rattle.controls.specs.declared.ev.EvLimits.{EvLimits}
 use Rattle.controls.specs.declared.ev.EvSetting.{EvSetting}
-use Rattle.controls.specs.Ev.{evValid, divisor, inRange, refusalAt, evRefusal, scaledAt, scaledOf}
-use Rattle.controls.proofs.Laws.Signed.{mag-mul, between}
+use Rattle.controls.specs.declared.ev.Ev.{Ev}
+use Rattle.controls.specs.declared.settings.Setting.the-variants as S
+use Rattle.controls.specs.Settings.{itemOf}
+use Rattle.controls.specs.Ev.{evValid, signed32, bits32, divisor, inRange, refusalAt, evRefusal, evFlags, evValue, evItem, evBytes, evAt, evAnswer, unitsPerStop, scaledAt, scaledOf}
+use Rattle.controls.proofs.Laws.Signed.{mag-mul, between, bits-below, signed-bits, bits-signed}
+use Rattle.controls.proofs.Laws.Numbers.{number-bytes, bytes-at, first-part, second-part}
+use Rattle.controls.proofs.Laws.Answers.{answer-length}
 
 -- between 1 and 6 steps make a stop
 pub divisor-pos : (place : ℕ) → 0 < divisor place
@@ -104,6 +110,38 @@ module _ (l : EvLimits) (s : EvSetting) where
       unfolding scaledOf scaledAt
       scaled-value r = rw (h, e, r)
 
-      pub scaled-is : inRange l (divisor place) (s .value) ≡ true → scaledOf l s ≡ s .value *ℤ pos (12 / divisor place)
+      pub scaled-is : inRange l (divisor place) (s .value) ≡ true → scaledOf l s ≡ s .value *ℤ pos (unitsPerStop / divisor place)
       unfolding scaledOf scaledAt
       scaled-is r = rw (h, e, r)
+
+-- a setting's payload, eleven bytes, reads back as the setting
+pub ev-length : (s : EvSetting) → length (evBytes s) ≡ 11
+unfolding evBytes bytesOf
+ev-length s = refl
+
+module _ (s : EvSetting) (h : s .flags < 256) (f : SFits w32 (s .value)) where
+  pub ev-flags : evFlags (evBytes s) ≡ s .flags
+  unfolding evBytes bytesOf
+  ev-flags = first-part (bytesOf 7 (s .flags)) (bytesOf 4 (bits32 (s .value))) ∙ number-bytes 7 (s .flags) (omega arith)
+
+  pub ev-value : evValue (evBytes s) ≡ s .value
+  unfolding evBytes bytesOf
+  ev-value =
+      let e : leAt 4 (evBytes s) 7 ≡ bits32 (s .value) = second-part (bytesOf 7 (s .flags)) (bytesOf 4 (bits32 (s .value))) ∙ number-bytes 4 (bits32 (s .value)) (bits-below (s .value) f) in
+      ap signed32 e ∙ signed-bits (s .value) f
+
+  pub ev-read : (l : EvLimits) → evItem l (evBytes s) ≡ itemOf (evRefusal l (s .flags) (s .value)) (S.Ev s)
+  unfolding evItem
+  ev-read l = rw (ev-flags, ev-value)
+
+-- and a payload of that length is that of the setting it reads as
+pub ev-bytes : (payload : List ℕ) → length payload ≡ 11 → Bytes payload → evBytes (record { flags = evFlags payload; value = evValue payload }) ≡ payload
+unfolding evBytes
+ev-bytes payload n b =
+    let value : bits32 (evValue payload) ≡ leAt 4 payload 7 = bits-signed (leAt 4 payload 7) (below 4 4 payload 7 b (lit≤ tt)) in
+    let rest : take 4 (drop 7 payload) ≡ drop 7 payload = take-all 4 (drop 7 payload) (simp length-drop (omega arith)) in
+    ap₂ _++_ (bytes-at 7 payload 0 (omega arith) b) (ap (bytesOf 4) value ∙ bytes-at 4 payload 7 (omega arith) b ∙ rest) ∙ take-append-drop 7 payload
+
+pub ev-answer-length : (l : EvLimits) (held : Ev) (code : ℕ) → length (evAnswer l held code) ≤ 65
+unfolding evAnswer
+ev-answer-length l held code = answer-length code 11 0x13 (evBytes (evAt l held code)) 65 (lit≤ tt) (omega (arith, ev-length (evAt l held code)))

@@ -4,13 +4,13 @@ use mathlib.Core.Bool.{Bool, true, false, true≢false, false≢true}
 use Prim.Native.Nat.{ℕ, zero, suc, _-_, _*_, _^_, _≤_, _<_}
 use native.Mathlib.Nat.{zero-add, le-refl, le-trans, le-suc, lt-of-le-of-lt, mul-le-mul}
 use native.Mathlib.Omega.{arith}
-use borrow.Author.Tests.{lt-ltb, le-ltb, leb-true, ltb-true, ltb-false}
 use lib.Dec.{ltb, leb·zero}
 use lib.IntN.{ℤ, pos, negsuc, negℤ, _-ℤ_, _*ℤ_}
 use lib.Signed.{mag, leZ}
 use mir.Syntax.{Width, w32}
-use mir.Val.{Fits, SFits, toZ, ofZ, hbits}
+use mir.Val.{SFits, toZ, ofZ, hbits}
 use mir.Facts.{toZ-pos, toZ-ofZ, ofZ-toZ, sfits-toZ, fits-ofZ}
+use borrow.Author.Tests.{lt-ltb, le-ltb, leb-true}
 use Rattle.controls.specs.Ev.{signed32, bits32}
 
 -- the machine's reading of 32 bits, and its bits of a number

@@ -1,13 +1,9 @@
 use mathlib.Core.Path.{ap, sym, _∙_}
+use borrow.Author.Needs.{needs}
 use Rattle.controls.specs.Answers.{packed}
 use Rattle.controls.proofs.Laws.Answers.{answer-len, answer-info, answer-value}
-use borrow.Author.Needs.{needs}
 use Rattle.controls.proofs.answers.answer_by.Statement.{statement}
 use Rattle.controls.proofs.answers.answer_by.Tie as tie
-use Rattle.controls.proofs.answers.answer_by.Reads as reads
-use Rattle.controls.proofs.answers.answer_by.Lts as lts
-use Rattle.controls.proofs.answers.pack.Reads as pack-reads
-use Rattle.wire.proofs.bytes16.Reads as bytes16-reads
 
 bytes16-requires : tie.Need-bytes16-requires
 bytes16-requires c κs = search needs

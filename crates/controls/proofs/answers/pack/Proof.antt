@@ -1,15 +1,11 @@
 use mathlib.Core.Path.{ap₂}
-use Rattle.controls.specs.Answers.{packed}
-use Rattle.controls.specs.declared.answers.Answer.{Answer}
 use mathlib.Core.List.{List}
 use Prim.Native.Nat.{ℕ}
 use borrow.Author.Needs.{needs}
+use Rattle.controls.specs.declared.answers.Answer.{Answer}
+use Rattle.controls.specs.Answers.{packed}
 use Rattle.controls.proofs.answers.pack.Statement.{statement}
 use Rattle.controls.proofs.answers.pack.Tie as tie
-use Rattle.controls.proofs.answers.pack.Reads as reads
-use Rattle.controls.proofs.answers.pack.Lts as lts
-use Rattle.wire.proofs.least.Reads as least-reads
-use Rattle.wire.proofs.copy.Reads as copy-reads
 
 slice-aggregate-copy : tie.Need-slice-aggregate-copy
 slice-aggregate-copy c = search needs

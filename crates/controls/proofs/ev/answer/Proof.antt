@@ -1,16 +1,11 @@
 use mathlib.Core.Path.{ap, _∙_}
 use mathlib.Core.List.{List}
 use Prim.Native.Nat.{ℕ}
+use borrow.Author.Needs.{needs}
 use Rattle.controls.specs.Answers.{packed, answerBy}
 use Rattle.controls.specs.Ev.{evBytes, evAnswer}
-use borrow.Author.Needs.{needs}
 use Rattle.controls.proofs.ev.answer.Statement.{statement}
 use Rattle.controls.proofs.ev.answer.Tie as tie
-use Rattle.controls.proofs.ev.answer.Reads as reads
-use Rattle.controls.proofs.ev.answer.Lts as lts
-use Rattle.controls.proofs.answers.answer_by.Reads as answer-by-reads
-use Rattle.controls.proofs.ev.at.Reads as at-reads
-use Rattle.controls.proofs.ev.bytes.Reads as bytes-reads
 
 at-requires : tie.Need-at-requires
 at-requires c κs = search needs
@@ -26,7 +21,7 @@ answer-by-requires c κs = search needs
 
 returns : tie.Need-returns
 unfolding evAnswer
-returns c = 
+returns c =
     c .answer-by .ensures
     ∙ ap (λ (s : List ℕ). packed (answerBy (c .before .before .before .before .args .code) 11 0x13 s)) (c .before .before .bytes .ensures ∙ ap evBytes (c .before .before .before .at .ensures))
 

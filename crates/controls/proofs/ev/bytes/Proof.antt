@@ -1,23 +1,16 @@
-use mathlib.Core.List.{_++_}
-use mathlib.Core.Path.{sym}
-use Prim.Native.Nat.{_<_}
-use Rattle.controls.proofs.Laws.Numbers.{bytes-byte}
-use mathlib.Core.Path.{_≡_, ap, _∙_}
-use mathlib.Core.List.{List, [], _∷_}
-use Prim.Native.Nat.{ℕ}
+use mathlib.Core.Path.{_≡_, ap, sym, _∙_}
+use mathlib.Core.List.{List, [], _∷_, _++_}
+use Prim.Native.Nat.{ℕ, _<_}
+use lib.ListN.{getD}
 use mir.Syntax.{w32}
 use mir.Val.{SFits}
 use mir.Facts.{toZ-ofZ}
-use lib.ListN.{getD}
+use borrow.Author.Needs.{needs}
 use Rattle.wire.specs.Number.{bytesOf}
 use Rattle.controls.specs.Ev.{bits32, evBytes}
-use borrow.Author.Needs.{needs}
+use Rattle.controls.proofs.Laws.Numbers.{bytes-byte}
 use Rattle.controls.proofs.ev.bytes.Statement.{statement}
 use Rattle.controls.proofs.ev.bytes.Tie as tie
-use Rattle.controls.proofs.ev.bytes.Reads as reads
-use Rattle.controls.proofs.ev.bytes.Lts as lts
-use Rattle.controls.proofs.ev.to_bits.Reads as to-bits-reads
-use Rattle.wire.proofs.bytes32.Reads as bytes32-reads
 
 to-bits-requires : tie.Need-to-bits-requires
 to-bits-requires c κs = search needs
@@ -39,7 +32,7 @@ array-read-t16 c = search needs
 
 returns : tie.Need-returns
 unfolding evBytes bytesOf
-returns c = 
+returns c =
     let s = c .before .before .before .args .s in
     let f : SFits w32 (s .value) = search needs in
     let h : s .flags < 256 = search needs in

@@ -5,8 +5,6 @@ use lib.ListN.{List·getD-eq-default}
 use borrow.Author.Needs.{needs}
 use Rattle.controls.proofs.ev.divisor_of.Statement.{statement}
 use Rattle.controls.proofs.ev.divisor_of.Tie as tie
-use Rattle.controls.proofs.ev.divisor_of.Reads as reads
-use Rattle.controls.proofs.ev.divisor_of.Lts as lts
 
 returns : tie.Need-returns
 returns c = search needs

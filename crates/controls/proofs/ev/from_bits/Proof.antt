@@ -1,15 +1,13 @@
-use native.Mathlib.Omega.{arith}
 use mathlib.Core.Path.{ap, sym, _∙_}
+use native.Mathlib.Omega.{arith}
 use lib.IntN.{ℤ}
 use mir.Syntax.{w32}
 use mir.Val.{toZ, ofZ}
 use mir.Facts.{toZ-ofZ}
-use Rattle.controls.proofs.Laws.Signed.{signed-is, signed-fits, high-is}
 use borrow.Author.Needs.{needs}
+use Rattle.controls.proofs.Laws.Signed.{signed-is, signed-fits, high-is}
 use Rattle.controls.proofs.ev.from_bits.Statement.{statement}
 use Rattle.controls.proofs.ev.from_bits.Tie as tie
-use Rattle.controls.proofs.ev.from_bits.Reads as reads
-use Rattle.controls.proofs.ev.from_bits.Lts as lts
 
 cast-result : tie.Need-cast-result
 cast-result c = search needs
@@ -27,7 +25,7 @@ returns : tie.Need-returns
 returns c = sym (signed-is (c .before .args .n) (omega arith))
 
 returns-2 : tie.Need-returns-2
-returns-2 c = 
+returns-2 c =
     ap (λ (z : ℤ). toZ w32 (ofZ w32 z)) (high-is (c .before .args .n) (omega arith) (omega arith))
     ∙ toZ-ofZ (signed-fits (c .before .args .n) (omega arith))
 

@@ -1,20 +1,18 @@
 use mathlib.Core.Path.{_≡_, ap₂, _∙_}
 use mathlib.Core.Bool.{_&&_}
-use Prim.Native.Nat.{ℕ, _^_, _<_, _≤_}
+use Prim.Native.Nat.{ℕ, _^_}
+use native.Mathlib.Omega.{arith}
 use lib.Dec.{lit<}
 use lib.IntN.{ℤ, pos, _*ℤ_}
-use lib.Signed.{leZ, mag}
+use lib.Signed.{leZ}
 use mir.Syntax.{w32, w64, w8}
 use mir.Val.{Fits, SFits, toZ, ofZ}
 use mir.Facts.{toZ-ofZ, sfits-widen}
-use native.Mathlib.Omega.{arith}
+use borrow.Author.Needs.{needs}
 use Rattle.controls.specs.Ev.{inRange}
 use Rattle.controls.proofs.Laws.Signed.{product-fits, product-is}
-use borrow.Author.Needs.{needs}
 use Rattle.controls.proofs.ev.in_range.Statement.{statement}
 use Rattle.controls.proofs.ev.in_range.Tie as tie
-use Rattle.controls.proofs.ev.in_range.Reads as reads
-use Rattle.controls.proofs.ev.in_range.Lts as lts
 
 -- a number in the wider type
 module _ (z : ℤ) (f : SFits w32 z) where
@@ -58,7 +56,7 @@ mul-result-2 c = limit-fits (c .before .before .before .before .args .l .high) (
 
 returns : tie.Need-returns
 unfolding inRange
-returns c = 
+returns c =
     let a = c .before .before .before .before .args in
     let f : SFits w32 (a .l .low) = search needs in
     let g : SFits w32 (a .l .high) = search needs in

@@ -1,11 +1,11 @@
-use Prim.Native.Nat.{_<_}
 use mathlib.Core.Path.{_≡_, ap, ap₂, sym, _∙_}
 use mathlib.Core.List.{List}
-use Prim.Native.Nat.{ℕ}
+use Prim.Native.Nat.{ℕ, _<_}
 use lib.IntN.{ℤ}
 use mir.Syntax.{w32}
 use mir.Val.{SFits, toZ, ofZ}
 use mir.Facts.{toZ-ofZ}
+use borrow.Author.Needs.{needs}
 use Rattle.controls.specs.declared.ev.EvLimits.{EvLimits}
 use Rattle.controls.specs.declared.settings.Item.{Item}
 use Rattle.controls.specs.declared.settings.Item.the-variants.{Refused, Given}
@@ -13,15 +13,8 @@ use Rattle.controls.specs.declared.settings.Setting.the-variants.{Ev}
 use Rattle.controls.specs.Ev.{signed32, evFlags, evValue, evRefusal, evItem}
 use Rattle.controls.proofs.Laws.Settings.{item-given, item-refused}
 use Rattle.controls.proofs.Laws.Ev.{accepted-below}
-use borrow.Author.Needs.{needs}
 use Rattle.controls.proofs.ev.item.Statement.{statement}
 use Rattle.controls.proofs.ev.item.Tie as tie
-use Rattle.controls.proofs.ev.item.Reads as reads
-use Rattle.controls.proofs.ev.item.Lts as lts
-use Rattle.controls.proofs.ev.from_bits.Reads as from-bits-reads
-use Rattle.controls.proofs.ev.refusal.Reads as refusal-reads
-use Rattle.wire.proofs.flag_word.Reads as flag-word-reads
-use Rattle.wire.proofs.le32.Reads as le32-reads
 
 -- what was read, and what its tests give
 module _ (c : tie.After-refusal) where
@@ -54,7 +47,7 @@ unfolding evItem
 returns c = ap Refused (code-is (c .before)) ∙ sym (item-refused _ _ (λ e. c .if1 .taken (code-is (c .before) ∙ e)))
 
 cast-t8 : tie.Need-cast-t8
-cast-t8 c = 
+cast-t8 c =
     let b = c .before in
     let word = b .before .before .before .flag-word in
     let h : l b .steps < 256 = search needs in
@@ -62,7 +55,7 @@ cast-t8 c =
 
 returns-2 : tie.Need-returns-2
 unfolding evItem
-returns-2 c = 
+returns-2 c =
     ap₂ {C = Item} (λ (n : ℕ) (z : ℤ). Given (Ev (record { flags = n; value = z }))) (c .before .before .before .before .flag-word .ensures .0) (value-is (c .before))
     ∙ sym (item-given _ _ (sym (code-is (c .before)) ∙ c .if1 .left))
 

@@ -1,21 +1,15 @@
-use mathlib.Core.Path.{ap₂}
+use mathlib.Core.Path.{_≡_, ap₂, sym, _∙_}
+use Prim.Native.Nat.{ℕ}
+use lib.IntN.{ℤ}
 use mir.Facts.{toZ-ofZ}
+use borrow.Author.Needs.{needs}
 use Rattle.wire.specs.Flags.{choiceOf}
 use Rattle.wire.specs.declared.flags.Choice.the-variants.{At}
 use Rattle.controls.specs.declared.ev.EvLimits.{EvLimits}
-use mathlib.Core.Path.{_≡_, ap, sym, _∙_}
-use lib.IntN.{ℤ}
-use Prim.Native.Nat.{ℕ}
 use Rattle.controls.specs.Ev.{divisor, inRange}
 use Rattle.controls.proofs.Laws.Ev.{refused-flags, refused-value, accepted}
-use borrow.Author.Needs.{needs}
 use Rattle.controls.proofs.ev.refusal.Statement.{statement}
 use Rattle.controls.proofs.ev.refusal.Tie as tie
-use Rattle.controls.proofs.ev.refusal.Reads as reads
-use Rattle.controls.proofs.ev.refusal.Lts as lts
-use Rattle.controls.proofs.ev.divisor_of.Reads as divisor-of-reads
-use Rattle.controls.proofs.ev.in_range.Reads as in-range-reads
-use Rattle.wire.proofs.one_flag.Reads as one-flag-reads
 
 -- past the flags: the place that they choose, and whether the value is in range at its step
 module _ (c : tie.After-in-range) where

@@ -1,6 +1,6 @@
 use mathlib.Core.Path.{_≡_, ap, ap₂, sym, _∙_}
 use mathlib.Core.Bool.{true}
-use Prim.Native.Nat.{ℕ, _/_, _<_, _≤_}
+use Prim.Native.Nat.{ℕ, _/_, _<_}
 use native.Mathlib.Nat.{div-le-self}
 use native.Mathlib.Omega.{arith}
 use lib.Dec.{lit<}
@@ -9,23 +9,17 @@ use lib.Signed.{mag}
 use mir.Syntax.{w32}
 use mir.Val.{SFits, toZ, ofZ}
 use mir.Facts.{toZ-ofZ}
+use borrow.Author.Needs.{needs}
 use borrow.Author.Tests.{not-true, not-false}
 use Rattle.wire.specs.Flags.{choiceOf}
 use Rattle.wire.specs.declared.flags.Choice.the-variants.{At}
 use Rattle.controls.specs.declared.ev.EvLimits.{EvLimits}
 use Rattle.controls.specs.declared.ev.EvSetting.{EvSetting}
-use Rattle.controls.specs.Ev.{evValid, divisor, inRange}
+use Rattle.controls.specs.Ev.{evValid, divisor, inRange, unitsPerStop}
 use Rattle.controls.proofs.Laws.Signed.{product-fits, product-is}
 use Rattle.controls.proofs.Laws.Ev.{divisor-pos, range-small, scaled-invalid, scaled-flags, scaled-value, scaled-is}
-use borrow.Author.Needs.{needs}
 use Rattle.controls.proofs.ev.scaled.Statement.{statement}
 use Rattle.controls.proofs.ev.scaled.Tie as tie
-use Rattle.controls.proofs.ev.scaled.Reads as reads
-use Rattle.controls.proofs.ev.scaled.Lts as lts
-use Rattle.controls.proofs.ev.divisor_of.Reads as divisor-of-reads
-use Rattle.controls.proofs.ev.in_range.Reads as in-range-reads
-use Rattle.controls.proofs.ev.valid.Reads as valid-reads
-use Rattle.wire.proofs.one_flag.Reads as one-flag-reads
 
 -- past the first test the limits are valid
 valid : (c : tie.Else1) → evValid (c .before .before .args .l) ≡ true
@@ -55,8 +49,21 @@ module _ (c : tie.After-in-range) where
   ranged = c .in-range .ensures ∙ ap₂ (inRange l) (c .before .before .divisor-of .ensures) (toZ-ofZ fits)
 
 -- a value in range is small enough to be multiplied
-small : (c : tie.Then2) → mag (s (c .before) .value) < 1024
-small c = range-small _ (is-valid (c .before)) (place (c .before)) (s (c .before) .value) (sym (ranged (c .before)) ∙ c .if2 .taken)
+module _ (c : tie.Then2) where
+  abbrev v : ℤ
+  v = s (c .before) .value
+
+  abbrev factor : ℕ
+  factor = unitsPerStop / c .before .before .before .divisor-of .result
+
+  small : mag v < 1024
+  small = range-small _ (is-valid (c .before)) (place (c .before)) v (sym (ranged (c .before)) ∙ c .if2 .taken)
+
+  times-fits : SFits w32 (toZ w32 (ofZ w32 v) *ℤ toZ w32 factor)
+  times-fits = product-fits w32 v factor 1024 unitsPerStop (fits (c .before)) small (div-le-self unitsPerStop _) (lit< tt) (lit< tt)
+
+  times-is : toZ w32 (ofZ w32 (toZ w32 (ofZ w32 v) *ℤ toZ w32 factor)) ≡ v *ℤ pos factor
+  times-is = product-is w32 v factor 1024 unitsPerStop (fits (c .before)) small (div-le-self unitsPerStop _) (lit< tt) (lit< tt)
 
 valid-requires : tie.Need-valid-requires
 valid-requires c κs = search needs
@@ -86,20 +93,20 @@ div-result : tie.Need-div-result
 div-result c = rw (c .before .before .before .divisor-of .ensures) (divisor-pos (place (c .before)))
 
 cast-result : tie.Need-cast-result
-cast-result c = omega (arith, div-le-self 12 (c .before .before .before .divisor-of .result))
+cast-result c = omega (arith, div-le-self unitsPerStop (c .before .before .before .divisor-of .result))
 
 mul-result : tie.Need-mul-result
-mul-result c = product-fits w32 (s (c .before .before .before) .value) (12 / c .before .before .before .before .before .divisor-of .result) 1024 12 (fits (c .before .before .before)) (small (c .before .before)) (div-le-self 12 _) (lit< tt) (lit< tt)
+mul-result c = times-fits (c .before .before)
 
 returns-2 : tie.Need-returns-2
 returns-2 c = sym (scaled-flags _ _ (valid (c .before .before .before .before)) (sym (c .before .before .one-flag .ensures) ∙ c .enum-told .given .1))
 
 returns-3 : tie.Need-returns-3
-returns-3 c = 
-    let b = c .before .before .before in
-    product-is w32 (s b .value) (12 / c .before .before .before .before .before .divisor-of .result) 1024 12 (fits b) (small (c .before .before)) (div-le-self 12 _) (lit< tt) (lit< tt)
-    ∙ ap (λ (d : ℕ). s b .value *ℤ pos (12 / d)) (c .before .before .before .before .before .divisor-of .ensures)
-    ∙ sym (scaled-is _ _ (is-valid b) _ (chosen b) (sym (ranged b) ∙ c .before .before .if2 .taken))
+returns-3 c =
+    let t = c .before .before in
+    let b = t .before in
+    times-is t ∙ ap (λ (d : ℕ). v t *ℤ pos (unitsPerStop / d)) (b .before .before .divisor-of .ensures)
+    ∙ sym (scaled-is _ _ (is-valid b) _ (chosen b) (sym (ranged b) ∙ t .if2 .taken))
 
 returns-4 : tie.Need-returns-4
 returns-4 c = sym (scaled-value _ _ (is-valid (c .before)) _ (chosen (c .before)) (sym (ranged (c .before)) ∙ c .if2 .left))

@@ -1,14 +1,11 @@
-use mathlib.Core.Path.{_≡_, ap, sym, _∙_}
+use mathlib.Core.Path.{ap, sym, _∙_}
 use mir.Syntax.{w32}
 use mir.Val.{SFits}
 use mir.Facts.{toZ-ofZ}
-use Rattle.controls.specs.Ev.{compensation}
 use borrow.Author.Needs.{needs}
+use Rattle.controls.specs.Ev.{compensation}
 use Rattle.controls.proofs.ev.sensor_value.Statement.{statement}
 use Rattle.controls.proofs.ev.sensor_value.Tie as tie
-use Rattle.controls.proofs.ev.sensor_value.Reads as reads
-use Rattle.controls.proofs.ev.sensor_value.Lts as lts
-use Rattle.controls.proofs.ev.scaled.Reads as scaled-reads
 
 enum-told : tie.Need-enum-told
 enum-told c = search needs
@@ -25,7 +22,7 @@ returns c = sym (ap (compensation (c .before .before .args .l)) (c .enum-told .g
 
 returns-2 : tie.Need-returns-2
 unfolding compensation
-returns-2 c = 
+returns-2 c =
     let f : SFits w32 (c .scaled .result) = search needs in
     toZ-ofZ f ∙ c .scaled .ensures ∙ sym (ap (compensation (c .before .before .before .before .args .l)) (c .before .before .held .given .1))
 

@@ -12,8 +12,6 @@ use Rattle.controls.specs.Ev.{bits32}
 use Rattle.controls.proofs.Laws.Signed.{upper, lower, less-negative}
 use Rattle.controls.proofs.ev.to_bits.Statement.{statement}
 use Rattle.controls.proofs.ev.to_bits.Tie as tie
-use Rattle.controls.proofs.ev.to_bits.Reads as reads
-use Rattle.controls.proofs.ev.to_bits.Lts as lts
 
 -- a number from 0 up
 module _ (c : tie.Then1) where

@@ -2,8 +2,6 @@ use mathlib.Core.Path.{sym}
 use Rattle.controls.proofs.Laws.Settings.{item-given, item-refused}
 use Rattle.controls.proofs.settings.item_of.Statement.{statement}
 use Rattle.controls.proofs.settings.item_of.Tie as tie
-use Rattle.controls.proofs.settings.item_of.Reads as reads
-use Rattle.controls.proofs.settings.item_of.Lts as lts
 
 returns : tie.Need-returns
 returns c = sym (item-given _ _ (c .if1 .taken))
