@@ -1,5 +1,6 @@
-pub mod Numbers
 pub mod Answers
+pub mod Ev
+pub mod Face
+pub mod Numbers
 pub mod Settings
 pub mod Signed
-pub mod Ev

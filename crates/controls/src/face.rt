@@ -157,10 +157,10 @@ pub fn entry(address: u8, flags: u8) -> [u8; 8]
 pub fn held_at(held: [u8; 15], address: u8) -> u8
     ensures { λ r. ⌜ r ≡ heldAt held address ⌝ }
 {
-    let mut i: usize = 0;
-    if 0x81 < address {
-        i = (address - 0x81) as usize;
+    if address <= 0x81 {
+        return held[0];
     }
+    let i = (address - 0x81) as usize;
     if i < 15 {
         return held[i];
     }
