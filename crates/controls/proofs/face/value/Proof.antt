@@ -8,7 +8,8 @@ use lib.ListN.{length}
 use Rattle.wire.specs.Overlay.{overlay}
 use Rattle.controls.specs.Answers.{packed}
 use Rattle.controls.specs.Face.{addressAt, entryOf, flagsAt, entriesOf, faceValue}
-use Rattle.controls.proofs.Laws.Face.{blank, pack-is, length-entries, entries-next}
+use Rattle.controls.proofs.Laws.Packed.{blank, pack-is}
+use Rattle.controls.proofs.Laws.Face.{length-entries, entries-next}
 use Rattle.controls.proofs.face.value.Statement.{statement}
 use Rattle.controls.proofs.face.value.Tie as tie
 use Rattle.controls.proofs.face.value.Reads as reads
