@@ -1,25 +1,28 @@
 -- Laws of the face control's definitions. Assumes nothing.
 use mathlib.Core.Path.{_≡_, refl, ap, sym, _∙_}
 use mathlib.Core.List.{List, [], _∷_}
-use mathlib.Core.Bool.{Bool, true, false, cond, not, _&&_, _||_, and-eq-true-iff}
+use mathlib.Core.Bool.{Bool, true, false, cond, not, _||_, and-eq-true-iff}
 use Prim.Native.Nat.{ℕ, zero, suc, _+_, _*_, _-_, _/_, _^_, _≤_, _<_}
 use native.Mathlib.Numerals.{add-one, sub-one}
 use native.Mathlib.Omega.{arith}
-use lib.Dec.{leb, ltb, eqb, lit<, lit≤}
-use lib.ListN.{length, getD, length-append}
+use lib.Dec.{leb, eqb, lit≤}
+use lib.ListN.{length, getD, set, length-append}
+use lib.Seq.{getD-set-same, getD-set-other}
 use borrow.Author.Tests.{eq-eqb, ne-eqb, eqb-true, eqb-false, lt-ltb, ltb-true, le-leb, leb-true}
-use Rattle.wire.specs.Number.{number, leAt, bytesOf}
+use Rattle.wire.specs.Number.{leAt, bytesOf}
 use Rattle.wire.specs.Flags.{choiceOf}
 use Rattle.wire.specs.Rows.{_⇒_, firstOf}
 use Rattle.wire.specs.Overlay.{overlay}
 use Rattle.wire.specs.declared.flags.Choice.{Choice}
 use Rattle.wire.specs.declared.flags.Choice.the-variants as C
+use Rattle.wire.proofs.Laws.Numbers.{Bytes, below}
 use Rattle.wire.proofs.Laws.Bits.{chosen-is}
 use Rattle.controls.specs.declared.face.FaceLimits.{FaceLimits}
 use Rattle.controls.specs.declared.settings.Item.the-variants.{Refused, Given}
 use Rattle.controls.specs.declared.settings.Setting.the-variants as S
 use Rattle.controls.specs.Settings.{itemOf}
-use Rattle.controls.specs.Face.{endpointLimit, endpoints, addressAt, offersAt, allBelow, offersValid, addressBefore, endpointValid, faceValid, offersFrom, offersOf, takesFace, entryAddress, entryFlags, seenIn, seenBefore, isChoice, faceRefusal, entryRefusal, faceItem, entryOf, flagsAt, entriesOf, faceValue, faceAnswer}
+use Rattle.controls.specs.Answers.{answerBy}
+use Rattle.controls.specs.Face.{endpoints, addressAt, offersAt, allBelow, offersValid, addressBefore, endpointValid, faceValid, offersFrom, offersOf, takesFace, entryAddress, entryFlags, seenIn, seenBefore, isChoice, faceRefusal, entryRefusal, faceItem, entryOf, heldAt, flagsAt, entriesOf, faceValue, faceAnswer}
 use Rattle.controls.proofs.Laws.Numbers.{number-bytes, bytes-byte}
 use Rattle.controls.proofs.Laws.Answers.{answer-len, answer-length}
 use Rattle.controls.proofs.Laws.Packed.{blank, overlay-next}
@@ -233,6 +236,15 @@ pub one-entry : (l : FaceLimits) (address flags : ℕ) → flags < 256 → faceI
 unfolding faceItem entryRefusal seenIn
 one-entry l address flags h = rw (entry-flags 1 address flags (omega arith))
 
+-- a sound setting of a listed endpoint is accepted in such a payload
+pub setting-given : (l : FaceLimits) (address flags : ℕ) → flags < 256 → (offersOf l address ≡ 0 → ⊥) → faceRefusal (offersOf l address) flags ≡ 0 → faceItem l (1 ∷ entryOf address flags) 0 ≡ Given (S.Face address flags)
+unfolding faceRefusal itemOf
+setting-given l address flags h known e = one-entry l address flags h ∙ rw (ne-eqb (offersOf l address) 0 known) (go (isChoice (choiceOf (offersOf l address) flags)) e)
+  where
+    go : (b : Bool) → _≡_ {A = ℕ} (cond b 0 0x08) 0 → itemOf (firstOf ((not b ⇒ 0x08) ∷ [])) (S.Face address flags) ≡ Given (S.Face address flags)
+    go true f = refl
+    go false f = absurd (omega arith)
+
 -- what an accepted entry gives: its own bytes, for a listed endpoint that offers its flags
 pub record Accepted (l : FaceLimits) (s : List ℕ) (i address flags : ℕ) : Type 0 where
   pub address-read : entryAddress s i ≡ address
@@ -281,6 +293,36 @@ module _ (l : FaceLimits) (valid : faceValid l ≡ true) (address flags : ℕ) (
       go : (c : Choice) → choiceOf (offersOf l address) flags ≡ c → _≡_ {A = ℕ} (cond (isChoice c) 0 0x08) 0 → (0 < flags) × (flags < 8)
       go (C.At p) f g = let q = chosen-flag p f in small p (q .0) (q .1)
       go C.Refused f g = absurd (omega arith)
+
+-- so are the flags that an accepted entry of a payload of bytes gives
+pub accepted-small : (l : FaceLimits) (s : List ℕ) (i address flags : ℕ) → faceValid l ≡ true → Bytes s → faceItem l s i ≡ Given (S.Face address flags) → (0 < flags) × (flags < 8)
+accepted-small l s i address flags valid bytes e =
+    let a = accepted l s i address flags e in
+    let h : flags < 2 ^ 56 = rw (← a .flags-read) (below 7 7 s (2 + 8 * i) bytes (lit≤ tt)) in
+    setting-small l valid address flags h (a .sound)
+
+-- a setting put in at its address is held there, and every other address keeps its own
+module _ (held : List ℕ) (a b flags : ℕ) where
+  pub held-same : a - 0x81 < length held → heldAt (set held (a - 0x81) flags) a ≡ flags
+  held-same h = getD-set-same held (a - 0x81) flags 0 h
+
+  pub held-other : 0x81 ≤ a → 0x81 ≤ b → (b ≡ a → ⊥) → heldAt (set held (a - 0x81) flags) b ≡ heldAt held b
+  held-other h k p = getD-set-other held (a - 0x81) (b - 0x81) flags 0 (λ e. p (omega arith))
+
+-- while no setting is held CUR is DEF
+module _ (l : FaceLimits) (held : List ℕ) (none : (address : ℕ) → heldAt held address ≡ 0) where
+  fresh-flags : (i : ℕ) → flagsAt l held 0x81 i ≡ flagsAt l held 0x87 i
+  unfolding flagsAt
+  fresh-flags i = rw (none (addressAt l i))
+
+  fresh-entries : (n : ℕ) → entriesOf l held 0x81 n ≡ entriesOf l held 0x87 n
+  unfolding entriesOf
+  fresh-entries zero = refl
+  fresh-entries (suc n) = rw (fresh-entries n, fresh-flags n)
+
+  pub fresh-answer : faceAnswer l held 0x81 ≡ faceAnswer l held 0x87
+  unfolding faceAnswer answerBy faceValue
+  fresh-answer = rw (fresh-entries (endpoints l))
 
 -- LEN's answer is the length of the longest SET
 pub len-answer : (l : FaceLimits) (held : List ℕ) → faceAnswer l held 0x85 ≡ bytesOf 2 (1 + 8 * endpoints l)

@@ -1,5 +1,5 @@
 -- Answers as they are handed on: bytes laid over zeros, and taken out again. Assumes nothing.
-use mathlib.Core.Path.{_≡_, ap, ap₂, sym, _∙_}
+use mathlib.Core.Path.{_≡_, ap₂, sym, _∙_}
 use mathlib.Core.List.{List, [], _++_}
 use Prim.Native.Nat.{ℕ, min, _+_, _≤_}
 use native.Mathlib.Nat.{zero-add}
