@@ -2,5 +2,6 @@ pub mod Answers
 pub mod Ev
 pub mod Face
 pub mod Numbers
+pub mod Packed
 pub mod Settings
 pub mod Signed

@@ -4,23 +4,17 @@ use Rattle.controls.proofs.Laws.Face.{before-next}
 use borrow.Author.Needs.{needs}
 use Rattle.controls.proofs.face.address_before.Statement.{statement}
 use Rattle.controls.proofs.face.address_before.Tie as tie
-use Rattle.controls.proofs.face.address_before.Reads as reads
-use Rattle.controls.proofs.face.address_before.Lts as lts
 
--- src/face.rt:34:9
 returns : tie.Need-returns
 unfolding addressBefore
 returns c = sym (ap (addressBefore (c .before .args .t1)) (c .if1 .taken))
 
--- src/face.rt:36:13
 sub-j : tie.Need-sub-j
 sub-j c = search needs
 
--- src/face.rt:37:5
 element-copy-out-result : tie.Need-element-copy-out-result
 element-copy-out-result c = search needs
 
--- src/face.rt:29:1
 returns-2 : tie.Need-returns-2
 returns-2 c = before-next _ _ (c .before .if1 .left)
 

@@ -1,47 +1,35 @@
-use mathlib.Core.Path.{ap, ap₂, _∙_}
+use mathlib.Core.Path.{ap₂, _∙_}
 use mathlib.Core.List.{List}
 use Prim.Native.Nat.{ℕ, _+_, _*_}
 use Rattle.controls.specs.Answers.{answerBy, packed}
 use Rattle.controls.specs.Face.{faceAnswer, faceValue}
-use Rattle.controls.proofs.Laws.Face.{unpack-room, unpack, unpack-length, value-length}
+use Rattle.controls.proofs.Laws.Packed.{unpack-room, unpack, unpack-length}
+use Rattle.controls.proofs.Laws.Face.{value-length}
 use borrow.Author.Needs.{needs}
 use Rattle.controls.proofs.face.answer.Statement.{statement}
 use Rattle.controls.proofs.face.answer.Tie as tie
-use Rattle.controls.proofs.face.answer.Reads as reads
-use Rattle.controls.proofs.face.answer.Lts as lts
-use Rattle.controls.proofs.answers.answer_by.Reads as answer-by-reads
-use Rattle.controls.proofs.face.endpoints_of.Reads as endpoints-of-reads
-use Rattle.controls.proofs.face.value.Reads as value-reads
 
--- src/face.rt:214:9
 value-requires : tie.Need-value-requires
 value-requires c κs = search needs
 
--- src/face.rt:217:29
 endpoints-of-requires : tie.Need-endpoints-of-requires
 endpoints-of-requires c κs = search needs
 
--- src/face.rt:217:25
 mul-answer-by : tie.Need-mul-answer-by
 mul-answer-by c = search needs
 
--- src/face.rt:217:21
 add-answer-by : tie.Need-add-answer-by
 add-answer-by c = search needs
 
--- src/face.rt:217:52
 array-share-prefix-b : tie.Need-array-share-prefix-b
 array-share-prefix-b c = unpack-room _ (value-length _ _ _) _ (c .before .before .value .ensures)
 
--- src/face.rt:217:52
 slice-aggregate-answer-by : tie.Need-slice-aggregate-answer-by
 slice-aggregate-answer-by c = unpack-length _ (value-length _ _ _) _ (c .before .before .before .value .ensures)
 
--- src/face.rt:217:5
 answer-by-requires : tie.Need-answer-by-requires
 answer-by-requires c κs = search needs
 
--- src/face.rt:211:1
 returns : tie.Need-returns
 unfolding faceAnswer
 returns c =

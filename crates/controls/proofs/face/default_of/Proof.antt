@@ -2,15 +2,11 @@ use borrow.Author.Tests.{eq-eqb, ne-eqb}
 use Rattle.controls.specs.Face.{defaultOf}
 use Rattle.controls.proofs.face.default_of.Statement.{statement}
 use Rattle.controls.proofs.face.default_of.Tie as tie
-use Rattle.controls.proofs.face.default_of.Reads as reads
-use Rattle.controls.proofs.face.default_of.Lts as lts
 
--- src/face.rt:143:1
 returns : tie.Need-returns
 unfolding defaultOf
 returns c = rw (eq-eqb _ _ (c .if1 .taken))
 
--- src/face.rt:143:1
 returns-2 : tie.Need-returns-2
 unfolding defaultOf
 returns-2 c = rw (ne-eqb _ _ (c .if1 .left))

@@ -1,54 +1,39 @@
-use mathlib.Core.Path.{sym, _∙_, _≡_}
-use lib.Dec.{eqb}
-use mathlib.Core.Bool.{true, false}
+use mathlib.Core.Path.{sym, _∙_}
 use borrow.Author.Tests.{eq-eqb, ne-eqb}
 use Rattle.controls.specs.Face.{flagsAt}
 use borrow.Author.Needs.{needs}
 use Rattle.controls.proofs.face.flags_at.Statement.{statement}
 use Rattle.controls.proofs.face.flags_at.Tie as tie
-use Rattle.controls.proofs.face.flags_at.Reads as reads
-use Rattle.controls.proofs.face.flags_at.Lts as lts
-use Rattle.controls.proofs.face.default_of.Reads as default-of-reads
-use Rattle.controls.proofs.face.held_at.Reads as held-at-reads
 
--- src/face.rt:175:18
 element-copy-out-offers : tie.Need-element-copy-out-offers
 element-copy-out-offers c = search needs
 
--- src/face.rt:177:9
 returns : tie.Need-returns
 unfolding flagsAt
 returns c = rw (eq-eqb _ _ (c .if1 .taken))
 
--- src/face.rt:180:9
 default-of-requires : tie.Need-default-of-requires
 default-of-requires c κs = search needs
 
--- src/face.rt:180:9
 returns-2 : tie.Need-returns-2
 unfolding flagsAt
 returns-2 c = rw (ne-eqb _ _ (c .before .before .if1 .left), ne-eqb _ _ (c .before .if2 .taken)) (c .default-of .ensures)
 
--- src/face.rt:182:31
 element-copy-out-held-at : tie.Need-element-copy-out-held-at
 element-copy-out-held-at c = search needs
 
--- src/face.rt:182:9
 held-at-requires : tie.Need-held-at-requires
 held-at-requires c κs = search needs
 
--- src/face.rt:184:9
 default-of-requires-2 : tie.Need-default-of-requires-2
 default-of-requires-2 c κs = search needs
 
--- src/face.rt:184:9
 returns-3 : tie.Need-returns-3
 unfolding flagsAt
 returns-3 c =
     let h = c .before .before in
     rw (ne-eqb _ _ (h .before .before .before .if1 .left), eq-eqb _ _ (h .before .before .if2 .left), eq-eqb _ _ (sym (h .held-at .ensures) ∙ c .before .if3 .taken)) (c .default-of2 .ensures)
 
--- src/face.rt:171:1
 returns-4 : tie.Need-returns-4
 unfolding flagsAt
 returns-4 c =

@@ -5,74 +5,53 @@ use Rattle.wire.proofs.Laws.Bits.{chosen-below}
 use borrow.Author.Needs.{needs}
 use Rattle.controls.proofs.face.item.Statement.{statement}
 use Rattle.controls.proofs.face.item.Tie as tie
-use Rattle.controls.proofs.face.item.Reads as reads
-use Rattle.controls.proofs.face.item.Lts as lts
-use Rattle.controls.proofs.face.offers_of.Reads as offers-of-reads
-use Rattle.controls.proofs.face.seen_before.Reads as seen-before-reads
-use Rattle.wire.proofs.flag_word.Reads as flag-word-reads
-use Rattle.wire.proofs.one_flag.Reads as one-flag-reads
-use Rattle.wire.proofs.byte.Reads as byte-reads
 
--- src/face.rt:124:18
 mul-at : tie.Need-mul-at
 mul-at c = search needs
 
--- src/face.rt:124:14
 add-at : tie.Need-add-at
 add-at c = search needs
 
--- src/face.rt:125:9
 byte-requires : tie.Need-byte-requires
 byte-requires c κs = search needs
 
--- src/face.rt:126:9
 offers-of-requires : tie.Need-offers-of-requires
 offers-of-requires c κs = search needs
 
--- src/face.rt:128:9
 returns : tie.Need-returns
 returns c =
     let b = c .before in
     sym (item-unlisted _ _ _ _ _ (b .before .byte .ensures) (b .offers-of .ensures) (c .if1 .taken))
 
--- src/face.rt:130:8
 seen-before-requires : tie.Need-seen-before-requires
 seen-before-requires c κs = search needs
 
--- src/face.rt:131:9
 returns-2 : tie.Need-returns-2
 returns-2 c =
     let b = c .before .before .before in
     sym (item-seen _ _ _ _ _ (b .before .byte .ensures) (b .offers-of .ensures) (c .before .before .if1 .left) (sym (c .before .seen-before .ensures) ∙ c .if2 .taken))
 
--- src/face.rt:133:42
 add-flag-word : tie.Need-add-flag-word
 add-flag-word c = search needs
 
--- src/face.rt:133:9
 flag-word-requires : tie.Need-flag-word-requires
 flag-word-requires c κs = search needs
 
--- src/face.rt:134:11
 one-flag-requires : tie.Need-one-flag-requires
 one-flag-requires c κs = search needs
 
--- src/face.rt:135:28
 enum-told : tie.Need-enum-told
 enum-told c = search needs
 
--- src/face.rt:138:20
 enum-told-2 : tie.Need-enum-told-2
 enum-told-2 c = search needs
 
--- src/face.rt:138:20
 cast-t14 : tie.Need-cast-t14
 cast-t14 c =
     let f = c .before .before .before in
     let b = f .before .before .before .before in
     record { fits = chosen-below 8 _ (f .flag-word .result) _ (omega (arith, b .offers-of .ok)) (f .flag-word .ensures .1) (sym (c .before .before .one-flag .ensures) ∙ c .enum-told2 .given .1) }
 
--- src/face.rt:121:1
 returns-3 : tie.Need-returns-3
 returns-3 c =
     let f = c .before .before .before in
@@ -81,7 +60,6 @@ returns-3 c =
     (item-flags _ _ _ _ _ (b .before .byte .ensures) (b .offers-of .ensures) (f .before .before .before .if1 .left) _ (f .flag-word .ensures .0)
     (sym (f .before .before .seen-before .ensures) ∙ f .before .if2 .left) (sym (c .before .before .one-flag .ensures) ∙ c .enum-told .given .1))
 
--- src/face.rt:121:1
 returns-4 : tie.Need-returns-4
 returns-4 c =
     let f = c .before .before .before in

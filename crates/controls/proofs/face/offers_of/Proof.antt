@@ -1,5 +1,5 @@
 use Rattle.controls.specs.Face.{endpoints}
-use mathlib.Core.Path.{_≡_, refl, ap, ap₂, sym, _∙_}
+use mathlib.Core.Path.{_≡_, ap, sym, _∙_}
 use Prim.Native.Nat.{ℕ, _≤_, _-_}
 use native.Mathlib.Omega.{arith}
 use borrow.Author.Needs.{needs}
@@ -7,9 +7,6 @@ use Rattle.controls.specs.Face.{offersFrom, offersOf}
 use Rattle.controls.proofs.Laws.Face.{offers-here, offers-next}
 use Rattle.controls.proofs.face.offers_of.Statement.{statement}
 use Rattle.controls.proofs.face.offers_of.Tie as tie
-use Rattle.controls.proofs.face.offers_of.Reads as reads
-use Rattle.controls.proofs.face.offers_of.Lts as lts
-use Rattle.controls.proofs.face.endpoints_of.Reads as endpoints-of-reads
 
 abbrev Inv-loop : tie.InvT-loop
 Inv-loop address l n i₀ i = (i ≤ n) × (offersOf l address ≡ offersFrom l address (n - i) i)
@@ -17,11 +14,9 @@ Inv-loop address l n i₀ i = (i ≤ n) × (offersOf l address ≡ offersFrom l 
 abbrev μ-loop : tie.MeasureT-loop
 μ-loop address l n i₀ i = n - i
 
--- src/face.rt:71:9
 endpoints-of-requires : tie.Need-endpoints-of-requires Inv-loop μ-loop
 endpoints-of-requires c κs = search needs
 
--- src/face.rt:73:5
 loop-holds : tie.Need-loop-holds Inv-loop μ-loop
 unfolding offersOf
 loop-holds c =
@@ -29,35 +24,28 @@ loop-holds c =
     let e : endpoints (a .t1) ≡ c .endpoints-of .result - 0 = omega (arith, c .endpoints-of .ensures .0) in
     (omega arith, ap (λ (n : ℕ). offersFrom (a .t1) (a .address) n 0) e)
 
--- src/face.rt:74:12
 element-copy-out-if1 : tie.Need-element-copy-out-if1 Inv-loop μ-loop
 element-copy-out-if1 c = search needs
 
--- src/face.rt:75:20
 element-copy-out-result : tie.Need-element-copy-out-result Inv-loop μ-loop
 element-copy-out-result c = search needs
 
--- src/face.rt:75:13
 returns : tie.Need-returns Inv-loop μ-loop
 returns c =
     let b = c .before .before .before .before in
     sym (b .loop .inv .1 ∙ offers-here _ _ _ _ (c .before .before .before .loop-test .taken) (c .before .if1 .taken))
 
--- src/face.rt:77:9
 add-i : tie.Need-add-i Inv-loop μ-loop
 add-i c = search needs
 
--- src/face.rt:73:5
 loop-less : tie.Need-loop-less Inv-loop μ-loop
 loop-less c = search needs
 
--- src/face.rt:73:5
 loop-again : tie.Need-loop-again Inv-loop μ-loop
 loop-again c =
     let b = c .before .before .before in
     (omega arith, b .loop .inv .1 ∙ offers-next _ _ _ _ (c .before .before .loop-test .taken) (c .if1 .left))
 
--- src/face.rt:68:1
 returns-2 : tie.Need-returns-2 Inv-loop μ-loop
 unfolding offersFrom
 returns-2 c =

@@ -3,27 +3,19 @@ use Rattle.controls.proofs.Laws.Face.{refusal-none, refusal-flags}
 use borrow.Author.Needs.{needs}
 use Rattle.controls.proofs.face.refusal.Statement.{statement}
 use Rattle.controls.proofs.face.refusal.Tie as tie
-use Rattle.controls.proofs.face.refusal.Reads as reads
-use Rattle.controls.proofs.face.refusal.Lts as lts
-use Rattle.wire.proofs.one_flag.Reads as one-flag-reads
 
--- src/face.rt:100:11
 one-flag-requires : tie.Need-one-flag-requires
 one-flag-requires c κs = search needs
 
--- src/face.rt:101:26
 enum-told : tie.Need-enum-told
 enum-told c = search needs
 
--- src/face.rt:102:28
 enum-told-2 : tie.Need-enum-told-2
 enum-told-2 c = search needs
 
--- src/face.rt:97:1
 returns : tie.Need-returns
 returns c = sym (refusal-none _ _ _ (sym (c .before .before .one-flag .ensures) ∙ c .enum-told .given .1))
 
--- src/face.rt:97:1
 returns-2 : tie.Need-returns-2
 returns-2 c = sym (refusal-flags _ _ (sym (c .before .before .one-flag .ensures) ∙ c .enum-told2 .given .1))
 

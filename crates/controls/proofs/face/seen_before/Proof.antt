@@ -1,6 +1,6 @@
 use mathlib.Core.Path.{_≡_, refl, ap, ap₂, sym, _∙_}
-use Prim.Native.Nat.{ℕ, _≤_, _-_, _+_}
-use mathlib.Core.Bool.{Bool, _||_}
+use Prim.Native.Nat.{_≤_, _-_, _+_}
+use mathlib.Core.Bool.{_||_}
 use native.Mathlib.Omega.{arith}
 use borrow.Author.Needs.{needs}
 use lib.Dec.{eqb}
@@ -8,9 +8,6 @@ use Rattle.controls.specs.Face.{seenIn}
 use Rattle.controls.proofs.Laws.Face.{seen-next}
 use Rattle.controls.proofs.face.seen_before.Statement.{statement}
 use Rattle.controls.proofs.face.seen_before.Tie as tie
-use Rattle.controls.proofs.face.seen_before.Reads as reads
-use Rattle.controls.proofs.face.seen_before.Lts as lts
-use Rattle.wire.proofs.byte.Reads as byte-reads
 
 abbrev Inv-loop : tie.InvT-loop
 Inv-loop payload i address seen₀ j₀ seen j = (j ≤ i) × (seen ≡ seenIn payload i j)
@@ -18,48 +15,37 @@ Inv-loop payload i address seen₀ j₀ seen j = (j ≤ i) × (seen ≡ seenIn p
 abbrev μ-loop : tie.MeasureT-loop
 μ-loop payload i address seen₀ j₀ seen j = i - j
 
--- src/face.rt:110:43
 mul-byte : tie.Need-mul-byte Inv-loop μ-loop
 mul-byte c = search needs
 
--- src/face.rt:110:39
 add-byte : tie.Need-add-byte Inv-loop μ-loop
 add-byte c = search needs
 
--- src/face.rt:110:9
 byte-requires : tie.Need-byte-requires Inv-loop μ-loop
 byte-requires c κs = search needs
 
--- src/face.rt:113:5
 loop-holds : tie.Need-loop-holds Inv-loop μ-loop
 unfolding seenIn
 loop-holds c = (omega arith, refl)
 
--- src/face.rt:114:53
 cast-byte : tie.Need-cast-byte Inv-loop μ-loop
 cast-byte c = search needs
 
--- src/face.rt:114:48
 mul-byte-2 : tie.Need-mul-byte-2 Inv-loop μ-loop
 mul-byte-2 c = search needs
 
--- src/face.rt:114:44
 add-byte-2 : tie.Need-add-byte-2 Inv-loop μ-loop
 add-byte-2 c = search needs
 
--- src/face.rt:114:24
 byte-requires-2 : tie.Need-byte-requires-2 Inv-loop μ-loop
 byte-requires-2 c κs = search needs
 
--- src/face.rt:115:9
 add-j : tie.Need-add-j Inv-loop μ-loop
 add-j c = search needs
 
--- src/face.rt:113:5
 loop-less : tie.Need-loop-less Inv-loop μ-loop
 loop-less c = search needs
 
--- src/face.rt:113:5
 loop-again : tie.Need-loop-again Inv-loop μ-loop
 loop-again c =
     let b = c .before .before in
@@ -68,7 +54,6 @@ loop-again c =
     ap₂ _||_ (b .loop .inv .1) (ap₂ eqb (c .byte2 .ensures) (b .before .byte .ensures)) ∙ sym (seen-next (a .payload .now) (a .i) (b .loop .j)) in
     (omega arith, e)
 
--- src/face.rt:107:1
 returns : tie.Need-returns Inv-loop μ-loop
 returns c =
     let b = c .before in

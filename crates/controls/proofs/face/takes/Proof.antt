@@ -4,34 +4,25 @@ use Rattle.controls.proofs.Laws.Face.{takes-empty, takes-first}
 use borrow.Author.Needs.{needs}
 use Rattle.controls.proofs.face.takes.Statement.{statement}
 use Rattle.controls.proofs.face.takes.Tie as tie
-use Rattle.controls.proofs.face.takes.Reads as reads
-use Rattle.controls.proofs.face.takes.Lts as lts
 
--- src/face.rt:87:9
 returns : tie.Need-returns
 returns c = sym (takes-empty _ _ (c .if1 .taken))
 
--- src/face.rt:89:13
 shared-slice-read-n : tie.Need-shared-slice-read-n
 shared-slice-read-n c = search needs
 
--- src/face.rt:91:25
 cast-result : tie.Need-cast-result
 cast-result c = search needs
 
--- src/face.rt:91:20
 mul-result : tie.Need-mul-result
 mul-result c = search needs
 
--- src/face.rt:91:16
 add-result : tie.Need-add-result
 add-result c = search needs
 
--- src/face.rt:91:9
 returns-2 : tie.Need-returns-2
 returns-2 c = sym (takes-first _ _ (c .before .before .before .if1 .left) ∙ rw (le-leb _ _ (c .if2 .taken)))
 
--- src/face.rt:83:1
 returns-3 : tie.Need-returns-3
 returns-3 c = sym (takes-first _ _ (c .before .before .before .if1 .left) ∙ rw (lt-leb _ _ (c .if2 .left)))
 

@@ -1,4 +1,4 @@
-use mathlib.Core.Path.{_≡_, refl, ap, ap₂, sym, _∙_}
+use mathlib.Core.Path.{_≡_, refl, ap, ap₂, _∙_}
 use mathlib.Core.Bool.{Bool, _&&_}
 use Prim.Native.Nat.{ℕ, _≤_, _-_, _+_}
 use native.Mathlib.Numerals.{add-one}
@@ -8,9 +8,6 @@ use lib.Dec.{leb}
 use Rattle.controls.specs.Face.{allBelow, endpointValid, faceValid}
 use Rattle.controls.proofs.face.valid.Statement.{statement}
 use Rattle.controls.proofs.face.valid.Tie as tie
-use Rattle.controls.proofs.face.valid.Reads as reads
-use Rattle.controls.proofs.face.valid.Lts as lts
-use Rattle.controls.proofs.face.endpoint_valid.Reads as endpoint-valid-reads
 
 abbrev Inv-loop : tie.InvT-loop
 Inv-loop l ok₀ i₀ ok i = (i ≤ 8) × (ok ≡ allBelow i (endpointValid l))
@@ -18,24 +15,19 @@ Inv-loop l ok₀ i₀ ok i = (i ≤ 8) × (ok ≡ allBelow i (endpointValid l))
 abbrev μ-loop : tie.MeasureT-loop
 μ-loop l ok₀ i₀ ok i = 8 - i
 
--- src/face.rt:60:5
 loop-holds : tie.Need-loop-holds Inv-loop μ-loop
 unfolding allBelow
 loop-holds c = (omega arith, refl)
 
--- src/face.rt:61:19
 endpoint-valid-requires : tie.Need-endpoint-valid-requires Inv-loop μ-loop
 endpoint-valid-requires c κs = search needs
 
--- src/face.rt:62:9
 add-i : tie.Need-add-i Inv-loop μ-loop
 add-i c = search needs
 
--- src/face.rt:60:5
 loop-less : tie.Need-loop-less Inv-loop μ-loop
 loop-less c = search needs
 
--- src/face.rt:60:5
 loop-again : tie.Need-loop-again Inv-loop μ-loop
 unfolding allBelow
 loop-again c =
@@ -43,7 +35,6 @@ loop-again c =
     let e : b .loop .ok && c .endpoint-valid .result ≡ allBelow (b .loop .i + 1) (endpointValid (b .before .args .l)) = rw add-one (ap₂ _&&_ (b .loop .inv .1) (c .endpoint-valid .ensures)) in
     (omega arith, e)
 
--- src/face.rt:55:1
 returns : tie.Need-returns Inv-loop μ-loop
 unfolding faceValid
 returns c =

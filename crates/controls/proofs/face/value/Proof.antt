@@ -1,5 +1,5 @@
 use Rattle.wire.proofs.Laws.Overlay.{same-length}
-use mathlib.Core.Path.{_≡_, refl, ap, ap₂, sym, _∙_}
+use mathlib.Core.Path.{_≡_, refl, ap, sym, _∙_}
 use mathlib.Core.List.{_∷_}
 use Prim.Native.Nat.{ℕ, _≤_, _-_, _+_, _*_}
 use native.Mathlib.Omega.{arith}
@@ -8,15 +8,10 @@ use lib.ListN.{length}
 use Rattle.wire.specs.Overlay.{overlay}
 use Rattle.controls.specs.Answers.{packed}
 use Rattle.controls.specs.Face.{addressAt, entryOf, flagsAt, entriesOf, faceValue}
-use Rattle.controls.proofs.Laws.Face.{blank, pack-is, length-entries, entries-next}
+use Rattle.controls.proofs.Laws.Packed.{blank, pack-is}
+use Rattle.controls.proofs.Laws.Face.{length-entries, entries-next}
 use Rattle.controls.proofs.face.value.Statement.{statement}
 use Rattle.controls.proofs.face.value.Tie as tie
-use Rattle.controls.proofs.face.value.Reads as reads
-use Rattle.controls.proofs.face.value.Lts as lts
-use Rattle.controls.proofs.face.endpoints_of.Reads as endpoints-of-reads
-use Rattle.controls.proofs.face.entry.Reads as entry-reads
-use Rattle.controls.proofs.face.flags_at.Reads as flags-at-reads
-use Rattle.wire.proofs.copy.Reads as copy-reads
 
 abbrev Inv-loop : tie.InvT-loop
 Inv-loop held code l bytes₀ n i₀ bytes i = (i ≤ n) × (bytes ≡ overlay blank 0 (n ∷ entriesOf l held code i))
@@ -24,69 +19,53 @@ Inv-loop held code l bytes₀ n i₀ bytes i = (i ≤ n) × (bytes ≡ overlay b
 abbrev μ-loop : tie.MeasureT-loop
 μ-loop held code l bytes₀ n i₀ bytes i = n - i
 
--- src/face.rt:195:9
 returns : tie.Need-returns Inv-loop μ-loop
 unfolding packed faceValue overlay
 returns c = rw (c .if1 .taken)
 
--- src/face.rt:197:9
 endpoints-of-requires : tie.Need-endpoints-of-requires Inv-loop μ-loop
 endpoints-of-requires c κs = search needs
 
--- src/face.rt:198:16
 cast-bytes : tie.Need-cast-bytes Inv-loop μ-loop
 cast-bytes c = search needs
 
--- src/face.rt:198:5
 array-write-bytes : tie.Need-array-write-bytes Inv-loop μ-loop
 array-write-bytes c = search needs
 
--- src/face.rt:200:5
 loop-holds : tie.Need-loop-holds Inv-loop μ-loop
 unfolding overlay entriesOf
 loop-holds c = (omega arith, refl)
 
--- src/face.rt:201:23
 element-copy-out-entry : tie.Need-element-copy-out-entry Inv-loop μ-loop
 element-copy-out-entry c = search needs
 
--- src/face.rt:201:39
 flags-at-requires : tie.Need-flags-at-requires Inv-loop μ-loop
 flags-at-requires c κs = search needs
 
--- src/face.rt:201:17
 entry-requires : tie.Need-entry-requires Inv-loop μ-loop
 entry-requires c κs = search needs
 
--- src/face.rt:202:20
 slice-aggregate-copy : tie.Need-slice-aggregate-copy Inv-loop μ-loop
 slice-aggregate-copy c = let b = c .before .before .before .before .before in sym (ap length (b .loop .inv .1) ∙ same-length blank 0 _)
 
--- src/face.rt:202:36
 mul-copy : tie.Need-mul-copy Inv-loop μ-loop
 mul-copy c = search needs
 
--- src/face.rt:202:32
 add-copy : tie.Need-add-copy Inv-loop μ-loop
 add-copy c = search needs
 
--- src/face.rt:202:43
 slice-aggregate-copy-2 : tie.Need-slice-aggregate-copy-2 Inv-loop μ-loop
 slice-aggregate-copy-2 c = search needs
 
--- src/face.rt:202:9
 copy-requires : tie.Need-copy-requires Inv-loop μ-loop
 copy-requires c κs = search needs
 
--- src/face.rt:203:9
 add-i : tie.Need-add-i Inv-loop μ-loop
 add-i c = search needs
 
--- src/face.rt:200:5
 loop-less : tie.Need-loop-less Inv-loop μ-loop
 loop-less c = search needs
 
--- src/face.rt:200:5
 loop-again : tie.Need-loop-again Inv-loop μ-loop
 loop-again c =
     let d = c .before in
@@ -97,15 +76,12 @@ loop-again c =
     f .entry .ensures ∙ ap (entryOf (addressAt (a .t1) (b .loop .i))) (f .before .flags-at .ensures) in
     (omega arith, d .copy .ensures ∙ ap (overlay (b .loop .bytes) (1 + 8 * b .loop .i)) e ∙ entries-next (a .t1) (a .held) (a .code) _ (b .loop .i) (b .loop .bytes) (omega arith) (b .loop .inv .1))
 
--- src/face.rt:207:18
 mul-t32 : tie.Need-mul-t32 Inv-loop μ-loop
 mul-t32 c = search needs
 
--- src/face.rt:207:14
 add-t33 : tie.Need-add-t33 Inv-loop μ-loop
 add-t33 c = search needs
 
--- src/face.rt:190:1
 returns-2 : tie.Need-returns-2 Inv-loop μ-loop
 unfolding faceValue
 returns-2 c =
