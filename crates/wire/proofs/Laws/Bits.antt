@@ -1,16 +1,15 @@
 -- What the counts of a number's bits say of the bits. Assumes nothing.
 use mathlib.Core.Path.{_≡_, refl, ap, ap₂, sym, _∙_}
 use mathlib.Core.List.{List, [], _∷_}
-use mathlib.Core.Bool.{Bool, true, false, cond}
+use mathlib.Core.Bool.{Bool, true, false, cond, _&&_}
 use Prim.Native.Nat.{ℕ, zero, suc, _+_, _*_, _/_, _%_, _^_, _≤_, _<_}
 use native.Mathlib.Nat.{pow-succ', lt-of-lt-of-le, div-eq-of-lt, mod-lt, mod-add-div, mul-assoc}
 use native.Mathlib.Omega.{arith}
-use lib.Pow.{pow-mono}
-use lib.Dec.{eqb, lit<}
+use lib.Pow.{pow-mono, pow-lt}
+use lib.Dec.{eqb, ltb, lit<}
 use lib.ListN.{length}
 use lib.Count.{ones, ones-step, ones-ones, trailingZeros, under}
-use borrow.Author.Tests.{eqb-true, eqb-false, eq-eqb, ne-eqb}
-use Rattle.wire.specs.declared.flags.Choice.{Choice}
+use borrow.Author.Tests.{ltb-true, ltb-false, eqb-true, eqb-false, eq-eqb, ne-eqb}
 use Rattle.wire.specs.declared.flags.Choice.the-variants.{At, Refused}
 use Rattle.wire.specs.Flags.{isSet, bitsOf, count, first, choiceOf}
 
@@ -113,3 +112,43 @@ module _ (offered word : ℕ) where
   pub one : ones n ≡ 1 → choiceOf offered word ≡ cond (isSet offered (trailingZeros 64 n)) (At (trailingZeros 64 n)) Refused
   unfolding choiceOf
   one p = rw (eq-eqb (count (bitsOf 56 word)) 1 (sym ones-bits ∙ p), zeros-bits p)
+
+-- bits of which one is set stand for the power of its place
+none-value : (bs : List Bool) → count bs ≡ 0 → value bs ≡ 0
+unfolding value count digit
+none-value [] e = refl
+none-value (true ∷ bs) e = absurd (omega arith)
+none-value (false ∷ bs) e = omega (arith, none-value bs e)
+
+one-value : (bs : List Bool) → count bs ≡ 1 → value bs ≡ 2 ^ first bs
+unfolding value count digit first
+one-value [] e = absurd (omega arith)
+one-value (true ∷ bs) e = omega (arith, none-value bs (omega arith))
+one-value (false ∷ bs) e = omega (arith, one-value bs e, pow-succ' 2 (first bs))
+
+-- a bit that is set stands within the width
+pub set-below : (w n k : ℕ) → n < 2 ^ w → isSet n k ≡ true → k < w
+set-below w n k h e = go (ltb k w) refl
+  where
+    go : (b : Bool) → ltb k w ≡ b → k < w
+    go true f = ltb-true k w f
+    go false f = let clear = high-clear w n k h (ltb-false k w f) in let z : _≡_ {A = ℕ} 0 1 = cc in absurd (omega arith)
+
+-- a word that chooses is the power of the place it chooses, and that is within the width of what is offered
+module _ (w offered word p : ℕ) (h : offered < 2 ^ w) (g : word < 2 ^ 56) (e : choiceOf offered word ≡ At p) where
+  abbrev bits : List Bool
+  bits = bitsOf 56 word
+
+  tested : (a b : Bool) → eqb (count bits) 1 ≡ a → isSet offered (first bits) ≡ b → cond (a && b) (At (first bits)) Refused ≡ At p → (word ≡ 2 ^ p) × (p < w)
+  tested true true m n f =
+      let q : first bits ≡ p = cc in
+      rw (← q) (sym (value-bits 56 word g) ∙ one-value bits (eqb-true (count bits) 1 m), set-below w offered (first bits) h n)
+  tested true false m n f = let z : _≡_ {A = ℕ} 0 1 = cc in absurd (omega arith)
+  tested false b m n f = let z : _≡_ {A = ℕ} 0 1 = cc in absurd (omega arith)
+
+  pub chosen-is : (word ≡ 2 ^ p) × (p < w)
+  unfolding choiceOf
+  chosen-is = tested (eqb (count bits) 1) (isSet offered (first bits)) refl refl e
+
+  pub chosen-below : word < 2 ^ w
+  chosen-below = rw (chosen-is .0) (pow-lt (chosen-is .1))

@@ -1,0 +1,5 @@
+pub mod Numbers
+pub mod Answers
+pub mod Settings
+pub mod Signed
+pub mod Ev
