@@ -3,3 +3,4 @@ pub mod Answers
 pub mod Settings
 pub mod Signed
 pub mod Ev
+pub mod Plain
