@@ -3,5 +3,6 @@ pub mod Ev
 pub mod Face
 pub mod Numbers
 pub mod Packed
+pub mod Plain
 pub mod Settings
 pub mod Signed
