@@ -100,7 +100,13 @@ putFace face address flags = cond (leb 0x81 address) (set face (address - 0x81) 
 -- the record with one setting more
 unfoldable pub put : Camera → Setting → Camera
 put c (S.Ev s) = record {
-  profile = c .profile; streaming = c .streaming; ev = E.Held s; face = c .face; metadata = c .metadata; hdr = c .hdr; throttle = c .throttle;
+  profile = c .profile;
+  streaming = c .streaming;
+  ev = E.Held s;
+  face = c .face;
+  metadata = c .metadata;
+  hdr = c .hdr;
+  throttle = c .throttle;
 }
 put c (S.Face address flags) = record {
   profile = c .profile;
@@ -112,13 +118,31 @@ put c (S.Face address flags) = record {
   throttle = c .throttle;
 }
 put c (S.Metadata n) = record {
-  profile = c .profile; streaming = c .streaming; ev = c .ev; face = c .face; metadata = N.Held n; hdr = c .hdr; throttle = c .throttle;
+  profile = c .profile;
+  streaming = c .streaming;
+  ev = c .ev;
+  face = c .face;
+  metadata = N.Held n;
+  hdr = c .hdr;
+  throttle = c .throttle;
 }
 put c (S.Hdr n) = record {
-  profile = c .profile; streaming = c .streaming; ev = c .ev; face = c .face; metadata = c .metadata; hdr = N.Held n; throttle = c .throttle;
+  profile = c .profile;
+  streaming = c .streaming;
+  ev = c .ev;
+  face = c .face;
+  metadata = c .metadata;
+  hdr = N.Held n;
+  throttle = c .throttle;
 }
 put c (S.Throttle s) = record {
-  profile = c .profile; streaming = c .streaming; ev = c .ev; face = c .face; metadata = c .metadata; hdr = c .hdr; throttle = T.Held s;
+  profile = c .profile;
+  streaming = c .streaming;
+  ev = c .ev;
+  face = c .face;
+  metadata = c .metadata;
+  hdr = c .hdr;
+  throttle = T.Held s;
 }
 
 -- SET's value tests of one setting

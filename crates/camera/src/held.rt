@@ -1,14 +1,14 @@
 // The settings that a record holds, key by key, and whether the record is well formed.
-use controls::Item;
-use controls::Number;
-use controls::Setting;
-use controls::ev::Ev;
-use controls::throttle::Throttle;
 use crate::profile::Profile;
 use crate::record::Camera;
 use crate::setting::control_refusal;
 use crate::setting::selector_of;
 use crate::setting::value_refusal;
+use controls::Item;
+use controls::Number;
+use controls::Setting;
+use controls::ev::Ev;
+use controls::throttle::Throttle;
 ghost use mathlib.Core.Path.{_≡_};
 ghost use Rattle.camera.specs.Record.{evHeld, faceHeld, metadataHeld, hdrHeld, throttleHeld, held, kept, wellFormed};
 ghost use Rattle.camera.specs.Items.{itemHeld, settingOf};
@@ -65,7 +65,8 @@ fn is_kept(p: Profile, held: Item) -> bool
     match held {
         Item::Absent => true,
         Item::Refused(_) => true,
-        Item::Given(s) => (control_refusal(p, true, selector_of(s)) == 0) & (value_refusal(p, s) == 0),
+        Item::Given(s) => (control_refusal(p, true, selector_of(s)) == 0)
+            & (value_refusal(p, s) == 0),
     }
 }
 

@@ -36,15 +36,15 @@ fn selector_at(key: usize) -> u8
 }
 
 // A record of a key, as a SET.
-fn record_item(p: Profile, streaming: bool, key: usize, record: &[u8]) -> Item
-    ensures { λ r. ⌜ r ≡ recordItem p streaming key (now (record .entry)) ⌝ }
+fn record_item(p: Profile, streaming: bool, key: usize, r: &[u8]) -> Item
+    ensures { λ i. ⌜ i ≡ recordItem p streaming key (now (r .entry)) ⌝ }
 {
     let selector = selector_at(key);
     let code = control_refusal(p, streaming, selector);
     if code != 0 {
         return Item::Refused(code);
     }
-    item_at(p, selector, wire::tail(record, 4), 0)
+    item_at(p, selector, wire::tail(r, 4), 0)
 }
 
 // The record at `at`, of n bytes, as a SET; none where n is 0.

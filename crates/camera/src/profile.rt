@@ -11,9 +11,13 @@ ghost use Rattle.camera.specs.Profile.{bitAt, presenceValid, profileVali
 
 // Selectors of the five controls.
 pub const EV: u8 = 0x03;
+
 pub const FACE: u8 = 0x06;
+
 pub const METADATA: u8 = 0x09;
+
 pub const HDR: u8 = 0x0D;
+
 pub const THROTTLE: u8 = 0x0E;
 
 // `controls` has bit s - 1 for the control of selector s; `auto` says whether HDR offers Auto.
@@ -39,7 +43,11 @@ pub(crate) fn has_control(p: Profile, selector: u8) -> bool
 fn bit_at(bits: u32, selector: u8, worth: u32) -> u32
     ensures { λ r. ⌜ (r ≡ bitAt bits selector worth) × (r ≤ worth) ⌝ }
 {
-    if request::has_control(bits, selector) { worth } else { 0 }
+    if request::has_control(bits, selector) {
+        worth
+    } else {
+        0
+    }
 }
 
 // Only the five controls have bits: the number is the sum of theirs.

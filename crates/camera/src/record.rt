@@ -1,9 +1,9 @@
 // The camera record: the profile, the streaming flag, and for each control, of face authentication for each endpoint, the
 // last accepted setting or none.
+use crate::profile::Profile;
 use controls::Number;
 use controls::ev::Ev;
 use controls::throttle::Throttle;
-use crate::profile::Profile;
 ghost use mathlib.Core.Path.{_≡_};
 ghost use Rattle.camera.specs.Record.{fresh, withStreaming};
 

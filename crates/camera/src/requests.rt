@@ -1,5 +1,4 @@
 // Requests to the extension unit: document 01's nine tests, then a SET or a GET.
-use controls::Answer;
 use crate::calls::Outcome;
 use crate::profile::EV;
 use crate::profile::FACE;
@@ -11,6 +10,7 @@ use crate::record::Camera;
 use crate::setting::code_of;
 use crate::setting::item_at;
 use crate::setting::takes_of;
+use controls::Answer;
 ghost use mathlib.Core.Path.{_≡_};
 ghost use lib.ListN.{length};
 ghost use Rattle.request.specs.Setup.{wLengthOf};
@@ -74,7 +74,11 @@ impl Camera {
             return self.refuse(code);
         }
         let camera = self.take_all(selector, payload);
-        Outcome { code: 0, count: 0, camera }
+        Outcome {
+            code: 0,
+            count: 0,
+            camera,
+        }
     }
 
     // The full answer to a GET.

@@ -1,6 +1,4 @@
 // One setting: its tests, and the record with it.
-use controls::Item;
-use controls::Setting;
 use crate::profile::EV;
 use crate::profile::FACE;
 use crate::profile::HDR;
@@ -9,7 +7,9 @@ use crate::profile::Profile;
 use crate::profile::THROTTLE;
 use crate::profile::has_control;
 use crate::record::Camera;
+use controls::Item;
 use controls::Number;
+use controls::Setting;
 use controls::ev::Ev;
 use controls::throttle::Throttle;
 ghost use mathlib.Core.Path.{_≡_};
@@ -22,7 +22,10 @@ pub(crate) fn selector_of(s: Setting) -> u8
 {
     match s {
         Setting::Ev(_) => EV,
-        Setting::Face { address: _, flags: _ } => FACE,
+        Setting::Face {
+            address: _,
+            flags: _,
+        } => FACE,
         Setting::Metadata(_) => METADATA,
         Setting::Hdr(_) => HDR,
         Setting::Throttle(_) => THROTTLE,
@@ -140,14 +143,54 @@ impl Camera {
         let hdr = self.hdr;
         let throttle = self.throttle;
         match s {
-            Setting::Ev(e) => Camera { profile, streaming: self.streaming, ev: Ev::Held(e), face, metadata, hdr, throttle },
+            Setting::Ev(e) => Camera {
+                profile,
+                streaming: self.streaming,
+                ev: Ev::Held(e),
+                face,
+                metadata,
+                hdr,
+                throttle,
+            },
             Setting::Face { address, flags } => {
                 let next = with_flags(face, address, flags);
-                Camera { profile, streaming: self.streaming, ev, face: next, metadata, hdr, throttle }
+                Camera {
+                    profile,
+                    streaming: self.streaming,
+                    ev,
+                    face: next,
+                    metadata,
+                    hdr,
+                    throttle,
+                }
             }
-            Setting::Metadata(n) => Camera { profile, streaming: self.streaming, ev, face, metadata: Number::Held(n), hdr, throttle },
-            Setting::Hdr(n) => Camera { profile, streaming: self.streaming, ev, face, metadata, hdr: Number::Held(n), throttle },
-            Setting::Throttle(t) => Camera { profile, streaming: self.streaming, ev, face, metadata, hdr, throttle: Throttle::Held(t) },
+            Setting::Metadata(n) => Camera {
+                profile,
+                streaming: self.streaming,
+                ev,
+                face,
+                metadata: Number::Held(n),
+                hdr,
+                throttle,
+            },
+            Setting::Hdr(n) => Camera {
+                profile,
+                streaming: self.streaming,
+                ev,
+                face,
+                metadata,
+                hdr: Number::Held(n),
+                throttle,
+            },
+            Setting::Throttle(t) => Camera {
+                profile,
+                streaming: self.streaming,
+                ev,
+                face,
+                metadata,
+                hdr,
+                throttle: Throttle::Held(t),
+            },
         }
     }
 
@@ -171,7 +214,15 @@ impl Camera {
         let metadata = self.metadata;
         let hdr = self.hdr;
         let throttle = self.throttle;
-        Camera { profile, streaming: on, ev, face, metadata, hdr, throttle }
+        Camera {
+            profile,
+            streaming: on,
+            ev,
+            face,
+            metadata,
+            hdr,
+            throttle,
+        }
     }
 }
 

@@ -1,9 +1,9 @@
 // Writing a snapshot: a record for each setting held, in ascending order of the keys.
+use crate::calls::Outcome;
+use crate::record::Camera;
 use controls::Item;
 use controls::Setting;
 use controls::throttle::ThrottleLimits;
-use crate::calls::Outcome;
-use crate::record::Camera;
 use snapshot::KEYS;
 ghost use mathlib.Core.Path.{_≡_};
 ghost use Prim.Native.Nat.{_≤_};
@@ -59,7 +59,11 @@ fn record_of(s: Setting) -> Record
             frame(0x0D, &b)
         }
         Setting::Throttle(t) => {
-            let none = ThrottleLimits { minimum: 0, maximum: 0, step: 0 };
+            let none = ThrottleLimits {
+                minimum: 0,
+                maximum: 0,
+                step: 0,
+            };
             let b = controls::throttle::bytes(t, none);
             frame(0x0E, &b)
         }
@@ -71,8 +75,14 @@ fn record_held(held: Item) -> Record
     ensures { λ r. ⌜ r ≡ recordOf (rowHeld 0 (settingOf held)) ⌝ }
 {
     match held {
-        Item::Absent => Record { bytes: [0; 24], len: 0 },
-        Item::Refused(_) => Record { bytes: [0; 24], len: 0 },
+        Item::Absent => Record {
+            bytes: [0; 24],
+            len: 0,
+        },
+        Item::Refused(_) => Record {
+            bytes: [0; 24],
+            len: 0,
+        },
         Item::Given(s) => record_of(s),
     }
 }
@@ -110,6 +120,10 @@ impl Camera {
             return self.refuse(0x20);
         }
         let count = self.write_all(out);
-        Outcome { code: 0, count, camera: self }
+        Outcome {
+            code: 0,
+            count,
+            camera: self,
+        }
     }
 }

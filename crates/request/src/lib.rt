@@ -12,4 +12,5 @@ pub use setup::is_set_request;
 pub use setup::selector;
 pub use setup::wlength;
 pub use tests::Unit;
+pub use tests::has_control;
 pub use tests::refusal;

@@ -18,7 +18,7 @@ pub struct Unit {
 }
 
 // Whether the bit of a selector is set.
-fn has_control(bits: u32, selector: u8) -> bool
+pub fn has_control(bits: u32, selector: u8) -> bool
     ensures { λ r. ⌜ r ≡ hasControl bits selector ⌝ }
 {
     if selector == 0 {
