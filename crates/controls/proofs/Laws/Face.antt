@@ -22,7 +22,7 @@ use Rattle.controls.specs.declared.settings.Item.the-variants.{Refused, 
 use Rattle.controls.specs.declared.settings.Setting.the-variants as S
 use Rattle.controls.specs.Settings.{itemOf}
 use Rattle.controls.specs.Answers.{answerBy}
-use Rattle.controls.specs.Face.{endpoints, addressAt, offersAt, allBelow, offersValid, addressBefore, endpointValid, faceValid, offersFrom, offersOf, takesFace, entryAddress, entryFlags, seenIn, seenBefore, isChoice, faceRefusal, entryRefusal, faceItem, entryOf, heldAt, flagsAt, entriesOf, faceValue, faceAnswer}
+use Rattle.controls.specs.Face.{endpointLimit, endpoints, addressAt, offersAt, allBelow, offersValid, addressBefore, endpointValid, faceValid, offersFrom, offersOf, takesFace, entryAddress, entryFlags, seenIn, seenBefore, isChoice, faceRefusal, entryRefusal, faceItem, entryOf, heldAt, flagsAt, entriesOf, faceValue, faceAnswer}
 use Rattle.controls.proofs.Laws.Numbers.{number-bytes, bytes-byte}
 use Rattle.controls.proofs.Laws.Answers.{answer-len, answer-length}
 use Rattle.controls.proofs.Laws.Packed.{blank, overlay-next}
@@ -109,7 +109,7 @@ module _ (l : FaceLimits) (held : List ℕ) (code : ℕ) where
   length-entries zero = refl
   length-entries (suc n) = simp length-append (omega (arith, length-entries n))
 
-  pub entries-next : (m i : ℕ) (b : List ℕ) → i < 8 → b ≡ overlay blank 0 (m ∷ entriesOf l held code i) → overlay b (1 + 8 * i) (entryOf (addressAt l i) (flagsAt l held code i)) ≡ overlay blank 0 (m ∷ entriesOf l held code (i + 1))
+  pub entries-next : (m i : ℕ) (b : List ℕ) → i < endpointLimit → b ≡ overlay blank 0 (m ∷ entriesOf l held code i) → overlay b (1 + 8 * i) (entryOf (addressAt l i) (flagsAt l held code i)) ≡ overlay blank 0 (m ∷ entriesOf l held code (i + 1))
   unfolding entriesOf bytesOf
   entries-next m i b h e =
       let s = m ∷ entriesOf l held code i in
@@ -159,14 +159,14 @@ module _ (l : FaceLimits) (valid : faceValid l ≡ true) where
   unfolding faceValid
   count-least = leb-true 1 (l .count) (simp and-eq-true-iff at valid .0 .0)
 
-  pub count-most : l .count ≤ 8
+  pub count-most : l .count ≤ endpointLimit
   unfolding faceValid
-  count-most = leb-true (l .count) 8 (simp and-eq-true-iff at valid .0 .1)
+  count-most = leb-true (l .count) endpointLimit (simp and-eq-true-iff at valid .0 .1)
 
   place-valid : (i : ℕ) → i < l .count → (addressBefore l i < addressAt l i) × (addressAt l i ≤ 0x8F) × (2 ≤ offersAt l i) × (offersAt l i ≤ 5)
   unfolding faceValid endpointValid
   place-valid i h =
-      let v = all-at 8 (endpointValid l) (simp and-eq-true-iff at valid .1) i (omega (arith, count-most)) in
+      let v = all-at endpointLimit (endpointValid l) (simp and-eq-true-iff at valid .1) i (omega (arith, count-most)) in
       let w = simp and-eq-true-iff at (rw (lt-ltb i (l .count) h) at v) in
       let o = offers-between (offersAt l i) (w .1) in
       (ltb-true (addressBefore l i) (addressAt l i) (w .0 .0), leb-true (addressAt l i) 0x8F (w .0 .1), o .0, o .1)
