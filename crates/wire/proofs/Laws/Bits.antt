@@ -10,7 +10,6 @@ use lib.Dec.{eqb, ltb, lit<}
 use lib.ListN.{length}
 use lib.Count.{ones, ones-step, ones-ones, trailingZeros, under}
 use borrow.Author.Tests.{ltb-true, ltb-false, eqb-true, eqb-false, eq-eqb, ne-eqb}
-use Rattle.wire.specs.declared.flags.Choice.{Choice}
 use Rattle.wire.specs.declared.flags.Choice.the-variants.{At, Refused}
 use Rattle.wire.specs.Flags.{isSet, bitsOf, count, first, choiceOf}
 
