@@ -24,6 +24,7 @@ use Rattle.controls.specs.Settings.{itemOf}
 use Rattle.controls.specs.Answers.{answerBy}
 use Rattle.controls.specs.Face.{endpointLimit, endpoints, addressAt, offersAt, allBelow, offersValid, addressBefore, endpointValid, faceValid, offersFrom, offersOf, takesFace, entryAddress, entryFlags, seenIn, seenBefore, isChoice, faceRefusal, entryRefusal, faceItem, entryOf, heldAt, flagsAt, entriesOf, faceValue, faceAnswer}
 use Rattle.controls.proofs.Laws.Numbers.{number-bytes, bytes-byte}
+use Rattle.controls.proofs.Laws.Settings.{given-is}
 use Rattle.controls.proofs.Laws.Answers.{answer-len, answer-length}
 use Rattle.controls.proofs.Laws.Packed.{blank, overlay-next}
 
@@ -245,35 +246,36 @@ setting-given l address flags h known e = one-entry l address flags h ∙ rw (ne
     go true f = refl
     go false f = absurd (omega arith)
 
--- what an accepted entry gives: its own bytes, for a listed endpoint that offers its flags
+-- what an accepted entry gives: its own bytes, for a listed endpoint that no entry before it names and that offers its flags
 pub record Accepted (l : FaceLimits) (s : List ℕ) (i address flags : ℕ) : Type 0 where
   pub address-read : entryAddress s i ≡ address
   pub flags-read : entryFlags s i ≡ flags
   pub known : offersOf l address ≡ 0 → ⊥
+  pub new : seenBefore s i ≡ false
   pub sound : faceRefusal (offersOf l address) flags ≡ 0
 
-module _ (l : FaceLimits) (s : List ℕ) (i address flags : ℕ) where
-  abbrev offers : ℕ
-  offers = offersOf l (entryAddress s i)
+tests-passed : (a b c : Bool) → firstOf ((a ⇒ 0x04) ∷ (b ⇒ 0x08) ∷ (not c ⇒ 0x08) ∷ []) ≡ 0 → (a ≡ false) × (b ≡ false) × (c ≡ true)
+tests-passed true b c e = absurd (omega arith)
+tests-passed false true c e = absurd (omega arith)
+tests-passed false false false e = absurd (omega arith)
+tests-passed false false true e = (refl, refl, refl)
 
-  tested : (a b c : Bool) → eqb offers 0 ≡ a → isChoice (choiceOf offers (entryFlags s i)) ≡ c → itemOf (firstOf ((a ⇒ 0x04) ∷ (b ⇒ 0x08) ∷ (not c ⇒ 0x08) ∷ [])) (S.Face (entryAddress s i) (entryFlags s i)) ≡ Given (S.Face address flags) → Accepted l s i address flags
-  unfolding itemOf faceRefusal
-  tested false false true f g k =
-      let p : entryAddress s i ≡ address = cc in
-      let q : entryFlags s i ≡ flags = cc in
-      record {
-        address-read = p;
-        flags-read = q;
-        known = rw (← p) (eqb-false offers 0 f);
-        sound = rw (← p, ← q, g);
-      }
-  tested true b c f g k = let z : _≡_ {A = ℕ} 0 1 = cc in absurd (omega arith)
-  tested false true c f g k = let z : _≡_ {A = ℕ} 0 1 = cc in absurd (omega arith)
-  tested false false false f g k = let z : _≡_ {A = ℕ} 0 1 = cc in absurd (omega arith)
-
-  pub accepted : faceItem l s i ≡ Given (S.Face address flags) → Accepted l s i address flags
-  unfolding faceItem entryRefusal
-  accepted e = tested (eqb offers 0) (seenBefore s i) (isChoice (choiceOf offers (entryFlags s i))) refl refl e
+pub accepted : (l : FaceLimits) (s : List ℕ) (i address flags : ℕ) → faceItem l s i ≡ Given (S.Face address flags) → Accepted l s i address flags
+unfolding faceItem entryRefusal faceRefusal
+accepted l s i address flags e =
+    let offers = offersOf l (entryAddress s i) in
+    let g = given-is (entryRefusal l s i) (S.Face (entryAddress s i) (entryFlags s i)) (S.Face address flags) e in
+    let t = tests-passed (eqb offers 0) (seenBefore s i) (isChoice (choiceOf offers (entryFlags s i))) (g .0) in
+    let setting = g .1 in
+    let p : entryAddress s i ≡ address = cc in
+    let q : entryFlags s i ≡ flags = cc in
+    record {
+      address-read = p;
+      flags-read = q;
+      known = rw (← p) (eqb-false offers 0 (t .0));
+      new = t .1;
+      sound = rw (← p, ← q, t .2);
+    }
 
 -- a setting that a valid profile's endpoint offers is one of D0, D1 and D2
 module _ (l : FaceLimits) (valid : faceValid l ≡ true) (address flags : ℕ) (h : flags < 2 ^ 56) where
