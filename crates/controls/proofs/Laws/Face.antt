@@ -177,7 +177,7 @@ module _ (l : FaceLimits) (valid : faceValid l ≡ true) where
   above zero h = place-valid zero h .0
   above (suc i) h = omega (arith, above i (omega arith), place-valid (suc i) h .0)
 
-  place-listed : (i : ℕ) → i < l .count → Listed (addressAt l i) (offersAt l i)
+  pub place-listed : (i : ℕ) → i < l .count → Listed (addressAt l i) (offersAt l i)
   place-listed i h = let p = place-valid i h in record { first = above i h; last = p .1; least = p .2; most = p .3 }
 
   -- what a look-up finds is listed
@@ -203,7 +203,7 @@ module _ (l : FaceLimits) (valid : faceValid l ≡ true) where
       go false e = omega (arith, listed address (eqb-false (offersOf l address) 0 e) .most)
 
   -- addresses ascend, so that a place's offers are those of its address
-  ascends : (i j : ℕ) → i < j → j < l .count → addressAt l i < addressAt l j
+  pub ascends : (i j : ℕ) → i < j → j < l .count → addressAt l i < addressAt l j
   unfolding addressBefore
   ascends i zero h k = absurd (omega arith)
   ascends i (suc j) h k = go (eqb i j) refl (place-valid (suc j) k .0) (λ q. ascends i j q (omega arith))
@@ -304,12 +304,11 @@ accepted-small l s i address flags valid bytes e =
     setting-small l valid address flags h (a .sound)
 
 -- a setting put in at its address is held there, and every other address keeps its own
-module _ (held : List ℕ) (a b flags : ℕ) where
-  pub held-same : a - 0x81 < length held → heldAt (set held (a - 0x81) flags) a ≡ flags
-  held-same h = getD-set-same held (a - 0x81) flags 0 h
+pub held-same : (held : List ℕ) (address flags : ℕ) → address - 0x81 < length held → heldAt (set held (address - 0x81) flags) address ≡ flags
+held-same held address flags h = getD-set-same held (address - 0x81) flags 0 h
 
-  pub held-other : 0x81 ≤ a → 0x81 ≤ b → (b ≡ a → ⊥) → heldAt (set held (a - 0x81) flags) b ≡ heldAt held b
-  held-other h k p = getD-set-other held (a - 0x81) (b - 0x81) flags 0 (λ e. p (omega arith))
+pub held-other : (held : List ℕ) (address other flags : ℕ) → 0x81 ≤ address → 0x81 ≤ other → (other ≡ address → ⊥) → heldAt (set held (address - 0x81) flags) other ≡ heldAt held other
+held-other held address other flags h k p = getD-set-other held (address - 0x81) (other - 0x81) flags 0 (λ e. p (omega arith))
 
 -- while no setting is held CUR is DEF
 module _ (l : FaceLimits) (held : List ℕ) (none : (address : ℕ) → heldAt held address ≡ 0) where
