@@ -5,3 +5,4 @@ pub mod Settings
 pub mod Signed
 pub mod Ev
 pub mod Face
+pub mod Plain

@@ -49,16 +49,13 @@ pub fn item(l: MetadataLimits, payload: &[u8]) -> Item
 fn at(l: MetadataLimits, held: Number, code: u8) -> u32
     ensures { λ r. ⌜ r ≡ metadataAt l held code ⌝ }
 {
-    if code == 0x83 {
-        return l.maximum;
-    }
     if !l.writable {
         if code == 0x84 {
             return 0;
         }
         return l.maximum;
     }
-    if code == 0x84 {
+    if (code == 0x83) | (code == 0x84) {
         return l.maximum;
     }
     if code == 0x81 {
