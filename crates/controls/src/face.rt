@@ -1,5 +1,6 @@
 // Face authentication: a count n, then n entries of an endpoint's address and seven bytes of flags.
 use crate::answers::Answer;
+use crate::answers::LONGEST;
 use crate::answers::answer_by;
 use crate::settings::Item;
 use crate::settings::Setting;
@@ -7,7 +8,7 @@ use wire::Choice;
 ghost use mathlib.Core.Path.{_≡_};
 ghost use Prim.Native.Nat.{_<_, _≤_};
 ghost use Rattle.controls.specs.Answers.{packed};
-ghost use Rattle.controls.specs.Face.{endpoints, addressBefore, endpointValid, faceValid, offersOf, takesFace, seenBefore, faceRefusal, faceItem, defaultOf, heldAt, flagsAt, entryOf, faceValue, faceAnswer};
+ghost use Rattle.controls.specs.Face.{endpointLimit, endpoints, addressBefore, endpointValid, faceValid, offersOf, takesFace, seenBefore, faceRefusal, faceItem, defaultOf, heldAt, flagsAt, entryOf, faceValue, faceAnswer};
 
 // How many endpoints a profile may list.
 pub const ENDPOINTS: usize = 8;
@@ -15,19 +16,19 @@ pub const ENDPOINTS: usize = 8;
 // Endpoints in ascending order of their addresses, each with the flags that it offers; places behind the count are zero.
 pub struct FaceLimits {
     pub count: u8,
-    pub addresses: [u8; 8],
-    pub offers: [u8; 8],
+    pub addresses: [u8; ENDPOINTS],
+    pub offers: [u8; ENDPOINTS],
 }
 
 fn endpoints_of(l: FaceLimits) -> usize
-    ensures { λ r. ⌜ (r ≡ endpoints l) × (r ≤ 8) ⌝ }
+    ensures { λ r. ⌜ (r ≡ endpoints l) × (r ≤ endpointLimit) ⌝ }
 {
-    if l.count < 8 { l.count as usize } else { 8 }
+    wire::least(l.count as usize, ENDPOINTS)
 }
 
 // The address that place i's has to be above.
 fn address_before(l: FaceLimits, i: usize) -> u8
-    requires { ⌜ i < 8 ⌝ }
+    requires { ⌜ i < endpointLimit ⌝ }
     ensures { λ r. ⌜ r ≡ addressBefore l i ⌝ }
 {
     if i == 0 {
@@ -38,7 +39,7 @@ fn address_before(l: FaceLimits, i: usize) -> u8
 }
 
 fn endpoint_valid(l: FaceLimits, i: usize) -> bool
-    requires { ⌜ i < 8 ⌝ }
+    requires { ⌜ i < endpointLimit ⌝ }
     ensures { λ r. ⌜ r ≡ endpointValid l i ⌝ }
 {
     let address = l.addresses[i];
@@ -57,11 +58,11 @@ pub fn valid(l: FaceLimits) -> bool
 {
     let mut ok = true;
     let mut i = 0;
-    while i < 8 {
+    while i < ENDPOINTS {
         ok = ok & endpoint_valid(l, i);
         i += 1;
     }
-    (1 <= l.count) & (l.count <= 8) & ok
+    (1 <= l.count) & ((l.count as usize) <= ENDPOINTS) & ok
 }
 
 // The flags that the endpoint at an address offers; 0 where it isn't listed.
@@ -169,7 +170,7 @@ pub fn held_at(held: [u8; 15], address: u8) -> u8
 
 // The flags of place i in an answer that lists every endpoint.
 fn flags_at(l: FaceLimits, held: [u8; 15], code: u8, i: usize) -> u8
-    requires { ⌜ i < 8 ⌝ }
+    requires { ⌜ i < endpointLimit ⌝ }
     ensures { λ r. ⌜ r ≡ flagsAt l held code i ⌝ }
 {
     let offers = l.offers[i];
@@ -190,7 +191,7 @@ fn flags_at(l: FaceLimits, held: [u8; 15], code: u8, i: usize) -> u8
 fn value(l: FaceLimits, held: [u8; 15], code: u8) -> Answer
     ensures { λ r. ⌜ r ≡ packed (faceValue l held code) ⌝ }
 {
-    let mut bytes = [0u8; 65];
+    let mut bytes = [0u8; LONGEST];
     if (code == 0x82) | (code == 0x84) {
         return Answer { bytes, len: 1 };
     }

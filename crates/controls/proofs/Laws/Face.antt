@@ -22,8 +22,9 @@ use Rattle.controls.specs.declared.settings.Item.the-variants.{Refused, 
 use Rattle.controls.specs.declared.settings.Setting.the-variants as S
 use Rattle.controls.specs.Settings.{itemOf}
 use Rattle.controls.specs.Answers.{answerBy}
-use Rattle.controls.specs.Face.{endpoints, addressAt, offersAt, allBelow, offersValid, addressBefore, endpointValid, faceValid, offersFrom, offersOf, takesFace, entryAddress, entryFlags, seenIn, seenBefore, isChoice, faceRefusal, entryRefusal, faceItem, entryOf, heldAt, flagsAt, entriesOf, faceValue, faceAnswer}
+use Rattle.controls.specs.Face.{endpointLimit, endpoints, addressAt, offersAt, allBelow, offersValid, addressBefore, endpointValid, faceValid, offersFrom, offersOf, takesFace, entryAddress, entryFlags, seenIn, seenBefore, isChoice, faceRefusal, entryRefusal, faceItem, entryOf, heldAt, flagsAt, entriesOf, faceValue, faceAnswer}
 use Rattle.controls.proofs.Laws.Numbers.{number-bytes, bytes-byte}
+use Rattle.controls.proofs.Laws.Settings.{given-is}
 use Rattle.controls.proofs.Laws.Answers.{answer-len, answer-length}
 use Rattle.controls.proofs.Laws.Packed.{blank, overlay-next}
 
@@ -109,7 +110,7 @@ module _ (l : FaceLimits) (held : List ℕ) (code : ℕ) where
   length-entries zero = refl
   length-entries (suc n) = simp length-append (omega (arith, length-entries n))
 
-  pub entries-next : (m i : ℕ) (b : List ℕ) → i < 8 → b ≡ overlay blank 0 (m ∷ entriesOf l held code i) → overlay b (1 + 8 * i) (entryOf (addressAt l i) (flagsAt l held code i)) ≡ overlay blank 0 (m ∷ entriesOf l held code (i + 1))
+  pub entries-next : (m i : ℕ) (b : List ℕ) → i < endpointLimit → b ≡ overlay blank 0 (m ∷ entriesOf l held code i) → overlay b (1 + 8 * i) (entryOf (addressAt l i) (flagsAt l held code i)) ≡ overlay blank 0 (m ∷ entriesOf l held code (i + 1))
   unfolding entriesOf bytesOf
   entries-next m i b h e =
       let s = m ∷ entriesOf l held code i in
@@ -159,14 +160,14 @@ module _ (l : FaceLimits) (valid : faceValid l ≡ true) where
   unfolding faceValid
   count-least = leb-true 1 (l .count) (simp and-eq-true-iff at valid .0 .0)
 
-  pub count-most : l .count ≤ 8
+  pub count-most : l .count ≤ endpointLimit
   unfolding faceValid
-  count-most = leb-true (l .count) 8 (simp and-eq-true-iff at valid .0 .1)
+  count-most = leb-true (l .count) endpointLimit (simp and-eq-true-iff at valid .0 .1)
 
   place-valid : (i : ℕ) → i < l .count → (addressBefore l i < addressAt l i) × (addressAt l i ≤ 0x8F) × (2 ≤ offersAt l i) × (offersAt l i ≤ 5)
   unfolding faceValid endpointValid
   place-valid i h =
-      let v = all-at 8 (endpointValid l) (simp and-eq-true-iff at valid .1) i (omega (arith, count-most)) in
+      let v = all-at endpointLimit (endpointValid l) (simp and-eq-true-iff at valid .1) i (omega (arith, count-most)) in
       let w = simp and-eq-true-iff at (rw (lt-ltb i (l .count) h) at v) in
       let o = offers-between (offersAt l i) (w .1) in
       (ltb-true (addressBefore l i) (addressAt l i) (w .0 .0), leb-true (addressAt l i) 0x8F (w .0 .1), o .0, o .1)
@@ -176,7 +177,7 @@ module _ (l : FaceLimits) (valid : faceValid l ≡ true) where
   above zero h = place-valid zero h .0
   above (suc i) h = omega (arith, above i (omega arith), place-valid (suc i) h .0)
 
-  place-listed : (i : ℕ) → i < l .count → Listed (addressAt l i) (offersAt l i)
+  pub place-listed : (i : ℕ) → i < l .count → Listed (addressAt l i) (offersAt l i)
   place-listed i h = let p = place-valid i h in record { first = above i h; last = p .1; least = p .2; most = p .3 }
 
   -- what a look-up finds is listed
@@ -202,7 +203,7 @@ module _ (l : FaceLimits) (valid : faceValid l ≡ true) where
       go false e = omega (arith, listed address (eqb-false (offersOf l address) 0 e) .most)
 
   -- addresses ascend, so that a place's offers are those of its address
-  ascends : (i j : ℕ) → i < j → j < l .count → addressAt l i < addressAt l j
+  pub ascends : (i j : ℕ) → i < j → j < l .count → addressAt l i < addressAt l j
   unfolding addressBefore
   ascends i zero h k = absurd (omega arith)
   ascends i (suc j) h k = go (eqb i j) refl (place-valid (suc j) k .0) (λ q. ascends i j q (omega arith))
@@ -245,35 +246,36 @@ setting-given l address flags h known e = one-entry l address flags h ∙ rw (ne
     go true f = refl
     go false f = absurd (omega arith)
 
--- what an accepted entry gives: its own bytes, for a listed endpoint that offers its flags
+-- what an accepted entry gives: its own bytes, for a listed endpoint that no entry before it names and that offers its flags
 pub record Accepted (l : FaceLimits) (s : List ℕ) (i address flags : ℕ) : Type 0 where
   pub address-read : entryAddress s i ≡ address
   pub flags-read : entryFlags s i ≡ flags
   pub known : offersOf l address ≡ 0 → ⊥
+  pub new : seenBefore s i ≡ false
   pub sound : faceRefusal (offersOf l address) flags ≡ 0
 
-module _ (l : FaceLimits) (s : List ℕ) (i address flags : ℕ) where
-  abbrev offers : ℕ
-  offers = offersOf l (entryAddress s i)
+tests-passed : (a b c : Bool) → firstOf ((a ⇒ 0x04) ∷ (b ⇒ 0x08) ∷ (not c ⇒ 0x08) ∷ []) ≡ 0 → (a ≡ false) × (b ≡ false) × (c ≡ true)
+tests-passed true b c e = absurd (omega arith)
+tests-passed false true c e = absurd (omega arith)
+tests-passed false false false e = absurd (omega arith)
+tests-passed false false true e = (refl, refl, refl)
 
-  tested : (a b c : Bool) → eqb offers 0 ≡ a → isChoice (choiceOf offers (entryFlags s i)) ≡ c → itemOf (firstOf ((a ⇒ 0x04) ∷ (b ⇒ 0x08) ∷ (not c ⇒ 0x08) ∷ [])) (S.Face (entryAddress s i) (entryFlags s i)) ≡ Given (S.Face address flags) → Accepted l s i address flags
-  unfolding itemOf faceRefusal
-  tested false false true f g k =
-      let p : entryAddress s i ≡ address = cc in
-      let q : entryFlags s i ≡ flags = cc in
-      record {
-        address-read = p;
-        flags-read = q;
-        known = rw (← p) (eqb-false offers 0 f);
-        sound = rw (← p, ← q, g);
-      }
-  tested true b c f g k = let z : _≡_ {A = ℕ} 0 1 = cc in absurd (omega arith)
-  tested false true c f g k = let z : _≡_ {A = ℕ} 0 1 = cc in absurd (omega arith)
-  tested false false false f g k = let z : _≡_ {A = ℕ} 0 1 = cc in absurd (omega arith)
-
-  pub accepted : faceItem l s i ≡ Given (S.Face address flags) → Accepted l s i address flags
-  unfolding faceItem entryRefusal
-  accepted e = tested (eqb offers 0) (seenBefore s i) (isChoice (choiceOf offers (entryFlags s i))) refl refl e
+pub accepted : (l : FaceLimits) (s : List ℕ) (i address flags : ℕ) → faceItem l s i ≡ Given (S.Face address flags) → Accepted l s i address flags
+unfolding faceItem entryRefusal faceRefusal
+accepted l s i address flags e =
+    let offers = offersOf l (entryAddress s i) in
+    let g = given-is (entryRefusal l s i) (S.Face (entryAddress s i) (entryFlags s i)) (S.Face address flags) e in
+    let t = tests-passed (eqb offers 0) (seenBefore s i) (isChoice (choiceOf offers (entryFlags s i))) (g .0) in
+    let setting = g .1 in
+    let p : entryAddress s i ≡ address = cc in
+    let q : entryFlags s i ≡ flags = cc in
+    record {
+      address-read = p;
+      flags-read = q;
+      known = rw (← p) (eqb-false offers 0 (t .0));
+      new = t .1;
+      sound = rw (← p, ← q, t .2);
+    }
 
 -- a setting that a valid profile's endpoint offers is one of D0, D1 and D2
 module _ (l : FaceLimits) (valid : faceValid l ≡ true) (address flags : ℕ) (h : flags < 2 ^ 56) where
@@ -302,12 +304,11 @@ accepted-small l s i address flags valid bytes e =
     setting-small l valid address flags h (a .sound)
 
 -- a setting put in at its address is held there, and every other address keeps its own
-module _ (held : List ℕ) (a b flags : ℕ) where
-  pub held-same : a - 0x81 < length held → heldAt (set held (a - 0x81) flags) a ≡ flags
-  held-same h = getD-set-same held (a - 0x81) flags 0 h
+pub held-same : (held : List ℕ) (address flags : ℕ) → address - 0x81 < length held → heldAt (set held (address - 0x81) flags) address ≡ flags
+held-same held address flags h = getD-set-same held (address - 0x81) flags 0 h
 
-  pub held-other : 0x81 ≤ a → 0x81 ≤ b → (b ≡ a → ⊥) → heldAt (set held (a - 0x81) flags) b ≡ heldAt held b
-  held-other h k p = getD-set-other held (a - 0x81) (b - 0x81) flags 0 (λ e. p (omega arith))
+pub held-other : (held : List ℕ) (address other flags : ℕ) → 0x81 ≤ address → 0x81 ≤ other → (other ≡ address → ⊥) → heldAt (set held (address - 0x81) flags) other ≡ heldAt held other
+held-other held address other flags h k p = getD-set-other held (address - 0x81) (other - 0x81) flags 0 (λ e. p (omega arith))
 
 -- while no setting is held CUR is DEF
 module _ (l : FaceLimits) (held : List ℕ) (none : (address : ℕ) → heldAt held address ≡ 0) where

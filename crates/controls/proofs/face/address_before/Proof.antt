@@ -1,7 +1,7 @@
 use mathlib.Core.Path.{ap, sym}
+use borrow.Author.Needs.{needs}
 use Rattle.controls.specs.Face.{addressBefore}
 use Rattle.controls.proofs.Laws.Face.{before-next}
-use borrow.Author.Needs.{needs}
 use Rattle.controls.proofs.face.address_before.Statement.{statement}
 use Rattle.controls.proofs.face.address_before.Tie as tie
 

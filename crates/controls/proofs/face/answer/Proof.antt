@@ -1,11 +1,11 @@
 use mathlib.Core.Path.{ap₂, _∙_}
 use mathlib.Core.List.{List}
 use Prim.Native.Nat.{ℕ, _+_, _*_}
+use borrow.Author.Needs.{needs}
 use Rattle.controls.specs.Answers.{answerBy, packed}
 use Rattle.controls.specs.Face.{faceAnswer, faceValue}
 use Rattle.controls.proofs.Laws.Packed.{unpack-room, unpack, unpack-length}
 use Rattle.controls.proofs.Laws.Face.{value-length}
-use borrow.Author.Needs.{needs}
 use Rattle.controls.proofs.face.answer.Statement.{statement}
 use Rattle.controls.proofs.face.answer.Tie as tie
 

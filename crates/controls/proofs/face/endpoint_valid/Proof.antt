@@ -1,6 +1,6 @@
 use borrow.Author.Tests.{lt-ltb, le-ltb}
-use Rattle.controls.specs.Face.{endpointValid}
 use borrow.Author.Needs.{needs}
+use Rattle.controls.specs.Face.{endpointValid}
 use Rattle.controls.proofs.face.endpoint_valid.Statement.{statement}
 use Rattle.controls.proofs.face.endpoint_valid.Tie as tie
 

@@ -1,7 +1,7 @@
 use mathlib.Core.Path.{sym, _∙_}
 use borrow.Author.Tests.{eq-eqb, ne-eqb}
-use Rattle.controls.specs.Face.{flagsAt}
 use borrow.Author.Needs.{needs}
+use Rattle.controls.specs.Face.{flagsAt}
 use Rattle.controls.proofs.face.flags_at.Statement.{statement}
 use Rattle.controls.proofs.face.flags_at.Tie as tie
 

@@ -1,6 +1,6 @@
 use mathlib.Core.Path.{_≡_, sym, ap}
-use native.Mathlib.Omega.{arith}
 use Prim.Native.Nat.{ℕ, _-_}
+use native.Mathlib.Omega.{arith}
 use lib.ListN.{getD, List·getD-eq-default}
 use borrow.Author.Needs.{needs}
 use Rattle.controls.proofs.face.held_at.Statement.{statement}

@@ -1,8 +1,8 @@
-use native.Mathlib.Omega.{arith}
 use mathlib.Core.Path.{sym, _∙_}
-use Rattle.controls.proofs.Laws.Face.{item-unlisted, item-seen, item-flags, item-given}
-use Rattle.wire.proofs.Laws.Bits.{chosen-below}
+use native.Mathlib.Omega.{arith}
 use borrow.Author.Needs.{needs}
+use Rattle.wire.proofs.Laws.Bits.{chosen-below}
+use Rattle.controls.proofs.Laws.Face.{item-unlisted, item-seen, item-flags, item-given}
 use Rattle.controls.proofs.face.item.Statement.{statement}
 use Rattle.controls.proofs.face.item.Tie as tie
 

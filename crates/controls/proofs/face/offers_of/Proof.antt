@@ -1,9 +1,8 @@
-use Rattle.controls.specs.Face.{endpoints}
 use mathlib.Core.Path.{_≡_, ap, sym, _∙_}
 use Prim.Native.Nat.{ℕ, _≤_, _-_}
 use native.Mathlib.Omega.{arith}
 use borrow.Author.Needs.{needs}
-use Rattle.controls.specs.Face.{offersFrom, offersOf}
+use Rattle.controls.specs.Face.{endpoints, offersFrom, offersOf}
 use Rattle.controls.proofs.Laws.Face.{offers-here, offers-next}
 use Rattle.controls.proofs.face.offers_of.Statement.{statement}
 use Rattle.controls.proofs.face.offers_of.Tie as tie

@@ -1,6 +1,6 @@
 use mathlib.Core.Path.{sym, _∙_}
-use Rattle.controls.proofs.Laws.Face.{refusal-none, refusal-flags}
 use borrow.Author.Needs.{needs}
+use Rattle.controls.proofs.Laws.Face.{refusal-none, refusal-flags}
 use Rattle.controls.proofs.face.refusal.Statement.{statement}
 use Rattle.controls.proofs.face.refusal.Tie as tie
 

@@ -1,9 +1,9 @@
 use mathlib.Core.Path.{_≡_, refl, ap, ap₂, sym, _∙_}
-use Prim.Native.Nat.{_≤_, _-_, _+_}
 use mathlib.Core.Bool.{_||_}
+use Prim.Native.Nat.{_≤_, _-_, _+_}
 use native.Mathlib.Omega.{arith}
-use borrow.Author.Needs.{needs}
 use lib.Dec.{eqb}
+use borrow.Author.Needs.{needs}
 use Rattle.controls.specs.Face.{seenIn}
 use Rattle.controls.proofs.Laws.Face.{seen-next}
 use Rattle.controls.proofs.face.seen_before.Statement.{statement}

@@ -1,7 +1,7 @@
 use mathlib.Core.Path.{sym, _∙_}
 use borrow.Author.Tests.{le-leb, lt-leb}
-use Rattle.controls.proofs.Laws.Face.{takes-empty, takes-first}
 use borrow.Author.Needs.{needs}
+use Rattle.controls.proofs.Laws.Face.{takes-empty, takes-first}
 use Rattle.controls.proofs.face.takes.Statement.{statement}
 use Rattle.controls.proofs.face.takes.Tie as tie
 

@@ -1,11 +1,11 @@
-use Rattle.wire.proofs.Laws.Overlay.{same-length}
 use mathlib.Core.Path.{_≡_, refl, ap, sym, _∙_}
 use mathlib.Core.List.{_∷_}
 use Prim.Native.Nat.{ℕ, _≤_, _-_, _+_, _*_}
 use native.Mathlib.Omega.{arith}
-use borrow.Author.Needs.{needs}
 use lib.ListN.{length}
+use borrow.Author.Needs.{needs}
 use Rattle.wire.specs.Overlay.{overlay}
+use Rattle.wire.proofs.Laws.Overlay.{same-length}
 use Rattle.controls.specs.Answers.{packed}
 use Rattle.controls.specs.Face.{addressAt, entryOf, flagsAt, entriesOf, faceValue}
 use Rattle.controls.proofs.Laws.Packed.{blank, pack-is}
