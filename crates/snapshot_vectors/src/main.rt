@@ -1,5 +1,8 @@
 // Runs the snapshot's calls and writes what they answer: every form fault at the first, a middle and the last record, the order of
 // records, the keys, and merges of overlapping, disjoint, empty, malformed and full snapshots.
+ghost use mathlib.Core.Path.{_≡_};
+ghost use lib.ListN.{length};
+
 const STDOUT: i32 = 1;
 
 fn text(s: &[u8]) {
@@ -17,6 +20,13 @@ fn hex(n: u8) {
 fn item(n: usize) {
     text(b" ");
     number(n);
+}
+
+// 250 bytes 0xee. (Only the length is promised: lending them needs no more.)
+fn blank() -> [u8; 250]
+    ensures { λ r. ⌜ 250 ≡ length r ⌝ }
+{
+    [0xEE; 250]
 }
 
 // All bytes, in hex.
@@ -54,7 +64,7 @@ fn form(name: &[u8], place: &[u8], s: &[u8]) {
 
 // The form of a, b and c, one behind the other.
 fn joined(name: &[u8], place: &[u8], a: &[u8], b: &[u8], c: &[u8]) {
-    let mut buf = [0u8; 96];
+    let mut buf = blank();
     if 32 < a.len() {
         return;
     }
@@ -112,7 +122,7 @@ fn answer(name: &[u8], first: &[u8], second: &[u8], out: &mut [u8]) {
 
 // A merge into so much room, which is 0xee before.
 fn merge(name: &[u8], first: &[u8], second: &[u8], room: usize) {
-    let mut out = [0xEEu8; 250];
+    let mut out = blank();
     if room <= 250 {
         answer(name, first, second, &mut out[..room]);
     }

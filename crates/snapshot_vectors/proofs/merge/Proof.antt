@@ -5,6 +5,9 @@ use borrow.Author.Needs.{needs}
 use Rattle.snapshot_vectors.proofs.merge.Statement.{statement}
 use Rattle.snapshot_vectors.proofs.merge.Tie as tie
 
+blank-requires : tie.Need-blank-requires
+blank-requires c κs = search needs
+
 array-borrow-prefix-out : tie.Need-array-borrow-prefix-out
 array-borrow-prefix-out c = search needs
 
@@ -23,4 +26,10 @@ returns-2 c = search needs
 pub merge-spec : {M : Type 1} → statement M
 merge-spec =
     tie.close
-    (tie.spec array-borrow-prefix-out slice-aggregate-answer answer-requires returns returns-2)
+    (tie.spec
+    blank-requires
+    array-borrow-prefix-out
+    slice-aggregate-answer
+    answer-requires
+    returns
+    returns-2)
