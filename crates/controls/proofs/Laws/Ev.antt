@@ -58,22 +58,21 @@ module _ (l : EvLimits) (flags : ℕ) (v : ℤ) where
     unfolding evRefusal refusalAt
     accepted r = rw (e, r)
 
-  -- what is accepted is one flag, and a value in range of its step
-  module _ (h : evRefusal l flags v ≡ 0) where
-    taken : (x : Choice) → refusalAt l v x ≡ 0 → (place : ℕ) × ((x ≡ At place) × (inRange l (divisor place) v ≡ true))
-    unfolding refusalAt
-    taken Refused e = absurd (omega arith)
-    taken (At place) e = (place, (refl, go (inRange l (divisor place) v) e))
-      where
-        go : (b : Bool) → _≡_ {A = ℕ} (cond b 0 0x04) 0 → b ≡ true
-        go true f = refl
-        go false f = absurd (omega arith)
+  taken : (x : Choice) → refusalAt l v x ≡ 0 → (place : ℕ) × ((x ≡ At place) × (inRange l (divisor place) v ≡ true))
+  unfolding refusalAt
+  taken Refused e = absurd (omega arith)
+  taken (At place) e = (place, (refl, go (inRange l (divisor place) v) e))
+    where
+      go : (b : Bool) → _≡_ {A = ℕ} (cond b 0 0x04) 0 → b ≡ true
+      go true f = refl
+      go false f = absurd (omega arith)
 
+  -- what is accepted is one flag, of the low byte, and a value in range at its step
+  module _ (h : evRefusal l flags v ≡ 0) where
     pub accepts : (place : ℕ) × ((choiceOf (l .steps) flags ≡ At place) × (inRange l (divisor place) v ≡ true))
     unfolding evRefusal
     accepts = taken (choiceOf (l .steps) flags) h
 
-    -- and the flag is of the low byte
     pub accepted-below : l .steps < 256 → flags < 2 ^ 56 → flags < 256
     accepted-below s g = chosen-below 8 (l .steps) flags (accepts .0) s g (accepts .1 .0)
 
@@ -127,7 +126,8 @@ module _ (s : EvSetting) (h : s .flags < 256) (f : SFits w32 (s .value)) where
   pub ev-value : evValue (evBytes s) ≡ s .value
   unfolding evBytes bytesOf
   ev-value =
-      let e : leAt 4 (evBytes s) 7 ≡ bits32 (s .value) = second-part (bytesOf 7 (s .flags)) (bytesOf 4 (bits32 (s .value))) ∙ number-bytes 4 (bits32 (s .value)) (bits-below (s .value) f) in
+      let n = bits32 (s .value) in
+      let e : leAt 4 (evBytes s) 7 ≡ n = second-part (bytesOf 7 (s .flags)) (bytesOf 4 n) ∙ number-bytes 4 n (bits-below (s .value) f) in
       ap signed32 e ∙ signed-bits (s .value) f
 
   pub ev-read : (l : EvLimits) → evItem l (evBytes s) ≡ itemOf (evRefusal l (s .flags) (s .value)) (S.Ev s)

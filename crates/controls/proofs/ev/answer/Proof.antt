@@ -22,8 +22,9 @@ answer-by-requires c κs = search needs
 returns : tie.Need-returns
 unfolding evAnswer
 returns c =
-    c .answer-by .ensures
-    ∙ ap (λ (s : List ℕ). packed (answerBy (c .before .before .before .before .args .code) 11 0x13 s)) (c .before .before .bytes .ensures ∙ ap evBytes (c .before .before .before .at .ensures))
+    let b = c .before .before in
+    let code = b .before .before .args .code in
+    c .answer-by .ensures ∙ ap (λ (s : List ℕ). packed (answerBy code 11 0x13 s)) (b .bytes .ensures ∙ ap evBytes (b .before .at .ensures))
 
 pub answer-spec : {M : Type 1} → statement M
 answer-spec =

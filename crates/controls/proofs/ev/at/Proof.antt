@@ -51,8 +51,9 @@ returns-5 c =
 returns-6 : tie.Need-returns-6
 unfolding evAt
 returns-6 c =
-    let code = c .before .before .before .before .args .code in
-    rw (ne-eqb code 0x82 (c .before .before .before .if1 .left), ne-eqb code 0x83 (c .before .before .if2 .left), ne-eqb code 0x84 (c .before .if3 .left), ne-eqb code 0x81 (c .if4 .left))
+    let b = c .before in
+    let code = b .before .before .before .args .code in
+    rw (ne-eqb code 0x82 (b .before .before .if1 .left), ne-eqb code 0x83 (b .before .if2 .left), ne-eqb code 0x84 (b .if3 .left), ne-eqb code 0x81 (c .if4 .left))
 
 pub at-spec : {M : Type 1} → statement M
 at-spec =

@@ -1,8 +1,7 @@
 use mathlib.Core.Path.{_≡_, ap, ap₂, sym, _∙_}
 use mathlib.Core.Bool.{true}
 use Prim.Native.Nat.{ℕ, _/_, _<_}
-use native.Mathlib.Nat.{div-le-self}
-use native.Mathlib.Omega.{arith}
+use native.Mathlib.Nat.{div-le-self, lt-of-le-of-lt}
 use lib.Dec.{lit<}
 use lib.IntN.{ℤ, pos, _*ℤ_}
 use lib.Signed.{mag}
@@ -93,7 +92,7 @@ div-result : tie.Need-div-result
 div-result c = rw (c .before .before .before .divisor-of .ensures) (divisor-pos (place (c .before)))
 
 cast-result : tie.Need-cast-result
-cast-result c = omega (arith, div-le-self unitsPerStop (c .before .before .before .divisor-of .result))
+cast-result c = record { sfits = lt-of-le-of-lt (div-le-self _ _) (lit< tt) }
 
 mul-result : tie.Need-mul-result
 mul-result c = times-fits (c .before .before)
