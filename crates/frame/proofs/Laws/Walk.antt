@@ -1,0 +1,119 @@
+-- Laws of the walk over a block: what is left to walk comes to what the whole comes to. Assumes nothing.
+use Prim.Native.Nat.{ℕ, zero, suc, _+_, _-_, _≤_, _<_}
+use mathlib.Core.Path.{_≡_, refl, sym, ap, ap₂, _∙_}
+use mathlib.Core.List.{List, [], _∷_}
+use mathlib.Core.Bool.{Bool, true, false}
+use native.Mathlib.Omega.{arith}
+use native.Mathlib.Numerals.{add-one}
+use lib.ListN.{length, take, drop, length-take, length-drop}
+use lib.Seq.{drop-drop}
+use borrow.Author.Tests.{eq-eqb, ne-eqb, lt-ltb, le-ltb}
+use Rattle.frame.specs.declared.items.Head.{Head}
+use Rattle.frame.specs.declared.items.Head.the-variants.{Bad, Whole}
+use Rattle.frame.specs.declared.items.Found.{Found}
+use Rattle.frame.specs.declared.items.Survey.{Survey}
+use Rattle.frame.specs.Codes.{noItem}
+use Rattle.frame.specs.Items.{Item, Finding, refused, sound, headOf, _before_, follow, itemsFrom, itemsOf}
+use Rattle.frame.specs.Answers.{refusedWith, itemAt}
+use Rattle.frame.specs.Steps.{surveyOf, stoppedAt, pass, over, onward}
+use Rattle.frame.proofs.Laws.Heads.{Within, within-of}
+use Rattle.frame.proofs.Laws.Fuel.{nothing-left, one-then}
+
+-- one item is passed
+pub pass-hit : (k at n : ℕ) (found : Found) (id len : ℕ) → n ≡ k → _≡_ {A = Found} (record { code = 0; id = id; payload = record { at = at + 8; len = len } }) (pass k at n found id len)
+unfolding pass
+pass-hit k at n found id len e = simp (eq-eqb _ _ e)
+
+pub pass-by : (k at n : ℕ) (found : Found) (id len : ℕ) → (n ≡ k → ⊥) → found ≡ pass k at n found id len
+unfolding pass
+pass-by k at n found id len e = simp (ne-eqb _ _ e)
+
+-- what a walk over these items comes to, once item k was found, and while it is looked for
+abbrev Ends : Survey → ℕ → Found → Type 0
+Ends s n found = s ≡ record { counted = record { code = 0; items = n }; found = found }
+
+over-after : (k at n : ℕ) (found : Found) (is : List Item) → k < n → Ends (over k at n found is) (n + length is) found
+unfolding over
+over-after k at n found [] h = ap (λ (m : ℕ). record { counted = record { code = 0; items = m }; found = found }) (omega arith)
+over-after k at n found (i ∷ is) h =
+    let next = over-after k (at + (8 + length (i .payload))) (suc n) found is (omega arith) in
+    let m : suc n + length is ≡ n + suc (length is) = omega arith in
+    rw (← (pass-by k at n found (i .id) (length (i .payload)) (omega arith))) (rw m at next)
+
+over-before : (k j at n : ℕ) (is : List Item) → k ≡ n + j → Ends (over k at n (refusedWith noItem) is) (n + length is) (itemAt at j is)
+unfolding over itemAt
+over-before k j at n [] h = ap (λ (m : ℕ). record { counted = record { code = 0; items = m }; found = refusedWith noItem }) (omega arith)
+over-before k zero at n (i ∷ is) h =
+    let here : Found = record { code = 0; id = i .id; payload = record { at = at + 8; len = length (i .payload) } } in
+    let next = over-after k (at + (8 + length (i .payload))) (suc n) here is (omega arith) in
+    let m : suc n + length is ≡ n + suc (length is) = omega arith in
+    rw (← (pass-hit k at n (refusedWith noItem) (i .id) (length (i .payload)) (omega arith))) (rw m at next)
+over-before k (suc j) at n (i ∷ is) h =
+    let next = over-before k j (at + (8 + length (i .payload))) (suc n) is (omega arith) in
+    let m : suc n + length is ≡ n + suc (length is) = omega arith in
+    rw (← (pass-by k at n (refusedWith noItem) (i .id) (length (i .payload)) (omega arith))) (rw m at next)
+
+-- what is left to walk comes to what the whole comes to
+abbrev pub Left : (k at n : ℕ) → Found → List ℕ → Type 0
+Left k at n found s = onward k at n found (itemsFrom (drop at s)) ≡ surveyOf k (itemsFrom s)
+
+-- nothing is passed yet, and nothing found
+pub begins : (k : ℕ) (found : Found) (s : List ℕ) → found ≡ refusedWith noItem → Left k 0 0 found s
+unfolding onward
+begins k found s e = rw e (go (itemsFrom s))
+  where
+    go : (f : Finding) → onward k 0 0 (refusedWith noItem) f ≡ surveyOf k f
+    go (refused code) = refl
+    go (sound is) =
+        let m : 0 + length is ≡ length is = omega arith in
+        rw m at (over-before k k 0 0 is (omega arith))
+
+onward-before : (k at n : ℕ) (found : Found) (i : Item) (f : Finding)
+    → onward k at n found (i before f) ≡ onward k (at + (8 + length (i .payload))) (suc n) (pass k at n found (i .id) (length (i .payload))) f
+unfolding onward over
+onward-before k at n found i (refused code) = refl
+onward-before k at n found i (sound is) = refl
+
+-- the longest block
+pub too-long : (k : ℕ) (s : List ℕ) → 65535 < length s → stoppedAt 0x43 ≡ surveyOf k (itemsOf s)
+unfolding itemsOf
+too-long k s h = simp (lt-ltb _ _ h)
+
+short-enough : (s : List ℕ) → length s ≤ 65535 → itemsFrom s ≡ itemsOf s
+unfolding itemsOf
+short-enough s h = simp (le-ltb _ _ h)
+
+module _ (k at n : ℕ) (found : Found) (s : List ℕ) (short : length s ≤ 65535) (left : Left k at n found s) where
+  comes-to : (w : Survey) → w ≡ onward k at n found (itemsFrom (drop at s)) → w ≡ surveyOf k (itemsOf s)
+  comes-to w e = e ∙ left ∙ ap (surveyOf k) (short-enough s short)
+
+  pub ends : length s ≤ at → _≡_ {A = Survey} (record { counted = record { code = 0; items = n }; found = found }) (surveyOf k (itemsOf s))
+  unfolding onward over
+  ends l = comes-to _ (rw (nothing-left (drop at s) (simp length-drop (omega arith))))
+
+  -- the item at `at` by itself, as it was read
+  module _ (rest : List ℕ) (h : Head) (r : rest ≡ drop at s) (e : h ≡ headOf rest) (l : at < length s) where
+    here : itemsFrom (drop at s) ≡ follow itemsFrom (drop at s) h
+    here = one-then (drop at s) (simp length-drop (omega arith)) ∙ ap (follow itemsFrom (drop at s)) (ap headOf (sym r) ∙ sym e)
+
+    pub stops : (code : ℕ) → h ≡ Bad code → stoppedAt code ≡ surveyOf k (itemsOf s)
+    unfolding onward
+    stops code g = comes-to (stoppedAt code) (rw (here, g))
+
+    module _ (id size : ℕ) (g : h ≡ Whole id size) where
+      pub inside : (8 ≤ size) × (at + size ≤ length s)
+      inside =
+          let w : Within (length rest) (Whole id size) = rw g at (within-of rest h e) in
+          let m : length rest ≡ length s - at = ap length r ∙ length-drop at s in
+          omega arith
+
+      pub goes-on : (next : Found) → next ≡ pass k at n found id (size - 8) → Left k (at + size) (n + 1) next s
+      goes-on next f =
+          let i = inside in
+          let it : Item = record { id = id; payload = take (size - 8) (drop 8 (drop at s)) } in
+          let behind : Finding = itemsFrom (drop size (drop at s)) in
+          let m : length (it .payload) ≡ size - 8 = simp (length-take, length-drop) (omega arith) in
+          let a : at + (8 + length (it .payload)) ≡ at + size = omega arith in
+          let one = ap (onward k at n found) (here ∙ ap (follow itemsFrom (drop at s)) g) ∙ onward-before k at n found it behind in
+          let on = one ∙ ap₂ (λ (x y : ℕ). onward k x (suc n) (pass k at n found id y) behind) a m in
+          rw (f, add-one, ← drop-drop) (sym on ∙ left)
