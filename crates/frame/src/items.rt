@@ -17,6 +17,9 @@ ghost use Rattle.frame.specs.Steps.{pass, stoppedAt, surveyOf};
 // The most bytes a block may have.
 pub const LONGEST_BLOCK: usize = 65535;
 
+// The bytes of an item's id and size, which stand before its payload and count in its size.
+pub(crate) const ITEM_HEADER: usize = 8;
+
 // An item's id and the place of its payload, with code 0; or a refusal, with id 0 and an empty part.
 pub struct Found {
     pub code: u8,
@@ -30,14 +33,14 @@ pub struct Counted {
     pub items: usize,
 }
 
-// One item by itself: its refusal, or its id and its size with the 8 bytes of its header.
-pub enum Head {
+// One item by itself: its refusal, or its id and its size.
+pub(crate) enum Head {
     Bad(u8),
     Whole(u32, usize),
 }
 
 // What one walk over a block finds: how many items, and the one asked for.
-pub struct Survey {
+pub(crate) struct Survey {
     pub counted: Counted,
     pub found: Found,
 }
@@ -46,7 +49,7 @@ pub struct Survey {
 fn first_item(rest: &[u8]) -> Head
     ensures { λ r. ⌜ r ≡ headOf (now (rest .entry)) ⌝ }
 {
-    if rest.len() < 8 {
+    if rest.len() < ITEM_HEADER {
         return Head::Bad(TRUNCATED);
     }
     let id = wire::le32(rest, 0);
@@ -54,7 +57,7 @@ fn first_item(rest: &[u8]) -> Head
         return Head::Bad(UNKNOWN_ID);
     }
     let size = wire::le32(rest, 4) as usize;
-    if size < 8 {
+    if size < ITEM_HEADER {
         return Head::Bad(SHORT_SIZE);
     }
     if rest.len() < size {
@@ -93,8 +96,8 @@ fn passed(found: Found, k: usize, n: usize, id: u32, at: usize, size: usize) -> 
             code: ACCEPTED,
             id,
             payload: Part {
-                at: at + 8,
-                len: size - 8,
+                at: at + ITEM_HEADER,
+                len: size - ITEM_HEADER,
             },
         };
     }

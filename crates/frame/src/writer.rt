@@ -4,7 +4,7 @@ use crate::codes::NO_ROOM;
 use crate::codes::TOO_LONG;
 use crate::codes::UNKNOWN_ID;
 use crate::ids::known;
-use crate::items::LONGEST_BLOCK;
+use crate::items::{ITEM_HEADER, LONGEST_BLOCK};
 ghost use mathlib.Core.Path.{_≡_};
 ghost use Prim.Native.Nat.{_+_, _≤_};
 ghost use lib.ListN.{length};
@@ -30,7 +30,7 @@ fn refusal(room: usize, at: usize, id: u32, len: usize) -> u8
     if LONGEST_BLOCK < len {
         return TOO_LONG;
     }
-    let end = at + 8 + len;
+    let end = at + ITEM_HEADER + len;
     if LONGEST_BLOCK < end {
         return TOO_LONG;
     }
@@ -45,10 +45,10 @@ fn put_item(buf: &mut [u8], at: usize, id: u32, payload: &[u8])
     requires { ⌜ (at + 8 + length (now payload) ≤ 65535) × (at + 8 + length (now payload) ≤ length (now buf)) ⌝ }
     ensures { λ _. ⌜ now (buf .exit) ≡ overlay (now (buf .entry)) at (itemBytes id (now (payload .entry))) ⌝ }
 {
-    let size = 8 + payload.len();
+    let size = ITEM_HEADER + payload.len();
     wire::put32(buf, at, id);
     wire::put32(buf, at + 4, size as u32);
-    wire::copy(buf, at + 8, payload);
+    wire::copy(buf, at + ITEM_HEADER, payload);
 }
 
 // Puts the item with this id and payload at a place of the buffer. Only the item's bytes change.
@@ -63,6 +63,6 @@ pub fn append(buf: &mut [u8], at: usize, id: u32, payload: &[u8]) -> Appended
     put_item(buf, at, id, payload);
     Appended {
         code: ACCEPTED,
-        end: at + 8 + payload.len(),
+        end: at + ITEM_HEADER + payload.len(),
     }
 }

@@ -1,6 +1,6 @@
 -- One item by itself: which row of its table answers, and what a sound one says of its bytes. Assumes nothing.
 use Prim.Native.Nat.{ℕ, _≤_, _<_}
-use mathlib.Core.Path.{_≡_, refl}
+use mathlib.Core.Path.{_≡_, refl, sym}
 use mathlib.Core.List.{List}
 use mathlib.Core.Bool.{Bool, true, false, not, cond}
 use native.Mathlib.Omega.{arith}
@@ -39,27 +39,37 @@ module _ (s : List ℕ) where
     unfolding headOf refusal
     head-whole size e b c d = simp (i, e, le-ltb _ _ a, is true b, le-ltb (sizeOf s) 8 (omega arith), le-ltb (length s) (sizeOf s) (omega arith))
 
--- what a head says of bytes of which there are so many
-abbrev pub Within : ℕ → Head → Type 0
-Within n (Bad code) = code ≡ 0 → ⊥
-Within n (Whole id size) = (8 ≤ size) × (size ≤ n) × (isKnown id ≡ true)
+-- none of the tests of the item that s begins with held
+pub record Sound (s : List ℕ) (id size : ℕ) : Type 0 where
+  pub known : isKnown id ≡ true
+  pub long : 8 ≤ size
+  pub inside : size ≤ length s
+  pub its-id : id ≡ idOf s
+  pub its-size : size ≡ sizeOf s
 
-pub within : (s : List ℕ) → Within (length s) (headOf s)
+-- what a head says of the bytes that it was read from
+abbrev pub Says : List ℕ → Head → Type 0
+Says s (Bad code) = code ≡ 0 → ⊥
+Says s (Whole id size) = Sound s id size
+
+pub says : (s : List ℕ) → Says s (headOf s)
 unfolding headOf refusal
-within s = go (eqb (refusal s) 0) refl
+says s = go (eqb (refusal s) 0) refl
   where
-    tests : refusal s ≡ 0 → Within (length s) (Whole (idOf s) (sizeOf s))
+    tests : refusal s ≡ 0 → Sound s (idOf s) (sizeOf s)
     tests e =
         let a = passes (ltb (length s) 8) 0x40 _ (omega arith) e in
         let b = passes (not (isKnown (idOf s))) 0x41 _ (omega arith) (a .1) in
         let c = passes (ltb (sizeOf s) 8) 0x42 _ (omega arith) (b .1) in
         let d = passes (ltb (length s) (sizeOf s)) 0x40 _ (omega arith) (c .1) in
-        (ltb-false _ _ (c .0), ltb-false _ _ (d .0), not-false _ (b .0))
+        record { known = not-false _ (b .0); long = ltb-false _ _ (c .0); inside = ltb-false _ _ (d .0); its-id = refl; its-size = refl }
 
-    go : (b : Bool) → eqb (refusal s) 0 ≡ b → Within (length s) (cond b (Whole (idOf s) (sizeOf s)) (Bad (refusal s)))
+    go : (b : Bool) → eqb (refusal s) 0 ≡ b → Says s (cond b (Whole (idOf s) (sizeOf s)) (Bad (refusal s)))
     go true e = tests (eqb-true _ _ e)
     go false e = eqb-false _ _ e
 
--- of a head that was read
-pub within-of : (s : List ℕ) (h : Head) → h ≡ headOf s → Within (length s) h
-within-of s h e = rw e (within s)
+pub sound-head : (s : List ℕ) (id size : ℕ) → headOf s ≡ Whole id size → Sound s id size
+sound-head s id size e = rw e at (says s)
+
+pub head-of : (s : List ℕ) (id size : ℕ) → Sound s id size → headOf s ≡ Whole id size
+head-of s id size h = sym (head-whole s id true (omega arith) (h .its-id) (sym (h .known)) size (h .its-size) refl (h .long) (h .inside))

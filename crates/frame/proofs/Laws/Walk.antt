@@ -16,7 +16,7 @@ use Rattle.frame.specs.Codes.{noItem}
 use Rattle.frame.specs.Items.{Item, Finding, refused, sound, headOf, _before_, follow, itemsFrom, itemsOf}
 use Rattle.frame.specs.Answers.{refusedWith, itemAt}
 use Rattle.frame.specs.Steps.{surveyOf, stoppedAt, pass, over, onward}
-use Rattle.frame.proofs.Laws.Heads.{Within, within-of}
+use Rattle.frame.proofs.Laws.Heads.{sound-head}
 use Rattle.frame.proofs.Laws.Fuel.{nothing-left, one-then}
 
 -- one item is passed
@@ -83,37 +83,48 @@ short-enough : (s : List ℕ) → length s ≤ 65535 → itemsFrom s ≡ itemsOf
 unfolding itemsOf
 short-enough s h = simp (le-ltb _ _ h)
 
-module _ (k at n : ℕ) (found : Found) (s : List ℕ) (short : length s ≤ 65535) (left : Left k at n found s) where
-  comes-to : (w : Survey) → w ≡ onward k at n found (itemsFrom (drop at s)) → w ≡ surveyOf k (itemsOf s)
-  comes-to w e = e ∙ left ∙ ap (surveyOf k) (short-enough s short)
+comes-to : (k at n : ℕ) (found : Found) (s : List ℕ) (w : Survey) → length s ≤ 65535 → Left k at n found s
+    → w ≡ onward k at n found (itemsFrom (drop at s)) → w ≡ surveyOf k (itemsOf s)
+comes-to k at n found s w short left e = e ∙ left ∙ ap (surveyOf k) (short-enough s short)
 
-  pub ends : length s ≤ at → _≡_ {A = Survey} (record { counted = record { code = 0; items = n }; found = found }) (surveyOf k (itemsOf s))
-  unfolding onward over
-  ends l = comes-to _ (rw (nothing-left (drop at s) (simp length-drop (omega arith))))
+pub ends : (k at n : ℕ) (found : Found) (s : List ℕ) → length s ≤ 65535 → Left k at n found s → length s ≤ at
+    → _≡_ {A = Survey} (record { counted = record { code = 0; items = n }; found = found }) (surveyOf k (itemsOf s))
+unfolding onward over
+ends k at n found s short left l = comes-to k at n found s _ short left (rw (nothing-left (drop at s) (simp length-drop (omega arith))))
 
-  -- the item at `at` by itself, as it was read
-  module _ (rest : List ℕ) (h : Head) (r : rest ≡ drop at s) (e : h ≡ headOf rest) (l : at < length s) where
-    here : itemsFrom (drop at s) ≡ follow itemsFrom (drop at s) h
-    here = one-then (drop at s) (simp length-drop (omega arith)) ∙ ap (follow itemsFrom (drop at s)) (ap headOf (sym r) ∙ sym e)
+-- the walk stands at `at`, and this is the item there
+pub record Meets (k at n : ℕ) (found : Found) (s : List ℕ) (h : Head) : Type 0 where
+  pub short : length s ≤ 65535
+  pub left : Left k at n found s
+  pub ahead : at < length s
+  pub head : headOf (drop at s) ≡ h
 
-    pub stops : (code : ℕ) → h ≡ Bad code → stoppedAt code ≡ surveyOf k (itemsOf s)
-    unfolding onward
-    stops code g = comes-to (stoppedAt code) (rw (here, g))
+pub meets : (k at n : ℕ) (found : Found) (s rest : List ℕ) (g h : Head) → length s ≤ 65535 → Left k at n found s → at < length s
+    → rest ≡ drop at s → g ≡ headOf rest → g ≡ h → Meets k at n found s h
+meets k at n found s rest g h short left l r e f = record { short = short; left = left; ahead = l; head = ap headOf (sym r) ∙ sym e ∙ f }
 
-    module _ (id size : ℕ) (g : h ≡ Whole id size) where
-      pub inside : (8 ≤ size) × (at + size ≤ length s)
-      inside =
-          let w : Within (length rest) (Whole id size) = rw g at (within-of rest h e) in
-          let m : length rest ≡ length s - at = ap length r ∙ length-drop at s in
-          omega arith
+module _ (k at n : ℕ) (found : Found) (s : List ℕ) where
+  here : (h : Head) → Meets k at n found s h → itemsFrom (drop at s) ≡ follow itemsFrom (drop at s) h
+  here h m = one-then (drop at s) (simp length-drop (omega arith)) ∙ ap (follow itemsFrom (drop at s)) (m .head)
 
-      pub goes-on : (next : Found) → next ≡ pass k at n found id (size - 8) → Left k (at + size) (n + 1) next s
-      goes-on next f =
-          let i = inside in
-          let it : Item = record { id = id; payload = take (size - 8) (drop 8 (drop at s)) } in
-          let behind : Finding = itemsFrom (drop size (drop at s)) in
-          let m : length (it .payload) ≡ size - 8 = simp (length-take, length-drop) (omega arith) in
-          let a : at + (8 + length (it .payload)) ≡ at + size = omega arith in
-          let one = ap (onward k at n found) (here ∙ ap (follow itemsFrom (drop at s)) g) ∙ onward-before k at n found it behind in
-          let on = one ∙ ap₂ (λ (x y : ℕ). onward k x (suc n) (pass k at n found id y) behind) a m in
-          rw (f, add-one, ← drop-drop) (sym on ∙ left)
+  pub stops : (code : ℕ) → Meets k at n found s (Bad code) → stoppedAt code ≡ surveyOf k (itemsOf s)
+  unfolding onward
+  stops code m = comes-to k at n found s (stoppedAt code) (m .short) (m .left) (rw (here (Bad code) m))
+
+  module _ (id size : ℕ) (m : Meets k at n found s (Whole id size)) where
+    pub inside : (8 ≤ size) × (at + size ≤ length s)
+    inside =
+        let w = sound-head (drop at s) id size (m .head) in
+        let r : size ≤ length s - at = rw length-drop at (w .inside) in
+        omega arith
+
+    pub goes-on : (next : Found) → next ≡ pass k at n found id (size - 8) → Left k (at + size) (n + 1) next s
+    goes-on next f =
+        let i = inside in
+        let it : Item = record { id = id; payload = take (size - 8) (drop 8 (drop at s)) } in
+        let behind : Finding = itemsFrom (drop size (drop at s)) in
+        let len : length (it .payload) ≡ size - 8 = simp (length-take, length-drop) (omega arith) in
+        let end : at + (8 + length (it .payload)) ≡ at + size = omega arith in
+        let one = ap (onward k at n found) (here (Whole id size) m) ∙ onward-before k at n found it behind in
+        let on = one ∙ ap₂ (λ (x y : ℕ). onward k x (suc n) (pass k at n found id y) behind) end len in
+        rw (f, add-one, ← drop-drop) (sym on ∙ m .left)

@@ -1,5 +1,7 @@
 -- `walk` meets its contract: what is left to walk comes to what the whole comes to. Assumes nothing.
-use Rattle.frame.proofs.Laws.Walk.{Left, begins, too-long, stops, inside, goes-on, ends}
+use Rattle.frame.proofs.Laws.Walk.{Left, begins, too-long, ends, Meets, meets, stops, inside, goes-on}
+use Rattle.frame.specs.declared.items.Head.the-variants.{Bad, Whole}
+use denote.Ref.{now}
 use Prim.Native.Nat.{_-_, _≤_}
 use mathlib.Core.Path.{_∙_}
 use lib.ListN.{length}
@@ -13,6 +15,15 @@ Inv-loop block k at₀ n₀ found₀ at n found = (at ≤ length block) × (n �
 
 abbrev μ-loop : tie.MeasureT-loop
 μ-loop block k at₀ n₀ found₀ at n found = length block - at
+
+-- the item that was read, by what is known once the match has told which it is
+fault-here : (c : tie.After-known-told Inv-loop μ-loop)
+    → Meets (c .before .before .before .before .before .before .before .before .before .before .args .k) (c .before .before .before .before .before .before .loop .at) (c .before .before .before .before .before .before .loop .n) (c .before .before .before .before .before .before .loop .found) (now (c .before .before .before .before .before .before .before .before .before .before .args .block)) (Bad (c .before .code .given .0 .0))
+fault-here c = meets _ _ _ _ _ _ _ _ (omega arith) (c .before .before .before .before .before .before .loop .inv .2) (omega arith) (c .before .before .before .before .tail .ensures) (c .before .before .before .first-item .ensures) (c .before .code .given .1)
+
+item-here : (c : tie.After-known-told2 Inv-loop μ-loop)
+    → Meets (c .before .before .before .before .before .before .before .before .before .before .args .k) (c .before .before .before .before .before .before .loop .at) (c .before .before .before .before .before .before .loop .n) (c .before .before .before .before .before .before .loop .found) (now (c .before .before .before .before .before .before .before .before .before .before .args .block)) (Whole (c .before .id .given .0 .0) (c .before .id .given .0 .1 .0))
+item-here c = meets _ _ _ _ _ _ _ _ (omega arith) (c .before .before .before .before .before .before .loop .inv .2) (omega arith) (c .before .before .before .before .tail .ensures) (c .before .before .before .first-item .ensures) (c .before .id .given .1)
 
 stopped-requires : tie.Need-stopped-requires Inv-loop μ-loop
 stopped-requires c κs = search needs
@@ -39,25 +50,25 @@ stopped-requires-2 : tie.Need-stopped-requires-2 Inv-loop μ-loop
 stopped-requires-2 c κs = search needs
 
 returns-2 : tie.Need-returns-2 Inv-loop μ-loop
-returns-2 c = c .stopped2 .ensures ∙ stops _ _ _ _ _ (omega arith) (c .before .before .before .before .before .before .before .loop .inv .2) _ _ (c .before .before .before .before .before .tail .ensures) (c .before .before .before .before .first-item .ensures) (omega arith) _ (c .before .before .code .given .1)
+returns-2 c = c .stopped2 .ensures ∙ stops _ _ _ _ _ _ (fault-here (c .before))
 
 enum-known-id : tie.Need-enum-known-id Inv-loop μ-loop
 enum-known-id c = search needs
 
 passed-requires : tie.Need-passed-requires Inv-loop μ-loop
-passed-requires c κs = omega (arith, inside _ _ _ _ _ (omega arith) (c .before .before .before .before .before .before .loop .inv .2) _ _ (c .before .before .before .before .tail .ensures) (c .before .before .before .first-item .ensures) (omega arith) _ _ (c .before .id .given .1))
+passed-requires c κs = omega (arith, inside _ _ _ _ _ _ _ (item-here c))
 
 add-at : tie.Need-add-at Inv-loop μ-loop
-add-at c = omega (arith, inside _ _ _ _ _ (omega arith) (c .before .before .before .before .before .before .before .loop .inv .2) _ _ (c .before .before .before .before .before .tail .ensures) (c .before .before .before .before .first-item .ensures) (omega arith) _ _ (c .before .before .id .given .1))
+add-at c = omega (arith, inside _ _ _ _ _ _ _ (item-here (c .before)))
 
 add-n : tie.Need-add-n Inv-loop μ-loop
-add-n c = omega (arith, inside _ _ _ _ _ (omega arith) (c .before .before .before .before .before .before .before .loop .inv .2) _ _ (c .before .before .before .before .before .tail .ensures) (c .before .before .before .before .first-item .ensures) (omega arith) _ _ (c .before .before .id .given .1))
+add-n c = omega (arith, inside _ _ _ _ _ _ _ (item-here (c .before)))
 
 loop-less : tie.Need-loop-less Inv-loop μ-loop
-loop-less c = omega (arith, inside _ _ _ _ _ (omega arith) (c .before .before .before .before .before .before .before .loop .inv .2) _ _ (c .before .before .before .before .before .tail .ensures) (c .before .before .before .before .first-item .ensures) (omega arith) _ _ (c .before .before .id .given .1))
+loop-less c = omega (arith, inside _ _ _ _ _ _ _ (item-here (c .before)))
 
 loop-again : tie.Need-loop-again Inv-loop μ-loop
-loop-again c = let i = inside _ _ _ _ _ (omega arith) (c .before .before .before .before .before .before .before .loop .inv .2) _ _ (c .before .before .before .before .before .tail .ensures) (c .before .before .before .before .first-item .ensures) (omega arith) _ _ (c .before .before .id .given .1) in (omega arith, omega arith, goes-on _ _ _ _ _ (omega arith) (c .before .before .before .before .before .before .before .loop .inv .2) _ _ (c .before .before .before .before .before .tail .ensures) (c .before .before .before .before .first-item .ensures) (omega arith) _ _ (c .before .before .id .given .1) _ (c .passed .ensures))
+loop-again c = let i = inside _ _ _ _ _ _ _ (item-here (c .before)) in (omega arith, omega arith, goes-on _ _ _ _ _ _ _ (item-here (c .before)) _ (c .passed .ensures))
 
 returns-3 : tie.Need-returns-3 Inv-loop μ-loop
 returns-3 c = ends _ _ _ _ _ (omega arith) (c .before .loop .inv .2) (omega arith)
