@@ -43,14 +43,23 @@ unfoldable pub headOf : List ℕ → Head
 headOf s = cond (eqb (refusal s) 0) (Whole (idOf s) (sizeOf s)) (Bad (refusal s))
 
 -- one item in front of what the bytes behind it hold
-infixr 30 _before_
+infixr 30 _before_ _then_
 abbrev pub _before_ : Item → Finding → Finding
 i before refused code = refused code
 i before sound is = sound (i ∷ is)
 
+-- items in front of what the bytes behind them hold
+abbrev pub _then_ : List Item → Finding → Finding
+[] then f = f
+(i ∷ is) then f = i before (is then f)
+
+-- the item of this id and size that bytes begin with
+abbrev pub itemIn : List ℕ → ℕ → ℕ → Item
+itemIn s id size = record { id = id; payload = take (size - 8) (drop 8 s) }
+
 abbrev pub follow : (List ℕ → Finding) → List ℕ → Head → Finding
 follow rest s (Bad code) = refused code
-follow rest s (Whole id size) = record { id = id; payload = take (size - 8) (drop 8 s) } before rest (drop size s)
+follow rest s (Whole id size) = itemIn s id size before rest (drop size s)
 
 -- the items of the rest of a block: none in no bytes, else one and those behind it. n only bounds the recursion: as many as there are
 -- bytes is enough, and more change nothing (`proofs/Laws/Fuel.antt`, enough)

@@ -8,3 +8,4 @@ pub mod Answers
 pub mod Steps
 pub mod Writer
 pub mod Packet
+pub mod Calls

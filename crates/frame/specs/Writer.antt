@@ -10,10 +10,16 @@ use Rattle.frame.specs.declared.writer.Appended.{Appended}
 use Rattle.frame.specs.Codes.{unknownId, tooLong, noRoom, longestBlock}
 use Rattle.frame.specs.Rows.{_⇒_, firstOf}
 use Rattle.frame.specs.Ids.{isKnown}
+use Rattle.frame.specs.Items.{Item}
 
 -- id, size of the whole item, payload
 unfoldable pub itemBytes : ℕ → List ℕ → List ℕ
 itemBytes id payload = bytesOf 4 id ++ bytesOf 4 (8 + length payload) ++ payload
+
+-- items one behind the other
+unfoldable pub layout : List Item → List ℕ
+layout [] = []
+layout (i ∷ is) = itemBytes (i .id) (i .payload) ++ layout is
 
 -- where an item of so many payload bytes at `at` ends; a sum of numbers without bound, which nothing wraps
 abbrev pub endOf : ℕ → ℕ → ℕ

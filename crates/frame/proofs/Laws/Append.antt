@@ -2,12 +2,12 @@
 use Prim.Native.Nat.{ℕ, _+_, _≤_, _<_}
 use mathlib.Core.Path.{_≡_, refl, sym, ap, ap₂, _∙_}
 use mathlib.Core.List.{List, _++_, append-assoc}
-use mathlib.Core.Bool.{Bool, true, false, not}
+use mathlib.Core.Bool.{Bool, true, false, not, cond}
 use native.Mathlib.Omega.{arith}
 use lib.ListN.{length, take, drop, length-append, length-take}
 use lib.Seq.{take-at, drop-append-add, drop-drop, drop-at}
-use lib.Dec.{ltb}
-use borrow.Author.Tests.{lt-ltb, le-ltb, ltb-false, eq-eqb, ne-eqb, not-false}
+use lib.Dec.{ltb, eqb}
+use borrow.Author.Tests.{lt-ltb, le-ltb, ltb-false, eq-eqb, ne-eqb, eqb-true, not-false}
 use Rattle.wire.specs.Number.{bytesOf}
 use Rattle.wire.specs.Overlay.{overlay}
 use Rattle.wire.proofs.Laws.Overlay.{fits, same-length}
@@ -54,6 +54,15 @@ module _ (room at id len : ℕ) where
   pub reports : appendRefusal room at id len ≡ 0 → _≡_ {A = Appended} (record { code = 0; end = endOf at len }) (appendedOf room at id len)
   unfolding appendedOf
   reports e = simp (eq-eqb _ _ e)
+
+  pub accepts : appendedOf room at id len .code ≡ 0 → appendRefusal room at id len ≡ 0
+  unfolding appendedOf
+  accepts = go (eqb (appendRefusal room at id len) 0) refl
+    where
+      go : (b : Bool) → eqb (appendRefusal room at id len) 0 ≡ b
+          → cond {A = Appended} b (record { code = 0; end = endOf at len }) (record { code = appendRefusal room at id len; end = 0 }) .code ≡ 0 → appendRefusal room at id len ≡ 0
+      go true t e = eqb-true _ _ t
+      go false t e = e
 
 module _ (buf : List ℕ) (at id : ℕ) (payload : List ℕ) where
   pub leaves : (appendRefusal (length buf) at id (length payload) ≡ 0 → ⊥) → buf ≡ writtenOf buf at id payload

@@ -9,7 +9,7 @@ use lib.Dec.{ltb}
 use borrow.Author.Tests.{ltb-true, le-ltb, lt-ltb}
 use Rattle.frame.specs.declared.items.Head.{Head}
 use Rattle.frame.specs.declared.items.Head.the-variants.{Bad, Whole}
-use Rattle.frame.specs.Items.{Item, Finding, sound, headOf, _before_, follow, itemsIn, itemsFrom}
+use Rattle.frame.specs.Items.{Item, Finding, sound, headOf, _before_, follow, itemsIn, itemsFrom, itemIn}
 use Rattle.frame.proofs.Laws.Heads.{Says, says}
 
 none : (n : ℕ) (s : List ℕ) → length s ≤ 0 → itemsIn n s ≡ sound []
@@ -21,7 +21,7 @@ none (suc n) s h = simp (le-ltb _ _ h)
 same : (f g : List ℕ → Finding) (s : List ℕ) (h : Head) → Says s h → ((t : List ℕ) → length t < length s → f t ≡ g t) → follow f s h ≡ follow g s h
 same f g s (Bad code) w k = refl
 same f g s (Whole id size) w k =
-    ap (λ (r : Finding). record { id = id; payload = take (size - 8) (drop 8 s) } before r) (k (drop size s) (simp length-drop (omega (arith, w .long, w .inside))))
+    ap (λ (r : Finding). itemIn s id size before r) (k (drop size s) (simp length-drop (omega (arith, w .long, w .inside))))
 
 pub enough : (n m : ℕ) (s : List ℕ) → length s ≤ n → length s ≤ m → itemsIn n s ≡ itemsIn m s
 unfolding itemsIn

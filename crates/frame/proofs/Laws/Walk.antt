@@ -13,7 +13,7 @@ use Rattle.frame.specs.declared.items.Head.the-variants.{Bad, Whole}
 use Rattle.frame.specs.declared.items.Found.{Found}
 use Rattle.frame.specs.declared.items.Survey.{Survey}
 use Rattle.frame.specs.Codes.{noItem}
-use Rattle.frame.specs.Items.{Item, Finding, refused, sound, headOf, _before_, follow, itemsFrom, itemsOf}
+use Rattle.frame.specs.Items.{Item, Finding, refused, sound, headOf, _before_, follow, itemsFrom, itemsOf, itemIn}
 use Rattle.frame.specs.Answers.{refusedWith, itemAt}
 use Rattle.frame.specs.Steps.{surveyOf, stoppedAt, pass, over, onward}
 use Rattle.frame.proofs.Laws.Heads.{sound-head}
@@ -79,7 +79,7 @@ pub too-long : (k : ℕ) (s : List ℕ) → 65535 < length s → stoppedAt 0x43 
 unfolding itemsOf
 too-long k s h = simp (lt-ltb _ _ h)
 
-short-enough : (s : List ℕ) → length s ≤ 65535 → itemsFrom s ≡ itemsOf s
+pub short-enough : (s : List ℕ) → length s ≤ 65535 → itemsFrom s ≡ itemsOf s
 unfolding itemsOf
 short-enough s h = simp (le-ltb _ _ h)
 
@@ -121,7 +121,7 @@ module _ (k at n : ℕ) (found : Found) (s : List ℕ) where
     pub goes-on : (next : Found) → next ≡ pass k at n found id (size - 8) → Left k (at + size) (n + 1) next s
     goes-on next f =
         let i = inside in
-        let it : Item = record { id = id; payload = take (size - 8) (drop 8 (drop at s)) } in
+        let it = itemIn (drop at s) id size in
         let behind : Finding = itemsFrom (drop size (drop at s)) in
         let len : length (it .payload) ≡ size - 8 = simp (length-take, length-drop) (omega arith) in
         let end : at + (8 + length (it .payload)) ≡ at + size = omega arith in
