@@ -1,20 +1,17 @@
 -- The owner's demands on frame metadata and packets, over the definitions that the functions' promises name.
-use Prim.Native.Nat.{ℕ, zero, suc, _+_, _^_, _≤_, _<_}
-use mathlib.Core.Path.{_≡_, refl, sym, ap, ap₂, _∙_}
+use Prim.Native.Nat.{ℕ, _+_, _^_, _≤_, _<_}
+use mathlib.Core.Path.{_≡_, refl, sym, ap, _∙_}
 use mathlib.Core.List.{List, [], _∷_, _++_}
-use mathlib.Core.Bool.{Bool, true, false, cond}
 use native.Mathlib.Omega.{arith}
-use lib.ListN.{length, take, drop, getD, length-append, List·getD-append}
-use lib.Dec.{eqb, ltb}
-use borrow.Author.Tests.{eqb-true, eqb-false}
+use lib.ListN.{length, take, getD, length-append, List·getD-append}
 use Rattle.wire.proofs.Laws.Numbers.{Bytes}
 use Rattle.frame.specs.declared.items.Found.{Found}
 use Rattle.frame.specs.Codes.{noItem}
 use Rattle.frame.specs.Parts.{bytesAt}
-use Rattle.frame.specs.Items.{Item, Finding, refused, sound, itemsFrom, itemsOf}
+use Rattle.frame.specs.Items.{Item, Finding, refused, sound, itemsOf}
 use Rattle.frame.specs.Answers.{refusedWith, itemAt, foundIn, itemOf, countOf, payloadOf}
-use Rattle.frame.specs.Writer.{itemBytes, layout, appendRefusal, appendedOf, writtenOf}
-use Rattle.frame.specs.Packet.{lengthOf, flagsOf, fieldsLength, headerRefusal, headerOf, metadataOf}
+use Rattle.frame.specs.Writer.{layout, appendedOf, writtenOf}
+use Rattle.frame.specs.Packet.{headerOf, metadataOf}
 use Rattle.frame.proofs.Laws.Walk.{short-enough}
 use Rattle.frame.proofs.Laws.Located.{absent, located, there, not-there}
 use Rattle.frame.proofs.Laws.Layout.{Good, reads-all, written-again}

@@ -1,13 +1,12 @@
 -- Worked rows, computed from the definitions: document 01's item rows first.
 use Prim.Native.Nat.{ℕ}
 use mathlib.Core.Path.{_≡_, refl}
-use mathlib.Core.List.{List, [], _∷_, _++_, map}
+use mathlib.Core.List.{List, [], _∷_, map}
 use Rattle.wire.specs.Number.{number, leAt, bytesOf}
 use Rattle.wire.specs.Flags.{isSet}
 use Rattle.wire.specs.Overlay.{overlay}
-use Rattle.frame.specs.declared.packet.PayloadHeader.{PayloadHeader}
 use Rattle.frame.specs.Ids.{isKnown}
-use Rattle.frame.specs.Items.{Finding, refused, sound, refusal, headOf, itemsIn, itemsFrom, itemsOf}
+use Rattle.frame.specs.Items.{refused, sound, refusal, headOf, itemsIn, itemsFrom, itemsOf}
 use Rattle.frame.specs.Writer.{itemBytes, appendRefusal, writtenOf}
 use Rattle.frame.specs.Packet.{headerRefusal, headerOf, refusedHeader}
 

@@ -5,15 +5,15 @@ use mathlib.Core.List.{List, [], _∷_, _++_, append-nil}
 use mathlib.Core.Bool.{Bool, true, false, cond}
 use native.Mathlib.Omega.{arith}
 use lib.ListN.{length, take, drop, getD, length-append, length-take, length-drop}
-use lib.Seq.{take-at, length-take-le}
+use lib.Seq.{take-at}
 use lib.Dec.{ltb}
 use borrow.Author.Tests.{ltb-false}
 use Rattle.wire.proofs.Laws.Overlay as overlays
-use Rattle.frame.specs.Items.{Item, Finding, refused, sound, itemIn, _before_, _then_, itemsFrom, itemsOf}
+use Rattle.frame.specs.Items.{Item, Finding, refused, sound, _before_, _then_, itemsFrom, itemsOf}
 use Rattle.frame.specs.Answers.{itemAt}
 use Rattle.frame.specs.Writer.{itemBytes, appendRefusal, writtenOf}
 use Rattle.frame.proofs.Laws.Fuel.{nothing-left}
-use Rattle.frame.proofs.Laws.Append.{Fits, accepted, writes}
+use Rattle.frame.proofs.Laws.Append.{accepted, writes}
 use Rattle.frame.proofs.Laws.Join.{Split, every, join}
 use Rattle.frame.proofs.Laws.Layout.{length-item, reads}
 

@@ -1,19 +1,19 @@
 -- Items laid out and read again, and a sound block laid out again. Assumes nothing.
-use Prim.Native.Nat.{ℕ, zero, suc, _+_, _-_, _^_, _≤_, _<_}
+use Prim.Native.Nat.{ℕ, _+_, _-_, _^_, _≤_, _<_}
 use mathlib.Core.Path.{_≡_, refl, sym, ap, ap₂, _∙_}
 use mathlib.Core.List.{List, [], _∷_, _++_, append-assoc}
 use mathlib.Core.Bool.{true}
 use native.Mathlib.Omega.{arith}
 use lib.ListN.{length, take, drop, length-append, length-take, length-drop, take-append-drop}
-use lib.Seq.{take-at, drop-at, drop-drop, take-add, take-all, drop-append-le, take-append-le}
-use Rattle.wire.specs.Number.{leAt, bytesOf}
+use lib.Seq.{take-at, drop-at, take-add}
+use Rattle.wire.specs.Number.{bytesOf}
 use Rattle.wire.proofs.Laws.Numbers.{Bytes, bytes-drop, below}
 use Rattle.frame.specs.Ids.{isKnown}
 use Rattle.frame.specs.Items.{Item, Finding, sound, _before_, itemsFrom}
 use Rattle.frame.specs.Writer.{itemBytes, layout}
 use Rattle.frame.proofs.Laws.Heads.{Sound}
 use Rattle.frame.proofs.Laws.Fuel.{nothing-left}
-use Rattle.frame.proofs.Laws.Bytes.{length-bytes, at-front, in-front, behind, rewritten}
+use Rattle.frame.proofs.Laws.Bytes.{length-bytes, at-front, behind, rewritten}
 use Rattle.frame.proofs.Laws.Join.{Split, every, front}
 
 pub length-item : (id : ℕ) (payload : List ℕ) → length (itemBytes id payload) ≡ 8 + length payload
