@@ -6,15 +6,16 @@ use native.Mathlib.Omega.{arith}
 use lib.ListN.{length, take, getD, length-append, List·getD-append}
 use Rattle.wire.proofs.Laws.Numbers.{Bytes}
 use Rattle.frame.specs.declared.items.Found.{Found}
+use Rattle.frame.specs.declared.writer.Appended.{Appended}
 use Rattle.frame.specs.Codes.{noItem}
 use Rattle.frame.specs.Parts.{bytesAt}
-use Rattle.frame.specs.Items.{Item, Finding, refused, sound, itemsOf}
+use Rattle.frame.specs.Items.{Item, absent, Finding, refused, sound, itemsOf}
 use Rattle.frame.specs.Answers.{refusedWith, itemAt, foundIn, itemOf, countOf, payloadOf}
-use Rattle.frame.specs.Writer.{layout, appendedOf, writtenOf}
+use Rattle.frame.specs.Writer.{layout, Writable, appendedOf, writtenOf}
 use Rattle.frame.specs.Packet.{headerOf, metadataOf}
 use Rattle.frame.proofs.Laws.Walk.{short-enough}
-use Rattle.frame.proofs.Laws.Located.{absent, located, there, not-there}
-use Rattle.frame.proofs.Laws.Layout.{Good, reads-all, written-again}
+use Rattle.frame.proofs.Laws.Located.{located, there, not-there}
+use Rattle.frame.proofs.Laws.Layout.{reads-all, written-again}
 use Rattle.frame.proofs.Laws.Appended.{sound-block, before-it, last-item, last-of, new-length, new-items}
 use Rattle.frame.proofs.Laws.Append.{accepted, accepts, reports}
 use Rattle.frame.proofs.Laws.Packets.{header-inside}
@@ -76,7 +77,7 @@ item-handed-out block is e k =
     }
 
 -- Demand 2: what we write reads back the same. An item appended behind a sound block is the last of the items there, and those before it
--- are handed out as they were. `new` is the buffer up to the end that the call reports.
+-- are handed out as they were.
 pub record ReadsBack (block : List ℕ) (is : List Item) (i : Item) (new : List ℕ) : Type 0 where
   pub items : itemsOf new ≡ sound (is ++ i ∷ [])
   pub one-more : countOf new ≡ record { code = 0; items = length is + 1 }
@@ -99,9 +100,15 @@ reads-back block new is i e f =
       last-payload = out (length is) .its-payload ∙ ap (λ (j : Item). j .payload) (last-of is i absent);
     }
 
+-- the call that appends item i behind the block that a buffer begins with, and the buffer up to the end it reports
+abbrev appending : (block buf : List ℕ) → Item → Appended
+appending block buf i = appendedOf (length buf) (length block) (i .id) (length (i .payload))
+
+abbrev afterwards : (block buf : List ℕ) → Item → List ℕ
+afterwards block buf i = take (appending block buf i .end) (writtenOf buf (length block) (i .id) (i .payload))
+
 pub appended-reads-back : (block buf : List ℕ) (is : List Item) (i : Item) → itemsOf block ≡ sound is → take (length block) buf ≡ block → i .id < 256 ^ 4
-    → appendedOf (length buf) (length block) (i .id) (length (i .payload)) .code ≡ 0
-    → ReadsBack block is i (take (appendedOf (length buf) (length block) (i .id) (length (i .payload)) .end) (writtenOf buf (length block) (i .id) (i .payload)))
+    → appending block buf i .code ≡ 0 → ReadsBack block is i (afterwards block buf i)
 appended-reads-back block buf is i e begins small a =
     let z = accepts (length buf) (length block) (i .id) (length (i .payload)) a in
     let short = accepted (length buf) (length block) (i .id) (length (i .payload)) z .short in
@@ -110,8 +117,8 @@ appended-reads-back block buf is i e begins small a =
     rw (← (reports (length buf) (length block) (i .id) (length (i .payload)) z)) (reads-back block _ is i e (sym (short-enough _ (omega arith)) ∙ new))
 
 -- Demand 2, the other way round: a sound block is its items written one behind the other, and such a block reads back as those items.
-pub block-written-again : (block : List ℕ) (is : List Item) → Bytes block → itemsOf block ≡ sound is → (block ≡ layout is) × Good is
+pub block-written-again : (block : List ℕ) (is : List Item) → Bytes block → itemsOf block ≡ sound is → (block ≡ layout is) × Writable is
 block-written-again block is b e = written-again block is (sound-block block is e .1) b
 
-pub items-read-back : (is : List Item) → Good is → length (layout is) ≤ 65535 → itemsOf (layout is) ≡ sound is
+pub items-read-back : (is : List Item) → Writable is → length (layout is) ≤ 65535 → itemsOf (layout is) ≡ sound is
 items-read-back is g h = sym (short-enough (layout is) h) ∙ reads-all is g h

@@ -16,6 +16,10 @@ pub record Item : Type 0 where
   pub id : ℕ
   pub payload : List ℕ
 
+-- what stands past the last item
+abbrev pub absent : Item
+absent = record { id = 0; payload = [] }
+
 -- what a block holds: its first fault, or its items in byte order
 pub data Finding : Type 0 where
   refused : ℕ → Finding

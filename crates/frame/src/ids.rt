@@ -2,9 +2,9 @@
 ghost use mathlib.Core.Path.{_≡_};
 ghost use Rattle.frame.specs.Ids.{isKnown};
 
-pub(crate) const LAST_STANDARD: u32 = 6;
+const LAST_STANDARD: u32 = 6;
 
-pub(crate) const FIRST_CUSTOM: u32 = 0x8000_0000;
+const FIRST_CUSTOM: u32 = 0x8000_0000;
 
 pub(crate) fn known(id: u32) -> bool
     ensures { λ r. ⌜ r ≡ isKnown id ⌝ }

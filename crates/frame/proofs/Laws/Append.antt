@@ -81,7 +81,8 @@ in-turn d at s t h =
     let room : (at + length s) + length t ≤ length (overlay d at s) = rw same-length (omega arith) in
     let front : take (at + length s) (overlay d at s) ≡ take at d ++ s = ap (take (at + length s)) one ∙ take-at (take at d ++ s) _ _ n in
     let back : drop (at + length s) (overlay d at s) ≡ drop (at + length s) d = ap (drop (at + length s)) one ∙ drop-at (take at d ++ s) _ _ n in
-    let last : drop (at + length s + length t) (overlay d at s) ≡ drop (at + length s + length t) d = sym (drop-drop (length t) (at + length s) _) ∙ ap (drop (length t)) back ∙ drop-drop (length t) (at + length s) d in
+    let last : drop (at + length s + length t) (overlay d at s) ≡ drop (at + length s + length t) d =
+    sym (drop-drop (length t) (at + length s) _) ∙ ap (drop (length t)) back ∙ drop-drop (length t) (at + length s) d in
     let m : at + length s + length t ≡ at + length (s ++ t) = simp length-append (omega arith) in
     fits (overlay d at s) (at + length s) t room
     ∙ ap₂ (λ (x y : List ℕ). x ++ t ++ y) front last

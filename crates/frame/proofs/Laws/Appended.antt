@@ -76,8 +76,10 @@ module _ (block buf : List ℕ) (id : ℕ) (payload : List ℕ) (begins : take (
       let n = length-item id payload in
       let room : length block + length (itemBytes id payload) ≤ length buf = omega arith in
       let m : length (block ++ itemBytes id payload) ≡ length block + 8 + length payload = simp length-append (omega arith) in
-      ap (take (length block + 8 + length payload)) (sym (writes buf (length block) id payload a) ∙ overlays.fits buf (length block) (itemBytes id payload) room ∙ ap (λ (l : List ℕ). l ++ itemBytes id payload ++ drop (length block + length (itemBytes id payload)) buf) begins)
-      ∙ take-at (block ++ itemBytes id payload) _ _ m
+      let behind : List ℕ = drop (length block + length (itemBytes id payload)) buf in
+      let whole : writtenOf buf (length block) id payload ≡ block ++ itemBytes id payload ++ behind =
+      sym (writes buf (length block) id payload a) ∙ overlays.fits buf (length block) (itemBytes id payload) room ∙ ap (λ (l : List ℕ). l ++ itemBytes id payload ++ behind) begins in
+      ap (take (length block + 8 + length payload)) whole ∙ take-at (block ++ itemBytes id payload) _ _ m
 
   pub new-length : length new ≡ length block + 8 + length payload
   new-length = ap length new-is ∙ simp (length-append, length-item) (omega arith)
@@ -85,6 +87,7 @@ module _ (block buf : List ℕ) (id : ℕ) (payload : List ℕ) (begins : take (
   pub new-items : (is : List Item) → itemsFrom block ≡ sound is → id < 256 ^ 4 → itemsFrom new ≡ sound (is ++ record { id = id; payload = payload } ∷ [])
   new-items is e small =
       let f = accepted (length buf) (length block) id (length payload) a in
-      let last : itemsFrom (itemBytes id payload) ≡ sound (record { id = id; payload = payload } ∷ []) =
-      ap itemsFrom (sym (append-nil (itemBytes id payload))) ∙ reads id payload [] (f .known) small (omega arith) ∙ ap (λ (g : Finding). record { id = id; payload = payload } before g) (nothing-left [] (omega arith)) in
+      let i : Item = record { id = id; payload = payload } in
+      let one : itemsFrom (itemBytes id payload) ≡ (i before itemsFrom []) = ap itemsFrom (sym (append-nil (itemBytes id payload))) ∙ reads id payload [] (f .known) small (omega arith) in
+      let last : itemsFrom (itemBytes id payload) ≡ sound (i ∷ []) = one ∙ ap (λ (g : Finding). i before g) (nothing-left [] (omega arith)) in
       ap itemsFrom new-is ∙ join (itemBytes id payload) block is e ∙ ap (λ (g : Finding). is then g) last ∙ then-sound is _

@@ -81,7 +81,8 @@ step s t is p ih =
     let inside : p .size ≤ length s = p .head .inside in
     let room : 8 ≤ length s = omega arith in
     let fits : p .size - 8 ≤ length (drop 8 s) = simp length-drop (omega arith) in
-    rw (p .whole, front (s ++ t) (p .id) (p .size) (still s t (p .id) (p .size) (p .head)), drop-append-le (p .size) s t inside, drop-append-le 8 s t room, take-append-le (p .size - 8) (drop 8 s) t fits, ih)
+    let more = front (s ++ t) (p .id) (p .size) (still s t (p .id) (p .size) (p .head)) in
+    rw (p .whole, more, drop-append-le (p .size) s t inside, drop-append-le 8 s t room, take-append-le (p .size - 8) (drop 8 s) t fits, ih)
 
 pub join : (t s : List ℕ) (is : List Item) → itemsFrom s ≡ sound is → itemsFrom (s ++ t) ≡ (is then itemsFrom t)
 join t = every (λ (s : List ℕ) (is : List Item). itemsFrom (s ++ t) ≡ (is then itemsFrom t)) refl (λ s is p ih. step s t is p ih)

@@ -10,7 +10,7 @@ use Rattle.wire.specs.Number.{bytesOf}
 use Rattle.wire.proofs.Laws.Numbers.{Bytes, bytes-drop, below}
 use Rattle.frame.specs.Ids.{isKnown}
 use Rattle.frame.specs.Items.{Item, Finding, sound, _before_, itemsFrom}
-use Rattle.frame.specs.Writer.{itemBytes, layout}
+use Rattle.frame.specs.Writer.{itemBytes, layout, Writable}
 use Rattle.frame.proofs.Laws.Heads.{Sound}
 use Rattle.frame.proofs.Laws.Fuel.{nothing-left}
 use Rattle.frame.proofs.Laws.Bytes.{length-bytes, at-front, behind, rewritten}
@@ -44,12 +44,7 @@ module _ (id : ℕ) (payload t : List ℕ) (known : isKnown id ≡ true) (small 
       front (itemBytes id payload ++ t) id (8 + length payload) written
       ∙ ap₂ (λ (p r : List ℕ). record { id = id; payload = p } before itemsFrom r) (body id payload t) (drop-at (itemBytes id payload) t _ (length-item id payload))
 
--- items that may be written
-abbrev pub Good : List Item → Type 0
-Good [] = Unit {0}
-Good (i ∷ is) = (isKnown (i .id) ≡ true) × (i .id < 256 ^ 4) × Good is
-
-pub reads-all : (is : List Item) → Good is → length (layout is) ≤ 65535 → itemsFrom (layout is) ≡ sound is
+pub reads-all : (is : List Item) → Writable is → length (layout is) ≤ 65535 → itemsFrom (layout is) ≡ sound is
 unfolding layout
 reads-all [] g h = nothing-left [] (omega arith)
 reads-all (i ∷ is) g h =
@@ -68,11 +63,11 @@ again s id size h b =
     let m : 8 + (size - 8) ≡ size = omega arith in
     rw (first, second) (ap (λ (t : List ℕ). t ++ take (size - 8) (drop 8 s)) (sym (take-add 4 4 s)) ∙ sym (take-add 8 (size - 8) s) ∙ ap (λ (n : ℕ). take n s) m)
 
-pub written-again : (s : List ℕ) (is : List Item) → itemsFrom s ≡ sound is → Bytes s → (s ≡ layout is) × Good is
+pub written-again : (s : List ℕ) (is : List Item) → itemsFrom s ≡ sound is → Bytes s → (s ≡ layout is) × Writable is
 unfolding layout
-written-again = every (λ (s : List ℕ) (is : List Item). Bytes s → (s ≡ layout is) × Good is) (λ b. (refl, tt)) more
+written-again = every (λ (s : List ℕ) (is : List Item). Bytes s → (s ≡ layout is) × Writable is) (λ b. (refl, tt)) more
   where
-    more : (s : List ℕ) (is : List Item) (p : Split s is) → (Bytes (drop (p .size) s) → (drop (p .size) s ≡ layout (p .rest)) × Good (p .rest)) → Bytes s → (s ≡ layout is) × Good is
+    more : (s : List ℕ) (is : List Item) (p : Split s is) → (Bytes (drop (p .size) s) → (drop (p .size) s ≡ layout (p .rest)) × Writable (p .rest)) → Bytes s → (s ≡ layout is) × Writable is
     more s is p ih b =
         let r = ih (bytes-drop s (p .size) b) in
         let h = p .head in

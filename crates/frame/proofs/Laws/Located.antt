@@ -7,14 +7,10 @@ use lib.ListN.{length, take, drop, getD, length-take, length-drop}
 use lib.Seq.{drop-drop}
 use Rattle.frame.specs.Codes.{noItem}
 use Rattle.frame.specs.Parts.{bytesAt}
-use Rattle.frame.specs.Items.{Item, sound, itemsFrom, itemIn}
+use Rattle.frame.specs.Items.{Item, sound, itemsFrom, itemIn, absent}
 use Rattle.frame.specs.Answers.{refusedWith, itemAt}
 use Rattle.frame.proofs.Laws.Heads.{Sound}
 use Rattle.frame.proofs.Laws.Join.{Split, every}
-
--- what stands where there is no item
-abbrev pub absent : Item
-absent = record { id = 0; payload = [] }
 
 pub record Located (s : List ℕ) (at k : ℕ) (is : List Item) : Type 0 where
   pub inside : itemAt at k is .payload .at + itemAt at k is .payload .len ≤ length s

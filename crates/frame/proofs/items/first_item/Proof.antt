@@ -28,10 +28,25 @@ returns-3 : tie.Need-returns-3
 returns-3 c = head-small _ _ _ (omega arith) (c .before .before .before .before .le32 .ensures) (c .before .before .before .known .ensures) (not-false _ (c .before .before .if2 .left)) (omega arith)
 
 returns-4 : tie.Need-returns-4
-returns-4 c = head-past _ _ _ (omega arith) (c .before .before .before .before .before .le32 .ensures) (c .before .before .before .before .known .ensures) (not-false _ (c .before .before .before .if2 .left)) (omega arith) (omega arith)
+returns-4 c =
+    head-past _ _ _
+    (omega arith)
+    (c .before .before .before .before .before .le32 .ensures)
+    (c .before .before .before .before .known .ensures)
+    (not-false _ (c .before .before .before .if2 .left))
+    (omega arith)
+    (omega arith)
 
 returns-5 : tie.Need-returns-5
-returns-5 c = head-whole _ _ _ (omega arith) (c .before .before .before .before .before .le32 .ensures) (c .before .before .before .before .known .ensures) _ (c .before .before .le322 .ensures) (not-false _ (c .before .before .before .if2 .left)) (omega arith) (omega arith)
+returns-5 c =
+    head-whole _ _ _
+    (omega arith)
+    (c .before .before .before .before .before .le32 .ensures)
+    (c .before .before .before .before .known .ensures) _
+    (c .before .before .le322 .ensures)
+    (not-false _ (c .before .before .before .if2 .left))
+    (omega arith)
+    (omega arith)
 
 pub first-item-spec : {M : Type 1} → statement M
 first-item-spec =

@@ -18,12 +18,38 @@ abbrev μ-loop : tie.MeasureT-loop
 
 -- the item that was read, by what is known once the match has told which it is
 fault-here : (c : tie.After-known-told Inv-loop μ-loop)
-    → Meets (c .before .before .before .before .before .before .before .before .before .before .args .k) (c .before .before .before .before .before .before .loop .at) (c .before .before .before .before .before .before .loop .n) (c .before .before .before .before .before .before .loop .found) (now (c .before .before .before .before .before .before .before .before .before .before .args .block)) (Bad (c .before .code .given .0 .0))
-fault-here c = meets _ _ _ _ _ _ _ _ (omega arith) (c .before .before .before .before .before .before .loop .inv .2) (omega arith) (c .before .before .before .before .tail .ensures) (c .before .before .before .first-item .ensures) (c .before .code .given .1)
+    → Meets
+    (c .before .before .before .before .before .before .before .before .before .before .args .k)
+    (c .before .before .before .before .before .before .loop .at)
+    (c .before .before .before .before .before .before .loop .n)
+    (c .before .before .before .before .before .before .loop .found)
+    (now (c .before .before .before .before .before .before .before .before .before .before .args .block))
+    (Bad (c .before .code .given .0 .0))
+fault-here c =
+    meets _ _ _ _ _ _ _ _
+    (omega arith)
+    (c .before .before .before .before .before .before .loop .inv .2)
+    (omega arith)
+    (c .before .before .before .before .tail .ensures)
+    (c .before .before .before .first-item .ensures)
+    (c .before .code .given .1)
 
 item-here : (c : tie.After-known-told2 Inv-loop μ-loop)
-    → Meets (c .before .before .before .before .before .before .before .before .before .before .args .k) (c .before .before .before .before .before .before .loop .at) (c .before .before .before .before .before .before .loop .n) (c .before .before .before .before .before .before .loop .found) (now (c .before .before .before .before .before .before .before .before .before .before .args .block)) (Whole (c .before .id .given .0 .0) (c .before .id .given .0 .1 .0))
-item-here c = meets _ _ _ _ _ _ _ _ (omega arith) (c .before .before .before .before .before .before .loop .inv .2) (omega arith) (c .before .before .before .before .tail .ensures) (c .before .before .before .first-item .ensures) (c .before .id .given .1)
+    → Meets
+    (c .before .before .before .before .before .before .before .before .before .before .args .k)
+    (c .before .before .before .before .before .before .loop .at)
+    (c .before .before .before .before .before .before .loop .n)
+    (c .before .before .before .before .before .before .loop .found)
+    (now (c .before .before .before .before .before .before .before .before .before .before .args .block))
+    (Whole (c .before .id .given .0 .0) (c .before .id .given .0 .1 .0))
+item-here c =
+    meets _ _ _ _ _ _ _ _
+    (omega arith)
+    (c .before .before .before .before .before .before .loop .inv .2)
+    (omega arith)
+    (c .before .before .before .before .tail .ensures)
+    (c .before .before .before .first-item .ensures)
+    (c .before .id .given .1)
 
 stopped-requires : tie.Need-stopped-requires Inv-loop μ-loop
 stopped-requires c κs = search needs

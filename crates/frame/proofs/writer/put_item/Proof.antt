@@ -30,7 +30,12 @@ same-length : tie.Need-same-length
 same-length c = search needs
 
 returns : tie.Need-returns
-returns c = item-in-turn _ _ _ _ _ _ _ (omega arith) (c .before .before .before .before .before .before .before .before .before .before .put32 .ensures) (c .before .before .before .before .before .before .put322 .ensures) (c .before .before .copy .ensures)
+returns c =
+    item-in-turn _ _ _ _ _ _ _
+    (omega arith)
+    (c .before .before .before .before .before .before .before .before .before .before .put32 .ensures)
+    (c .before .before .before .before .before .before .put322 .ensures)
+    (c .before .before .copy .ensures)
 
 pub put-item-spec : {M : Type 1} → statement M
 put-item-spec =
