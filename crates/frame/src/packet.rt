@@ -31,7 +31,7 @@ fn field(flags: u8, flag: u8, len: usize) -> usize
     requires { ⌜ len ≤ 6 ⌝ }
     ensures { λ r. ⌜ (r ≡ fieldLength flags flag len) × (r ≤ len) ⌝ }
 {
-    if wire::offers(flags, flag) {
+    if wire::is_set(flags as u64, flag) {
         return len;
     }
     0
