@@ -69,3 +69,13 @@ puts-next c i item =
     ap (λ (m : ℕ). puts c (allGiven m 0 item)) (add-one i)
     ∙ ap (puts c) (given-next i 0 item ∙ ap (λ (m : ℕ). allGiven i 0 item ++ givenOf (item m)) e)
     ∙ puts-append c (allGiven i 0 item) (givenOf (item i))
+
+-- the same from item 0 on, as a loop goes through them
+module _ (item : ℕ → Item) where
+  pub stops : (n i : ℕ) → ((j : ℕ) → j < i → codeOf (item j) ≡ 0) → i < n → (codeOf (item i) ≡ 0 → ⊥) → firstRefusal n 0 item ≡ codeOf (item i)
+  stops n i before h bad =
+      let e : (j : ℕ) → j + 0 ≡ j = λ j. omega arith in
+      refusal-at n 0 i item (λ j l. rw (e j) (before j l)) h (rw (e i) bad) ∙ ap (λ (j : ℕ). codeOf (item j)) (e i)
+
+  pub passes : (n : ℕ) → ((j : ℕ) → j < n → codeOf (item j) ≡ 0) → firstRefusal n 0 item ≡ 0
+  passes n h = let e : (j : ℕ) → j + 0 ≡ j = λ j. omega arith in refusal-none n 0 item (λ j l. rw (e j) (h j l))
