@@ -6,3 +6,4 @@ pub mod Steps
 pub mod Lists
 pub mod Records
 pub mod Loads
+pub mod Record
