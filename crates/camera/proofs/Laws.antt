@@ -1,9 +1,10 @@
-pub mod Items
 pub mod Held
-pub mod Selectors
+pub mod Items
 pub mod Kept
-pub mod Steps
 pub mod Lists
-pub mod Records
 pub mod Loads
+pub mod Record
+pub mod Records
 pub mod Requests
+pub mod Selectors
+pub mod Steps
