@@ -1,0 +1,48 @@
+-- The levels of a set: which stretches of it hold descriptors, and which descriptors each of them holds.
+use Prim.Native.Nat.{ℕ, zero, suc, _+_, _<_}
+use mathlib.Core.Path.{_≡_}
+use mathlib.Core.List.{List, [], _∷_, List·Memᴰ}
+use mathlib.Core.Bool.{cond}
+use lib.ListN.{length}
+use lib.Dec.{ltb}
+use Rattle.descriptors.specs.declared.header.Parent.{Parent}
+use Rattle.descriptors.specs.declared.header.Parent.the-variants.{Set}
+use Rattle.descriptors.specs.declared.header.Descriptor.{Descriptor}
+use Rattle.descriptors.specs.declared.header.Descriptor.the-variants.{Refused, Opaque, Property, Subset}
+use Rattle.descriptors.specs.Header.{descriptorAt}
+
+-- a descriptor's offset, and its bytes in all
+pub record Span : Type 0 where
+  pub at : ℕ
+  pub size : ℕ
+
+-- the descriptors of one level from `at` to `end`, up to the first that is refused; n bounds the recursion, as in `contents`
+abbrev pub spanThen : (ℕ → List Span) → ℕ → Descriptor → List Span
+spanThen rest at (Refused code) = []
+spanThen rest at (Opaque size) = record { at = at; size = size } ∷ rest (at + size)
+spanThen rest at (Property size) = record { at = at; size = size } ∷ rest (at + size)
+spanThen rest at (Subset size q) = record { at = at; size = size } ∷ rest (at + size)
+
+unfoldable pub spans : ℕ → List ℕ → Parent → ℕ → ℕ → List Span
+spans zero s p at end = []
+spans (suc n) s p at end =
+    let first = spanThen (λ (next : ℕ). spans n s p next end) at (descriptorAt s p at end) in
+    cond (ltb at end) first []
+
+unfoldable pub spansOf : List ℕ → Parent → ℕ → ℕ → List Span
+spansOf s p at end = spans (length s) s p at end
+
+-- the stretch from `from` to `end` is the inside of p, which is nested in so many subsets of the set s
+pub data Level (s : List ℕ) : ℕ → Parent → ℕ → ℕ → Type 0 where
+  top : Level s 0 Set 10 (length s)
+  inside : {depth : ℕ} {p : Parent} {from end : ℕ} (d : Span) (q : Parent)
+      → Level s depth p from end
+      → List·Memᴰ d (spansOf s p from end)
+      → descriptorAt s p (d .at) end ≡ Subset (d .size) q
+      → Level s (suc depth) q (d .at + 8) (d .at + d .size)
+
+-- descriptors that follow one another with nothing between or over: the first starts at `from`, each next one where the one before it ended,
+-- and the last ends at `end`
+abbrev pub Follows : ℕ → ℕ → List Span → Type 0
+Follows from end [] = from ≡ end
+Follows from end (d ∷ ds) = (d .at ≡ from) × (0 < d .size) × Follows (from + d .size) end ds
