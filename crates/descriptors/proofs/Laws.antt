@@ -7,3 +7,5 @@ pub mod Stops
 pub mod Whole
 pub mod Scan
 pub mod Answer
+pub mod Levels
+pub mod Order

@@ -2,7 +2,7 @@
 use Prim.Native.Nat.{ℕ, zero, suc, _+_, _<_}
 use mathlib.Core.Path.{_≡_}
 use mathlib.Core.List.{List, [], _∷_, List·Memᴰ}
-use mathlib.Core.Bool.{cond}
+use mathlib.Core.Bool.{Bool, true, false, not, _&&_, cond}
 use lib.ListN.{length}
 use lib.Dec.{ltb}
 use Rattle.descriptors.specs.declared.header.Parent.{Parent}
@@ -10,24 +10,29 @@ use Rattle.descriptors.specs.declared.header.Parent.the-variants.{Set}
 use Rattle.descriptors.specs.declared.header.Descriptor.{Descriptor}
 use Rattle.descriptors.specs.declared.header.Descriptor.the-variants.{Refused, Opaque, Property, Subset}
 use Rattle.descriptors.specs.Header.{descriptorAt}
+use Rattle.descriptors.specs.Reading.{sizeOf}
 
 -- a descriptor's offset, and its bytes in all
 pub record Span : Type 0 where
   pub at : ℕ
   pub size : ℕ
 
--- the descriptors of one level from `at` to `end`, up to the first that is refused; n bounds the recursion, as in `contents`
-abbrev pub spanThen : (ℕ → List Span) → ℕ → Descriptor → List Span
-spanThen rest at (Refused code) = []
-spanThen rest at (Opaque size) = record { at = at; size = size } ∷ rest (at + size)
-spanThen rest at (Property size) = record { at = at; size = size } ∷ rest (at + size)
-spanThen rest at (Subset size q) = record { at = at; size = size } ∷ rest (at + size)
+abbrev pub span : ℕ → ℕ → Span
+span at size = record { at = at; size = size }
 
+abbrev pub isRefused : Descriptor → Bool
+isRefused (Refused code) = true
+isRefused (Opaque size) = false
+isRefused (Property size) = false
+isRefused (Subset size q) = false
+
+-- the descriptors of one level from `at` to `end`, up to the first that is refused; n bounds the recursion, as in `contents`
 unfoldable pub spans : ℕ → List ℕ → Parent → ℕ → ℕ → List Span
 spans zero s p at end = []
 spans (suc n) s p at end =
-    let first = spanThen (λ (next : ℕ). spans n s p next end) at (descriptorAt s p at end) in
-    cond (ltb at end) first []
+    let d = descriptorAt s p at end in
+    let all = span at (sizeOf d) ∷ spans n s p (at + sizeOf d) end in
+    cond (ltb at end && not (isRefused d)) all []
 
 unfoldable pub spansOf : List ℕ → Parent → ℕ → ℕ → List Span
 spansOf s p at end = spans (length s) s p at end

@@ -3,6 +3,7 @@ pub mod Codes
 pub mod Header
 pub mod Reading
 pub mod Property
+pub mod Calls
 pub mod Levels
 pub mod Stops
 pub mod Scan

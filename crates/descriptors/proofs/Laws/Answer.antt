@@ -14,7 +14,7 @@ use Rattle.descriptors.specs.Property.{refusedWith, inFinding, propertyO
 use Rattle.descriptors.proofs.Laws.Proper.{Proper, contents-proper}
 
 -- the code of a refused set is no acceptance
-abbrev Coded : Finding → Type 0
+abbrev pub Coded : Finding → Type 0
 Coded (refused code offset) = (0 < code) × (code ≤ badField)
 Coded (sound ps) = Unit {0}
 

@@ -2,7 +2,7 @@
 use Prim.Native.Nat.{ℕ, zero, suc, _+_, _-_, _≤_, _<_}
 use mathlib.Core.Path.{_≡_, refl, sym, ap, ap₂, _∙_}
 use mathlib.Core.List.{List, [], _∷_}
-use mathlib.Core.Bool.{Bool, true, false, cond}
+use mathlib.Core.Bool.{Bool, true, false, cond, false≢true}
 use native.Mathlib.Omega.{arith}
 use lib.ListN.{length}
 use lib.Dec.{ltb}
@@ -11,7 +11,8 @@ use Rattle.descriptors.specs.declared.header.Parent.{Parent}
 use Rattle.descriptors.specs.declared.header.Descriptor.{Descriptor}
 use Rattle.descriptors.specs.declared.header.Descriptor.the-variants.{Refused, Opaque, Property, Subset}
 use Rattle.descriptors.specs.Header.{interfaceOf, descriptorAt}
-use Rattle.descriptors.specs.Reading.{Finding, sound, _then_, descriptor, sizeOf, contents, contentsOf}
+use Rattle.descriptors.specs.Reading.{Finding, sound, _then_, descriptor, sizeOf, contents, contentsOf, isSound}
+use Rattle.descriptors.specs.Levels.{isRefused}
 use Rattle.descriptors.proofs.Laws.Sound.{Known, known}
 
 none : (n : ℕ) (s : List ℕ) (p : Parent) (at end : ℕ) → end ≤ at → contents n s p at end ≡ sound []
@@ -46,7 +47,7 @@ pub at-end : (s : List ℕ) (p : Parent) (at end : ℕ) → end ≤ at → conte
 unfolding contentsOf
 at-end s p at end h = none (length s) s p at end h
 
-step : (n : ℕ) (s : List ℕ) (p : Parent) (at end : ℕ) → at < end → contents (suc n) s p at end ≡ (descriptor (contents n s) p at (descriptorAt s p at end) then contents n s p (at + sizeOf (descriptorAt s p at end)) end)
+pub step : (n : ℕ) (s : List ℕ) (p : Parent) (at end : ℕ) → at < end → contents (suc n) s p at end ≡ (descriptor (contents n s) p at (descriptorAt s p at end) then contents n s p (at + sizeOf (descriptorAt s p at end)) end)
 unfolding contents
 step n s p at end h = simp (lt-ltb _ _ h)
 
@@ -54,3 +55,17 @@ pub one-then : (s : List ℕ) (p : Parent) (at end : ℕ) → at < end → end �
     → contentsOf s p at end ≡ (descriptor (contentsOf s) p at (descriptorAt s p at end) then contentsOf s p (at + sizeOf (descriptorAt s p at end)) end)
 unfolding contentsOf
 one-then s p at end h k = enough (length s) (suc (length s)) s p at end (omega arith) (omega arith) ∙ step (length s) s p at end h
+
+-- a descriptor that is read without a fault is not refused, and ends behind its start, in its parent
+pub not-refused : (f : Parent → ℕ → ℕ → Finding) (p : Parent) (at : ℕ) (d : Descriptor) → isSound (descriptor f p at d) ≡ true → isRefused d ≡ false
+not-refused f p at (Refused code) e = absurd (false≢true e)
+not-refused f p at (Opaque n) e = refl
+not-refused f p at (Property n) e = refl
+not-refused f p at (Subset n q) e = refl
+
+pub ends-in : (s : List ℕ) (f : Parent → ℕ → ℕ → Finding) (p : Parent) (at end : ℕ) (d : Descriptor) → Known s p at (end - at) d
+    → isSound (descriptor f p at d) ≡ true → (at < at + sizeOf d) × (at + sizeOf d ≤ end)
+ends-in s f p at end (Refused code) k e = absurd (false≢true e)
+ends-in s f p at end (Opaque n) k e = omega arith
+ends-in s f p at end (Property n) k e = omega arith
+ends-in s f p at end (Subset n q) k e = omega arith

@@ -1,19 +1,18 @@
 -- Laws of the walk's number (`specs/Stops.antt`). Assumes nothing.
-use Prim.Native.Nat.{ℕ, _+_, _-_, _≤_, _<_}
+use Prim.Native.Nat.{ℕ, _+_, _≤_, _<_}
 use mathlib.Core.Path.{_≡_, refl, sym, ap, _∙_}
 use mathlib.Core.List.{List}
-use mathlib.Core.Bool.{Bool, true, false, cond, false≢true}
+use mathlib.Core.Bool.{Bool, true, false, cond}
 use native.Mathlib.Omega.{arith}
 use lib.Dec.{ltb}
 use borrow.Author.Tests.{le-ltb, ltb-false}
 use Rattle.descriptors.specs.declared.header.Parent.{Parent}
-use Rattle.descriptors.specs.declared.header.Descriptor.{Descriptor}
 use Rattle.descriptors.specs.declared.header.Descriptor.the-variants.{Refused, Opaque, Property, Subset}
 use Rattle.descriptors.specs.Header.{descriptorAt}
 use Rattle.descriptors.specs.Reading.{Entry, Finding, refused, sound, _then_, isSound, descriptor, sizeOf, contentsOf}
 use Rattle.descriptors.specs.Stops.{Walkable, refusalNumber, stopOf, stopAt, stopFrom}
-use Rattle.descriptors.proofs.Laws.Sound.{Known, known}
-use Rattle.descriptors.proofs.Laws.Contents.{at-end, one-then}
+use Rattle.descriptors.proofs.Laws.Sound.{known}
+use Rattle.descriptors.proofs.Laws.Contents.{at-end, one-then, ends-in}
 use Rattle.descriptors.proofs.Laws.Proper.{Proper, one-proper}
 
 -- walking a stretch, whether or not it is empty
@@ -52,14 +51,6 @@ unfolding stopOf
 then-sound end ps (refused c o) = refl
 then-sound end ps (sound qs) = refl
 
--- a descriptor that is read without a fault ends behind its start, in its parent
-bounds : (s : List ℕ) (p : Parent) (at end : ℕ) (d : Descriptor) → Known s p at (end - at) d
-    → isSound (descriptor (contentsOf s) p at d) ≡ true → (at < at + sizeOf d) × (at + sizeOf d ≤ end)
-bounds s p at end (Refused code) k e = absurd (false≢true e)
-bounds s p at end (Opaque n) k e = omega arith
-bounds s p at end (Property n) k e = omega arith
-bounds s p at end (Subset n q) k e = omega arith
-
 -- the reading a of what stands from `at` to `next`, and then the rest: a refusal ends the walk, and else it goes on from `next`
 turned : (s : List ℕ) (p : Parent) (at end next : ℕ) (a : Finding) → at < end → Walkable s end → Proper s a → (isSound a ≡ true → (at < next) × (next ≤ end))
     → (stopOf end (a then contentsOf s p next end) ≡ stopFrom s p (stopOf next a) end) × (at < stopOf next a)
@@ -73,5 +64,5 @@ turned s p at end next (sound ps) l w r b =
 pub turn : (s : List ℕ) (p : Parent) (at end r : ℕ) → r ≡ stopAt s p at end → at < end → Walkable s end → (stopFrom s p at end ≡ stopFrom s p r end) × (at < r)
 turn s p at end r e l w =
     let d = descriptorAt s p at end in
-    let t = turned s p at end (at + sizeOf d) (descriptor (contentsOf s) p at d) l w (one-proper s p at end l (w .within)) (bounds s p at end d (known s p at end)) in
+    let t = turned s p at end (at + sizeOf d) (descriptor (contentsOf s) p at d) l w (one-proper s p at end l (w .within)) (ends-in s (contentsOf s) p at end d (known s p at end)) in
     rw e (from s p at end (omega arith) ∙ ap (stopOf end) (one-then s p at end l (w .within)) ∙ t .0, t .1)
