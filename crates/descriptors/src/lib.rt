@@ -20,7 +20,6 @@ pub use codes::BAD_TYPE;
 pub use codes::NO_PROPERTY;
 pub use codes::PAST_PARENT;
 pub use header::Interface;
-pub use header::Parent;
 pub use properties::Part;
 pub use properties::RegistryProperty;
 pub use properties::property;

@@ -3,6 +3,7 @@ mod arrays;
 mod print;
 mod rows;
 
+// All rows.
 fn main() {
     rows::header_rows();
     rows::room_rows();

@@ -1,3 +1,4 @@
+-- `good_fields` meets its contract: the tests are those of the list. Assumes nothing.
 use Rattle.descriptors.specs.Header.{goodFields}
 use mathlib.Core.Bool.{and-assoc, and-true}
 use borrow.Author.Needs.{needs}

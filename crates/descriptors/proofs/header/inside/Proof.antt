@@ -1,3 +1,4 @@
+-- `inside` meets its contract, parent by parent. Assumes nothing.
 use borrow.Author.Needs.{needs}
 use Rattle.descriptors.proofs.header.inside.Statement.{statement}
 use Rattle.descriptors.proofs.header.inside.Tie as tie

@@ -1,3 +1,4 @@
+-- `look` meets its contract: the tests on the way to each return say which row answers. Assumes nothing.
 use native.Mathlib.Omega.{arith}
 use mathlib.Core.Path.{_∙_}
 use borrow.Author.Tests.{not-true, not-false}

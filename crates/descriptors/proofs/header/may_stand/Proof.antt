@@ -1,3 +1,4 @@
+-- `may_stand` meets its contract, parent by parent. Assumes nothing.
 use native.Mathlib.Omega.{arith}
 use Rattle.descriptors.proofs.Laws.Rows.{feature, in-set, in-configuration, in-function}
 use borrow.Author.Needs.{needs}

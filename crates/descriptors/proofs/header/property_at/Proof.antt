@@ -1,3 +1,4 @@
+-- `property_at` meets its contract. Where the name leaves no room for the data length, the sum fails whatever stands there. Assumes nothing.
 use Rattle.descriptors.proofs.Laws.Rows.{name-past}
 use native.Mathlib.Omega.{arith}
 use Rattle.descriptors.proofs.Laws.Rows.{property-length, property-good, property-bad, gathered}

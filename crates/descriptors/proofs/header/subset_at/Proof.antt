@@ -1,3 +1,4 @@
+-- `subset_at` meets its contract: the tests on the way to each return say which row answers. Assumes nothing.
 use native.Mathlib.Omega.{arith}
 use Rattle.descriptors.proofs.Laws.Rows.{subset-length, subset-past, subset-short, subset-reserved, subset-sound}
 use borrow.Author.Needs.{needs}

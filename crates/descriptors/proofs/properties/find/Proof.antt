@@ -1,3 +1,4 @@
+-- `find` meets its contract. The loop's invariant: property k of the set is property `left` of those from the cursor on. Assumes nothing.
 use lib.ListN.{length}
 use Prim.Native.Nat.{_<_, _-_}
 use mathlib.Core.Path.{_≡_, _∙_}

@@ -1,3 +1,4 @@
+-- `found_at` meets its contract: the fields as they were read. Assumes nothing.
 use Rattle.descriptors.proofs.Laws.Scan.{found}
 use borrow.Author.Needs.{needs}
 use Rattle.descriptors.proofs.properties.found_at.Statement.{statement}

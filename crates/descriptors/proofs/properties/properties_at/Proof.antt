@@ -1,3 +1,4 @@
+-- `properties_at` meets its contract. Assumes nothing.
 use Rattle.descriptors.proofs.Laws.Scan.{counts, counts-not}
 use borrow.Author.Needs.{needs}
 use Rattle.descriptors.proofs.properties.properties_at.Statement.{statement}

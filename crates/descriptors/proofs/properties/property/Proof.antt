@@ -1,3 +1,4 @@
+-- `property` meets its contract: the check refuses, or the set is sound and `find` answers. Assumes nothing.
 use mathlib.Core.Path.{_∙_}
 use Rattle.descriptors.proofs.Laws.Answer.{accepted, refuses}
 use borrow.Author.Needs.{needs}

@@ -1,3 +1,4 @@
+-- `refused_with` meets its contract. Assumes nothing.
 use Rattle.descriptors.specs.Property.{refusedWith}
 use mathlib.Core.Path.{refl}
 use Rattle.descriptors.proofs.properties.refused_with.Statement.{statement}

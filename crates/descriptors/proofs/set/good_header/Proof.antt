@@ -1,3 +1,4 @@
+-- `good_header` meets its contract: the three words are tests of the list. Assumes nothing.
 use native.Mathlib.Omega.{arith}
 use Rattle.descriptors.proofs.Laws.Whole.{header-short, header-words}
 use borrow.Author.Needs.{needs}

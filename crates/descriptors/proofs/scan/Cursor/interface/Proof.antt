@@ -1,3 +1,4 @@
+-- `Cursor::interface` meets its contract. Assumes nothing.
 use borrow.Author.Tests.{lt-ltb, le-ltb}
 use Rattle.descriptors.proofs.scan.Cursor.interface.Statement.{statement}
 use Rattle.descriptors.proofs.scan.Cursor.interface.Tie as tie

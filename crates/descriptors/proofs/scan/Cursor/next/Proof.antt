@@ -1,3 +1,4 @@
+-- `Cursor::next` meets its contract, by the type. Assumes nothing.
 use Rattle.descriptors.proofs.Laws.Scan.{into-function, into-configuration, behind}
 use borrow.Author.Needs.{needs}
 use Rattle.descriptors.proofs.scan.Cursor.next.Statement.{statement}
