@@ -1,8 +1,8 @@
 -- What the owner demands of descriptor sets, said of the definitions that the promises of `src/` equate the calls' answers to. Assumes nothing.
 use Prim.Native.Nat.{ℕ, zero, suc, _+_, _-_, _%_, _≤_, _<_}
-use mathlib.Core.Path.{_≡_, refl, sym, _∙_}
+use mathlib.Core.Path.{_≡_, refl, sym, _∙_, ap}
 use mathlib.Core.List.{List, [], _∷_, _++_}
-use mathlib.Core.Bool.{Bool, true, false, not, _||_, or-true, cond}
+use mathlib.Core.Bool.{Bool, true, false, not, _||_, or-true, cond, false≢true}
 use mathlib.Core.Logic.{_⊎_, inl, inr}
 use native.Mathlib.Omega.{arith}
 use lib.ListN.{length, take, drop, length-drop}
@@ -16,10 +16,10 @@ use Rattle.descriptors.specs.declared.header.Descriptor.the-variants.{Su
 use Rattle.descriptors.specs.declared.properties.RegistryProperty.{RegistryProperty}
 use Rattle.descriptors.specs.Codes.{badSetHeader, badField, noProperty}
 use Rattle.descriptors.specs.Header.{lengthAt, kindAt, nameLengthAt, nameEndAt, dataLengthAt, propertyTests, goodFields, descriptorAt}
-use Rattle.descriptors.specs.Reading.{Entry, Finding, refused, sound, contentsOf, goodHeader, setOf, isSound}
+use Rattle.descriptors.specs.Reading.{Entry, Finding, refused, sound, contentsOf, goodHeader, setOf, isSound, listed, propertiesOf}
 use Rattle.descriptors.specs.Property.{refusedWith, foundAt, nth, inFinding, propertyOf, bytesOf}
-use Rattle.descriptors.specs.Calls.{Call, check, property, name, value, codeOf, partsOf, Ascends}
-use Rattle.descriptors.specs.Levels.{spansOf, Level, top, inside, Follows}
+use Rattle.descriptors.specs.Calls.{Call, check, property, name, value, codeOf, partsOf}
+use Rattle.descriptors.specs.Levels.{spansOf, Level, top, inside, Follows, Ascends}
 use Rattle.descriptors.proofs.Laws.Sound.{holds, sum-holds, known-as}
 use Rattle.descriptors.proofs.Laws.Proper.{Lies, AllLie, Proper, contents-proper}
 use Rattle.descriptors.proofs.Laws.Whole.{sound-header, header-room, good-set}
@@ -27,8 +27,8 @@ use Rattle.descriptors.proofs.Laws.Answer.{Coded, set-coded}
 use Rattle.descriptors.proofs.Laws.Levels.{level-opened, level-follows}
 use Rattle.descriptors.proofs.Laws.Order.{contents-ordered}
 
--- Demand 1, "any refusal empty parts": whatever call is refused, every part of the set that it hands back is empty.
-abbrev AllEmpty : List (List ℕ) → Type 0
+-- Demand 1, nothing leaks from a refusal: whatever call is refused, every part of the set that it hands back is empty.
+abbrev pub AllEmpty : List (List ℕ) → Type 0
 AllEmpty [] = Unit {0}
 AllEmpty (p ∷ ps) = (p ≡ []) × AllEmpty ps
 
@@ -53,7 +53,7 @@ refusals-are-empty s (property k) n = let e = property-parts s k n in (e .0, (e 
 refusals-are-empty s (name k) n = (property-parts s k n .0, tt)
 refusals-are-empty s (value k) n = (property-parts s k n .1, tt)
 
--- Demand 1, "the answer names the faulty descriptor's offset": a set's refusal is of its header, at 0, or one of a descriptor's, which starts in the set.
+-- Demand 1, the place of a fault: a refusal is of the set's header, at 0, or of a descriptor, which starts inside the set.
 pub fault-place : (s : List ℕ) (code offset : ℕ) → setOf s ≡ refused code offset
     → ((code ≡ badSetHeader) × (offset ≡ 0)) ⊎ ((0 < code) × (code ≤ badField) × (offset < length s))
 unfolding setOf
@@ -68,20 +68,28 @@ fault-place s code offset = go (goodHeader s) (contentsOf s Set 10 (length s)) (
     go true (sound ps) r e = absurd (let z : _≡_ {A = ℕ} 0 1 = cc in omega arith)
     go false f r e = inl (cc, cc)
 
--- Demand 2, which answer property k gets: of a faulty set its refusal, of a sound one the property that stands k-th in its list, and past the list none.
+-- Demand 2, which answer property k gets: of a faulty set its refusal; of a sound one the property that stands k-th in the set's list, and past
+-- the list none. The list is in byte order.
 module _ (s : List ℕ) where
   pub faulty-set : (k code offset : ℕ) → setOf s ≡ refused code offset → propertyOf s k ≡ refusedWith code offset
   unfolding propertyOf inFinding
   faulty-set k code offset e = rw e
+
+  of-list : (k : ℕ) → isSound (setOf s) ≡ true → propertyOf s k ≡ nth s k (propertiesOf s)
+  unfolding propertyOf inFinding listed
+  of-list k = go (setOf s)
+    where
+      go : (f : Finding) → isSound f ≡ true → inFinding s k f ≡ nth s k (listed f)
+      go (refused code offset) e = absurd (false≢true e)
+      go (sound ps) e = refl
 
   reach : (ps : List Entry) (q : Entry) (qs : List Entry) → nth s (length ps) (ps ++ q ∷ qs) ≡ foundAt s q
   unfolding nth
   reach [] q qs = refl
   reach (p ∷ ps) q qs = reach ps q qs
 
-  pub each-property : (ps : List Entry) (q : Entry) (qs : List Entry) → setOf s ≡ sound (ps ++ q ∷ qs) → propertyOf s (length ps) ≡ foundAt s q
-  unfolding propertyOf inFinding
-  each-property ps q qs e = rw e (reach ps q qs)
+  pub each-property : isSound (setOf s) ≡ true → (ps : List Entry) (q : Entry) (qs : List Entry) → propertiesOf s ≡ ps ++ q ∷ qs → propertyOf s (length ps) ≡ foundAt s q
+  each-property e ps q qs f = of-list (length ps) e ∙ ap (nth s (length ps)) f ∙ reach ps q qs
 
   past : (ps : List Entry) (k : ℕ) → length ps ≤ k → nth s k ps ≡ refusedWith noProperty 0
   unfolding nth
@@ -89,15 +97,18 @@ module _ (s : List ℕ) where
   past (p ∷ ps) zero h = absurd (omega arith)
   past (p ∷ ps) (suc k) h = past ps k (omega arith)
 
-  pub no-other : (ps : List Entry) (k : ℕ) → setOf s ≡ sound ps → length ps ≤ k → propertyOf s k ≡ refusedWith noProperty 0
-  unfolding propertyOf inFinding
-  no-other ps k e h = rw e (past ps k h)
+  pub no-other : isSound (setOf s) ≡ true → (k : ℕ) → length (propertiesOf s) ≤ k → propertyOf s k ≡ refusedWith noProperty 0
+  no-other e k h = of-list k e ∙ past (propertiesOf s) k h
 
-  -- and the list is in byte order
-  pub byte-order : (ps : List Entry) → setOf s ≡ sound ps → Ascends 10 (length s) ps
-  byte-order ps e =
-      let good = sound-header s (rw e) in
-      rw (sym (good-set s good) ∙ e) at (contents-ordered s Set 10 (length s) (header-room s good))
+  pub byte-order : Ascends 10 (length s) (propertiesOf s)
+  unfolding listed
+  byte-order = go (setOf s) refl
+    where
+      go : (f : Finding) → setOf s ≡ f → Ascends 10 (length s) (listed f)
+      go (refused code offset) e = tt
+      go (sound ps) e =
+          let good = sound-header s (rw e) in
+          rw (sym (good-set s good) ∙ e) at (contents-ordered s Set 10 (length s) (header-room s good))
 
 -- Demand 2, a property that is handed back lies in its descriptor and that in the set, one part behind the other, and keeps 01's rules.
 pub record Inside (s : List ℕ) (f : RegistryProperty) : Type 0 where
@@ -158,8 +169,8 @@ properties-inside s k = go (setOf s) refl (set-coded s)
     go (refused code offset) g w e = absurd (omega arith)
     go (sound ps) g w e = nth-lies s k ps (set-lies s ps g) e
 
--- "Subsets nest": the inside of the set is at depth 0, and no stretch of a set, sound or not, is nested deeper than 2. `walk` is called on the set's
--- inside, and again only by `read`, on the inside of a subset that `look` found: so no more than three walks are under way at a time.
+-- Demand 1, every call ends, in a stack that is known: no stretch of a set, sound or not, is nested in more than two subsets. `walk` is called on the
+-- inside of the set, and again only by `read`, on the inside of a subset that `look` found: so no more than three walks are under way at a time.
 abbrev rank : Parent → ℕ
 rank Set = 2
 rank Configuration = 1
@@ -170,15 +181,18 @@ deeper s Set at end size q e = rw (known-as s Set at end _ e .3)
 deeper s Configuration at end size q e = rw (known-as s Configuration at end _ e .3)
 deeper s (Function i) at end size q e = absurd (known-as s (Function i) at end _ e .4)
 
-pub depth : (s : List ℕ) (d : ℕ) (p : Parent) (from end : ℕ) → Level s d p from end → d + rank p ≡ 2
+depth : (s : List ℕ) (d : ℕ) (p : Parent) (from end : ℕ) → Level s d p from end → d + rank p ≡ 2
 depth s d p from end top = refl
 depth s d p from end (inside {depth = d′} {p = p′} {from = from′} {end = end′} x q l m e) =
     let i = depth s d′ p′ from′ end′ l in
     let j = deeper s p′ (x .at) end′ (x .size) q e in
     omega arith
 
--- "A sound set's descriptors cover it": at every level of it, the first descriptor starts where the parent's header ends, each next one where the one before
--- it ended, and the last ends where the parent does.
+pub shallow : (s : List ℕ) (d : ℕ) (p : Parent) (from end : ℕ) → Level s d p from end → d ≤ 2
+shallow s d p from end l = omega (arith, depth s d p from end l)
+
+-- Demand 2, nothing of a sound set is left out or read twice: at every level of it, the first descriptor starts where the parent's header ends, each
+-- next one where the one before it ended, and the last ends where the parent does.
 stands : (s : List ℕ) → isSound (setOf s) ≡ true → (d : ℕ) (p : Parent) (from end : ℕ) → Level s d p from end
     → (from ≤ end) × (end ≤ length s) × (isSound (contentsOf s p from end) ≡ true)
 stands s e d p from end top = (header-room s (sound-header s e), omega arith, rw (good-set s (sound-header s e)) at e)

@@ -1,7 +1,7 @@
 -- The crate's calls, with what each promise says it hands back, so that a theorem can speak of all of them.
-use Prim.Native.Nat.{ℕ, suc, _≤_, _<_}
+use Prim.Native.Nat.{ℕ}
 use mathlib.Core.List.{List, [], _∷_}
-use Rattle.descriptors.specs.Reading.{Entry, setOf, faultOf}
+use Rattle.descriptors.specs.Reading.{setOf, faultOf}
 use Rattle.descriptors.specs.Property.{propertyOf, bytesOf}
 
 -- `check` and the boot code's check of it, and property k, its name and its data
@@ -24,8 +24,3 @@ partsOf s check = []
 partsOf s (property k) = bytesOf s (propertyOf s k .name) ∷ bytesOf s (propertyOf s k .value) ∷ []
 partsOf s (name k) = bytesOf s (propertyOf s k .name) ∷ []
 partsOf s (value k) = bytesOf s (propertyOf s k .value) ∷ []
-
--- properties in byte order, each behind the one before it, between `from` and `end`
-abbrev pub Ascends : ℕ → ℕ → List Entry → Type 0
-Ascends from end [] = Unit {0}
-Ascends from end (q ∷ qs) = (from ≤ q .at) × (q .at < end) × Ascends (suc (q .at)) end qs

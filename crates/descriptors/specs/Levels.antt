@@ -1,5 +1,5 @@
--- The levels of a set: which stretches of it hold descriptors, and which descriptors each of them holds.
-use Prim.Native.Nat.{ℕ, zero, suc, _+_, _<_}
+-- Where descriptors stand: the levels of a set, which are the stretches of it that hold descriptors, those that each of them holds, and byte order.
+use Prim.Native.Nat.{ℕ, zero, suc, _+_, _≤_, _<_}
 use mathlib.Core.Path.{_≡_}
 use mathlib.Core.List.{List, [], _∷_, List·Memᴰ}
 use mathlib.Core.Bool.{Bool, true, false, not, _&&_, cond}
@@ -10,7 +10,7 @@ use Rattle.descriptors.specs.declared.header.Parent.the-variants.{Set}
 use Rattle.descriptors.specs.declared.header.Descriptor.{Descriptor}
 use Rattle.descriptors.specs.declared.header.Descriptor.the-variants.{Refused, Opaque, Property, Subset}
 use Rattle.descriptors.specs.Header.{descriptorAt}
-use Rattle.descriptors.specs.Reading.{sizeOf}
+use Rattle.descriptors.specs.Reading.{Entry, sizeOf}
 
 -- a descriptor's offset, and its bytes in all
 pub record Span : Type 0 where
@@ -51,3 +51,8 @@ pub data Level (s : List ℕ) : ℕ → Parent → ℕ → ℕ → Type 0 where
 abbrev pub Follows : ℕ → ℕ → List Span → Type 0
 Follows from end [] = from ≡ end
 Follows from end (d ∷ ds) = (d .at ≡ from) × (0 < d .size) × Follows (from + d .size) end ds
+
+-- properties in byte order, each behind the one before it, between `from` and `end`
+abbrev pub Ascends : ℕ → ℕ → List Entry → Type 0
+Ascends from end [] = Unit {0}
+Ascends from end (q ∷ qs) = (from ≤ q .at) × (q .at < end) × Ascends (suc (q .at)) end qs

@@ -12,7 +12,7 @@ use Rattle.descriptors.specs.declared.header.Descriptor.{Descriptor}
 use Rattle.descriptors.specs.declared.header.Descriptor.the-variants.{Refused, Opaque, Property, Subset}
 use Rattle.descriptors.specs.Header.{descriptorAt}
 use Rattle.descriptors.specs.Reading.{Entry, Finding, refused, sound, _then_, descriptor, sizeOf, contents, contentsOf}
-use Rattle.descriptors.specs.Calls.{Ascends}
+use Rattle.descriptors.specs.Levels.{Ascends}
 use Rattle.descriptors.proofs.Laws.Sound.{Known, known}
 
 abbrev pub Ordered : ℕ → ℕ → Finding → Type 0
