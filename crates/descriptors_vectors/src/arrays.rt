@@ -32,16 +32,10 @@ pub(crate) fn second_rows(set: &[u8; 712]) {
     row(b"004 second", set);
     property(set, 18446744073709551615);
     damaged(b"004, total one less", set, 8, 199);
-    damaged(b"004, configuration length 9", set, 10, 9);
-    damaged(b"004, configuration total past the set", set, 16, 191);
     damaged(b"004, function type 3", set, 20, 3);
-    damaged(b"004, function type 1", set, 20, 1);
-    damaged(b"004, function reserved", set, 23, 1);
     damaged(b"004, function total one more", set, 24, 111);
     damaged(b"004, first name odd", set, 32, 41);
     damaged(b"004, zero pair of the first name", set, 73, 1);
-    damaged(b"004, last data type 5", set, 658, 5);
     damaged(b"004, last data type 8", set, 658, 8);
-    damaged(b"004, last data length", set, 706, 5);
     damaged(b"004, second interface 7", set, 388, 7);
 }

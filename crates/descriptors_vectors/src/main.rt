@@ -3,14 +3,15 @@ mod arrays;
 mod print;
 mod rows;
 
-// All rows.
 fn main() {
     rows::header_rows();
     rows::room_rows();
     rows::short_rows();
     rows::types_rows();
     rows::subsets_rows();
+    rows::reserved_rows();
     rows::properties_rows();
+    rows::names_rows();
     rows::sums_rows();
     rows::accepted_rows();
     rows::places_rows();

@@ -106,7 +106,7 @@ pub(crate) fn types_rows() {
     );
 }
 
-// Subset headers: length, total, reserved.
+// Subset headers: length and total.
 pub(crate) fn subsets_rows() {
     row(
         b"configuration of length 9",
@@ -144,6 +144,10 @@ pub(crate) fn subsets_rows() {
         b"total 7 and reserved 1",
         b"\x0a\x00\x00\x00\x00\x00\x00\x0a\x12\x00\x08\x00\x01\x00\x00\x01\x07\x00",
     );
+}
+
+// Subset headers: the reserved byte.
+pub(crate) fn reserved_rows() {
     row(
         b"configuration reserved 1",
         b"\x0a\x00\x00\x00\x00\x00\x00\x0a\x12\x00\x08\x00\x01\x00\x00\x01\x08\x00",
@@ -162,7 +166,7 @@ pub(crate) fn subsets_rows() {
     );
 }
 
-// Properties: length, data type, name.
+// Properties: length and data type.
 pub(crate) fn properties_rows() {
     row(
         b"length 11",
@@ -184,6 +188,10 @@ pub(crate) fn properties_rows() {
         b"data type 257",
         b"\x0a\x00\x00\x00\x00\x00\x00\x0a\x1a\x00\x10\x00\x04\x00\x01\x01\x04\x00\x41\x00\x00\x00\x02\x00\x78\x00",
     );
+}
+
+// Properties: the name.
+pub(crate) fn names_rows() {
     row(
         b"name of 0 bytes",
         b"\x0a\x00\x00\x00\x00\x00\x00\x0a\x16\x00\x0c\x00\x04\x00\x01\x00\x00\x00\x02\x00\x00\x00",
