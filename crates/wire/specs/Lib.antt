@@ -1,4 +1,5 @@
--- What the leaves compute: numbers in bytes, flags, and bytes laid over others.
+-- What the leaves compute: numbers in bytes, flags, bytes laid over others; and ordered tables of refusals.
 pub mod Number
 pub mod Flags
 pub mod Overlay
+pub mod Rows

@@ -18,26 +18,26 @@ pub fn flag_word(s: &[u8], i: usize) -> u64
     number(s, i, 7)
 }
 
-// Whether the bit at a place is among those offered.
-pub fn offers(offered: u8, place: u8) -> bool
-    ensures { λ r. ⌜ r ≡ isSet offered place ⌝ }
+// Whether the bit at a place is set.
+pub fn is_set(word: u64, place: u8) -> bool
+    ensures { λ r. ⌜ r ≡ isSet word place ⌝ }
 {
-    if 8 <= place {
+    if 64 <= place {
         return false;
     }
-    (offered >> place) % 2 == 1
+    (word >> place) % 2 == 1
 }
 
-// The flag that the seven bytes from i on choose.
-pub fn one_flag(s: &[u8], i: usize, offered: u8) -> Choice
-    ensures { λ r. ⌜ r ≡ choiceOf offered (leAt 7 (now (s .entry)) i) ⌝ }
+// The flag that a gathered word of 56 bits chooses.
+pub fn one_flag(word: u64, offered: u8) -> Choice
+    ensures { λ r. ⌜ r ≡ choiceOf offered word ⌝ }
 {
-    let n = flag_word(s, i);
+    let n = word % 0x100_0000_0000_0000;
     if u64::count_ones(n) != 1 {
         return Choice::Refused;
     }
     let place = u64::trailing_zeros(n) as u8;
-    if offers(offered, place) {
+    if is_set(offered as u64, place) {
         return Choice::At(place);
     }
     Choice::Refused

@@ -8,13 +8,14 @@ mod writes;
 
 pub use flags::Choice;
 pub use flags::flag_word;
-pub use flags::offers;
+pub use flags::is_set;
 pub use flags::one_flag;
 pub use numbers::byte;
 pub use numbers::bytes16;
 pub use numbers::bytes32;
 pub use numbers::le16;
 pub use numbers::le32;
+pub use numbers::least;
 pub use parts::head;
 pub use parts::part;
 pub use parts::tail;

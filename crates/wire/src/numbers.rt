@@ -1,7 +1,7 @@
 // Little-endian numbers.
 use crate::parts::tail;
 ghost use mathlib.Core.Path.{_≡_};
-ghost use Prim.Native.Nat.{_≤_, _<_, _^_};
+ghost use Prim.Native.Nat.{_≤_, _<_, _^_, min};
 ghost use lib.ListN.{getD};
 ghost use Rattle.wire.specs.Number.{leAt, bytesOf};
 
@@ -13,6 +13,13 @@ pub fn byte(s: &[u8], i: usize) -> u8
         return s[i];
     }
     0
+}
+
+// The smaller of two.
+pub fn least(a: usize, b: usize) -> usize
+    ensures { λ r. ⌜ r ≡ min a b ⌝ }
+{
+    if a < b { a } else { b }
 }
 
 fn wide(x: u8) -> u64

@@ -1,16 +1,15 @@
 -- What the counts of a number's bits say of the bits. Assumes nothing.
 use mathlib.Core.Path.{_≡_, refl, ap, ap₂, sym, _∙_}
 use mathlib.Core.List.{List, [], _∷_}
-use mathlib.Core.Bool.{Bool, true, false, cond}
+use mathlib.Core.Bool.{Bool, true, false, cond, _&&_}
 use Prim.Native.Nat.{ℕ, zero, suc, _+_, _*_, _/_, _%_, _^_, _≤_, _<_}
-use native.Mathlib.Nat.{pow-succ', lt-of-lt-of-le, div-eq-of-lt}
+use native.Mathlib.Nat.{pow-succ', lt-of-lt-of-le, div-eq-of-lt, mod-lt, mod-add-div, mul-assoc}
 use native.Mathlib.Omega.{arith}
-use lib.Pow.{pow-mono}
-use lib.Dec.{eqb, lit<}
+use lib.Pow.{pow-mono, pow-lt}
+use lib.Dec.{eqb, ltb, lit<}
 use lib.ListN.{length}
 use lib.Count.{ones, ones-step, ones-ones, trailingZeros, under}
-use borrow.Author.Tests.{eqb-true, eqb-false, eq-eqb, ne-eqb}
-use Rattle.wire.specs.declared.flags.Choice.{Choice}
+use borrow.Author.Tests.{ltb-true, ltb-false, eqb-true, eqb-false, eq-eqb, ne-eqb}
 use Rattle.wire.specs.declared.flags.Choice.the-variants.{At, Refused}
 use Rattle.wire.specs.Flags.{isSet, bitsOf, count, first, choiceOf}
 
@@ -70,27 +69,86 @@ zeros-value zero (b ∷ bs) p h = absurd (omega arith)
 zeros-value (suc k) (true ∷ bs) p h = zeros-digit k 1 (value bs) (lit< tt)
 zeros-value (suc k) (false ∷ bs) p h = zeros-digit k 0 (value bs) (lit< tt) ∙ ap suc (zeros-value k bs p (omega arith))
 
--- no bit stands at a place past the byte
-pub high-clear : (n k : ℕ) → n < 256 → 8 ≤ k → isSet n k ≡ false
+-- no bit stands at a place past the width
+pub high-clear : (w n k : ℕ) → n < 2 ^ w → w ≤ k → isSet n k ≡ false
 unfolding isSet
-high-clear n k h p =
+high-clear w n k h p =
     let small : n < 2 ^ k = lt-of-lt-of-le h (pow-mono p) in
     rw (div-eq-of-lt small)
 
--- `choiceOf`, by what the machine counts in the word
-module _ (offered n : ℕ) (h : n < 2 ^ 56) where
-  ones-bits : ones n ≡ count (bitsOf 56 n)
-  ones-bits = ap ones (sym (value-bits 56 n h)) ∙ ones-value (bitsOf 56 n)
+-- the k lowest bits are those of the remainder
+more-bits : (k r q : ℕ) → bitsOf k (r + 2 ^ k * q) ≡ bitsOf k r
+unfolding bitsOf
+more-bits zero r q = refl
+more-bits (suc k) r q =
+    let e : 2 ^ suc k * q ≡ 2 * (2 ^ k * q) = ap (λ (m : ℕ). m * q) (pow-succ' 2 k) ∙ mul-assoc 2 (2 ^ k) q in
+    let m : (r + 2 * (2 ^ k * q)) % 2 ≡ r % 2 = omega arith in
+    let d : (r + 2 * (2 ^ k * q)) / 2 ≡ r / 2 + 2 ^ k * q = omega arith in
+    rw (e, m, d, more-bits k (r / 2) q)
 
-  zeros-bits : ones n ≡ 1 → trailingZeros 64 n ≡ first (bitsOf 56 n)
+low-bits : (k n : ℕ) → bitsOf k (n % 2 ^ k) ≡ bitsOf k n
+low-bits k n = sym (more-bits k (n % 2 ^ k) (n / 2 ^ k)) ∙ ap (bitsOf k) (mod-add-div n (2 ^ k))
+
+-- `choiceOf`, by what the machine counts in the 56 lowest bits of a word
+module _ (offered word : ℕ) where
+  abbrev n : ℕ
+  n = word % 2 ^ 56
+
+  small : n < 2 ^ 56
+  small = mod-lt word (lit< tt)
+
+  ones-bits : ones n ≡ count (bitsOf 56 word)
+  ones-bits = ap ones (sym (value-bits 56 n small)) ∙ ones-value (bitsOf 56 n) ∙ ap count (low-bits 56 word)
+
+  zeros-bits : ones n ≡ 1 → trailingZeros 64 n ≡ first (bitsOf 56 word)
   zeros-bits p =
-      let q : 0 < count (bitsOf 56 n) = omega (arith, ones-bits) in
-      ap (trailingZeros 64) (sym (value-bits 56 n h)) ∙ zeros-value 64 (bitsOf 56 n) q (omega (arith, length-bits 56 n))
+      let q : 0 < count (bitsOf 56 n) = omega (arith, ones-bits, ap count (low-bits 56 word)) in
+      ap (trailingZeros 64) (sym (value-bits 56 n small)) ∙ zeros-value 64 (bitsOf 56 n) q (omega (arith, length-bits 56 n)) ∙ ap first (low-bits 56 word)
 
-  pub not-one : (ones n ≡ 1 → ⊥) → choiceOf offered n ≡ Refused
+  pub not-one : (ones n ≡ 1 → ⊥) → choiceOf offered word ≡ Refused
   unfolding choiceOf
-  not-one p = rw (ne-eqb (count (bitsOf 56 n)) 1 (λ q. p (ones-bits ∙ q)))
+  not-one p = rw (ne-eqb (count (bitsOf 56 word)) 1 (λ q. p (ones-bits ∙ q)))
 
-  pub one : ones n ≡ 1 → choiceOf offered n ≡ cond (isSet offered (trailingZeros 64 n)) (At (trailingZeros 64 n)) Refused
+  pub one : ones n ≡ 1 → choiceOf offered word ≡ cond (isSet offered (trailingZeros 64 n)) (At (trailingZeros 64 n)) Refused
   unfolding choiceOf
-  one p = rw (eq-eqb (count (bitsOf 56 n)) 1 (sym ones-bits ∙ p), zeros-bits p)
+  one p = rw (eq-eqb (count (bitsOf 56 word)) 1 (sym ones-bits ∙ p), zeros-bits p)
+
+-- bits of which one is set stand for the power of its place
+none-value : (bs : List Bool) → count bs ≡ 0 → value bs ≡ 0
+unfolding value count digit
+none-value [] e = refl
+none-value (true ∷ bs) e = absurd (omega arith)
+none-value (false ∷ bs) e = omega (arith, none-value bs e)
+
+one-value : (bs : List Bool) → count bs ≡ 1 → value bs ≡ 2 ^ first bs
+unfolding value count digit first
+one-value [] e = absurd (omega arith)
+one-value (true ∷ bs) e = omega (arith, none-value bs (omega arith))
+one-value (false ∷ bs) e = omega (arith, one-value bs e, pow-succ' 2 (first bs))
+
+-- a bit that is set stands within the width
+pub set-below : (w n k : ℕ) → n < 2 ^ w → isSet n k ≡ true → k < w
+set-below w n k h e = go (ltb k w) refl
+  where
+    go : (b : Bool) → ltb k w ≡ b → k < w
+    go true f = ltb-true k w f
+    go false f = let clear = high-clear w n k h (ltb-false k w f) in let z : _≡_ {A = ℕ} 0 1 = cc in absurd (omega arith)
+
+-- a word that chooses is the power of the place it chooses, and that is within the width of what is offered
+module _ (w offered word p : ℕ) (h : offered < 2 ^ w) (g : word < 2 ^ 56) (e : choiceOf offered word ≡ At p) where
+  abbrev bits : List Bool
+  bits = bitsOf 56 word
+
+  tested : (a b : Bool) → eqb (count bits) 1 ≡ a → isSet offered (first bits) ≡ b → cond (a && b) (At (first bits)) Refused ≡ At p → (word ≡ 2 ^ p) × (p < w)
+  tested true true m n f =
+      let q : first bits ≡ p = cc in
+      rw (← q) (sym (value-bits 56 word g) ∙ one-value bits (eqb-true (count bits) 1 m), set-below w offered (first bits) h n)
+  tested true false m n f = let z : _≡_ {A = ℕ} 0 1 = cc in absurd (omega arith)
+  tested false b m n f = let z : _≡_ {A = ℕ} 0 1 = cc in absurd (omega arith)
+
+  pub chosen-is : (word ≡ 2 ^ p) × (p < w)
+  unfolding choiceOf
+  chosen-is = tested (eqb (count bits) 1) (isSet offered (first bits)) refl refl e
+
+  pub chosen-below : word < 2 ^ w
+  chosen-below = rw (chosen-is .0) (pow-lt (chosen-is .1))

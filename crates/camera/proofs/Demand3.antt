@@ -1,0 +1,143 @@
+-- The owner's demand 3. Assumes nothing.
+use mathlib.Core.Path.{_≡_, refl, ap, ap₂, sym, _∙_, subst, fun-ext}
+use mathlib.Core.List.{List, [], _∷_, _++_}
+use mathlib.Core.Option.{Option, none, some, Option·map}
+use mathlib.Core.Bool.{Bool, true, false, cond, not, true≢false}
+use Prim.Native.Nat.{ℕ, _≤_}
+use native.Mathlib.Omega.{arith}
+use lib.Dec.{eqb, ltb}
+use lib.ListN.{length, drop}
+use borrow.Author.Tests.{eq-eqb, eqb-true, eqb-false, le-ltb}
+use Rattle.wire.specs.Rows.{firstOf}
+use Rattle.snapshot.specs.Form as form
+use Rattle.snapshot.specs.Records.{decode, encode, GoodAt}
+use Rattle.snapshot.specs.Records as records
+use Rattle.snapshot.specs.Merge.{over, merged}
+use Rattle.snapshot.specs.Settings.{lastOf, snapshotOf, Rows}
+use Rattle.snapshot.proofs.Laws.Maps.{decode-encode}
+use Rattle.snapshot.proofs.Laws.Form.{encode-formed}
+use Rattle.snapshot.proofs.Laws.Merging.{over-assoc, over-none}
+use Rattle.snapshot.proofs.Laws.Settings.{last-append, rows-append, snapshot-append}
+use Rattle.controls.specs.declared.settings.Item.the-variants.{Absent, Given}
+use Rattle.controls.specs.declared.settings.Setting.{Setting}
+use Rattle.camera.specs.declared.profile.Profile.{Profile}
+use Rattle.camera.specs.declared.record.Camera.{Camera}
+use Rattle.camera.specs.declared.calls.Outcome.{Outcome}
+use Rattle.camera.specs.Profile.{profileValid}
+use Rattle.camera.specs.Record.{fresh, keyOf, held, kept, wellFormed}
+use Rattle.camera.specs.Items.{settingOf, codeOf, puts}
+use Rattle.camera.specs.Requests.{refused, outcomeBy}
+use Rattle.camera.specs.Snapshots.{loadTests, loadCode, loadGives, loaded, itemFor, loadItem, row, snapshot, writeCode, written, writtenOut}
+use Rattle.camera.specs.Calls.{Call, load}
+use Rattle.camera.specs.Demand.{gives, leaves, flagAfter, given, settings, sheet, run, Fitting, Typed, Same, Written, Whole, Merges, Restores}
+use Rattle.camera.proofs.Laws.Held.{fresh-held}
+use Rattle.camera.proofs.Laws.Kept.{Good, formed-profile, formed-kept}
+use Rattle.camera.proofs.Laws.Steps.{Ok, step, gives-good}
+use Rattle.camera.proofs.Laws.Lists.{given-append, run-ok, fresh-ok, held-after, flag-after}
+use Rattle.camera.proofs.Laws.Records.{rows, row-record, row-taken}
+use Rattle.camera.proofs.Laws.Loads.{Accepted, load-settings, load-accepted, accepted-load, merged-accepted, merged-settings}
+
+-- writing, where there is room
+writes : (c : Camera) (out : List ℕ) → wellFormed c ≡ true → length (snapshot c) ≤ length out → Written c (snapshot c) out
+unfolding written writtenOut writeCode
+writes c out w h = record { outcome = rw (w, le-ltb (length out) (length (snapshot c)) h); buffer = rw (w, le-ltb (length out) (length (snapshot c)) h) }
+
+module _ (p : Profile) (v : profileValid p ≡ true) where
+  given-rows : (f : Bool) (cs : List Call) → Rows row (given p f cs)
+  given-rows f [] = tt
+  given-rows f (c ∷ cs) = rows-append row (gives p f c) _ (rows p (gives p f c) (gives-good p v f c)) (given-rows (leaves f c) cs)
+
+  snapshot-after : (f : Bool) (cs : List Call) → snapshot (run (fresh p f) cs) ≡ sheet p f cs
+  unfolding snapshot
+  snapshot-after f cs = ap (snapshotOf row) (held-after p v f cs)
+
+  cut : (f : Bool) (xs ys : List Call) → sheet p f (xs ++ ys) ≡ merged (sheet p f xs) (sheet p (flagAfter f xs) ys)
+  cut f xs ys =
+      let g = flagAfter f xs in
+      ap (λ l. snapshotOf row (lastOf l)) (given-append p f xs ys)
+      ∙ snapshot-append row (given p f xs) (given p g ys) (given-rows f xs) (given-rows g ys)
+
+  -- every list of calls, from a fresh camera of a valid profile, streaming or not, wherever it is cut
+  pub whole : (f : Bool) (xs ys : List Call) → Whole p f xs ys
+  whole f xs ys =
+      let s = snapshot-after f (xs ++ ys) in
+      let w = run-ok p (fresh p f) (fresh-ok p v f) (xs ++ ys) .formed in
+      record {
+        is-held = held-after p v f (xs ++ ys);
+        is-streaming = flag-after p v f (xs ++ ys);
+        is-formed = w;
+        is-sheet = s;
+        is-written = λ out h. subst (λ l. Written (run (fresh p f) (xs ++ ys)) l out) s (writes (run (fresh p f) (xs ++ ys)) out w (rw s h));
+        is-merged =
+            s ∙ cut f xs ys
+            ∙ sym (ap₂ merged (snapshot-after f xs) (ap (λ g. snapshot (run (fresh p g) ys)) (flag-after p v f xs) ∙ snapshot-after (flagAfter f xs) ys));
+      }
+
+-- what an accepted load says of the camera and of the snapshot
+record Load (c : Camera) (s : List ℕ) : Type 0 where
+  formed : wellFormed c ≡ true
+  tests : firstOf (loadTests (c .profile) (c .streaming) s) ≡ 0
+
+load-says : (c : Camera) (s : List ℕ) → loaded c s .code ≡ 0 → Load c s
+unfolding loaded loadCode
+load-says c s e = go (wellFormed c) refl (eqb (loadCode c s) 0) refl e
+  where
+    no : Outcome
+    no = refused (loadCode c s) c
+
+    done : Outcome
+    done = record { code = 0; count = 0; camera = puts c (loadGives (c .profile) (c .streaming) s) }
+
+    go : (w : Bool) → wellFormed c ≡ w → (b : Bool) → eqb (loadCode c s) 0 ≡ b → cond b done no .code ≡ 0 → Load c s
+    go true q true r z = record { formed = q; tests = rw q at (eqb-true (loadCode c s) 0 r) }
+    go w q false r z = absurd (eqb-false (loadCode c s) 0 r z)
+    go false q true r z = let k : _≡_ {A = ℕ} 0x21 0 = rw q at (eqb-true (loadCode c s) 0 r) in absurd (omega arith)
+
+says-load : (c : Camera) (s : List ℕ) → Load c s → loaded c s .code ≡ 0
+unfolding loaded loadCode
+says-load c s l = rw (l .formed, eq-eqb (firstOf (loadTests (c .profile) (c .streaming) s)) 0 (l .tests))
+
+-- a record as the steps take it
+record-ok : (c : Camera) → wellFormed c ≡ true → length (c .face) ≡ 15 → Ok (c .profile) c
+record-ok c w h = record { profile = refl; formed = w; places = h }
+
+-- what an accepted load leaves
+module _ (c : Camera) (w : wellFormed c ≡ true) (h : length (c .face) ≡ 15) (s : List ℕ) (l : Load c s) where
+  load-step : Ok (c .profile) (loaded c s .camera)
+  load-step = step (c .profile) c (record-ok c w h) (load s) .ok
+
+  load-streaming : loaded c s .camera .streaming ≡ c .streaming
+  load-streaming = step (c .profile) c (record-ok c w h) (load s) .streaming-after
+
+  load-held : (k : ℕ) → held (loaded c s .camera) k ≡ over (held c k) (lastOf (loadGives (c .profile) (c .streaming) s) k)
+  unfolding gives
+  load-held k = step (c .profile) c (record-ok c w h) (load s) .held-after k ∙ rw (eq-eqb (firstOf (loadTests (c .profile) (c .streaming) s)) 0 (l .tests))
+
+-- whichever two snapshots a camera accepts: their merge leaves the same camera as the two in turn
+pub load-merged : (c : Camera) → length (c .face) ≡ 15 → (a b : List ℕ) → loaded c a .code ≡ 0 → loaded c b .code ≡ 0 → Merges c a b
+load-merged c h a b ea eb =
+    let la = load-says c a ea in
+    let lb = load-says c b eb in
+    let w = la .formed in
+    let p = c .profile in
+    let f = c .streaming in
+    let x = load-accepted p f a (la .tests) in
+    let y = load-accepted p f b (lb .tests) in
+    let lm : Load c (merged a b) = record { formed = w; tests = accepted-load p f (merged a b) (merged-accepted p f a b x y) } in
+    let d = loaded c a .camera in
+    let o = load-step c w h a la in
+    let st = load-streaming c w h a la in
+    let lt : Load d b = record { formed = o .formed; tests = rw (o .profile, st) (lb .tests) } in
+    record {
+      merge-accepted = says-load c (merged a b) lm;
+      turn-accepted = says-load d b lt;
+      same = record {
+        profile = load-step c w h (merged a b) lm .profile ∙ sym (load-step d (o .formed) (o .places) b lt .profile ∙ o .profile);
+        streaming = load-streaming c w h (merged a b) lm ∙ sym (load-streaming d (o .formed) (o .places) b lt ∙ st);
+        settings = λ k.
+            load-held c w h (merged a b) lm k
+            ∙ ap (over (held c k)) (merged-settings p f a b y k)
+            ∙ sym (over-assoc (held c k) (lastOf (loadGives p f a) k) (lastOf (loadGives p f b) k))
+            ∙ sym (load-held d (o .formed) (o .places) b lt k ∙ ap₂ over (load-held c w h a la k) (ap₂ (λ q g. lastOf (loadGives q g b) k) (o .profile) st));
+      };
+    }

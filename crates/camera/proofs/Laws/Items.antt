@@ -1,0 +1,71 @@
+-- Laws of items taken one after the other. Assumes nothing.
+use mathlib.Core.Path.{_≡_, refl, ap, sym, _∙_}
+use mathlib.Core.List.{List, [], _∷_, _++_, append-assoc, append-nil}
+use mathlib.Core.Bool.{Bool, true, false, cond}
+use Prim.Native.Nat.{ℕ, zero, suc, _+_, _≤_, _<_}
+use native.Mathlib.Nat.{zero-add}
+use native.Mathlib.Numerals.{add-one}
+use native.Mathlib.Omega.{arith}
+use lib.Dec.{eqb}
+use borrow.Author.Tests.{eq-eqb, ne-eqb, eqb-true, eqb-false}
+use Rattle.controls.specs.declared.settings.Item.{Item}
+use Rattle.controls.specs.declared.settings.Setting.{Setting}
+use Rattle.camera.specs.declared.record.Camera.{Camera}
+use Rattle.camera.specs.Record.{put}
+use Rattle.camera.specs.Items.{codeOf, givenOf, firstRefusal, allGiven, puts}
+
+-- the first that is refused, where those before it are not
+pub refusal-at : (n k i : ℕ) (item : ℕ → Item) → ((j : ℕ) → j < i → codeOf (item (j + k)) ≡ 0) → i < n → (codeOf (item (i + k)) ≡ 0 → ⊥)
+    → firstRefusal n k item ≡ codeOf (item (i + k))
+unfolding firstRefusal
+refusal-at zero k i item before h bad = absurd (omega arith)
+refusal-at (suc n) k zero item before h bad = rw zero-add (simp (ne-eqb (codeOf (item k)) 0 (rw zero-add at bad)))
+refusal-at (suc n) k (suc i) item before h bad =
+    let z : codeOf (item k) ≡ 0 = rw zero-add at (before 0 (omega arith)) in
+    let e : (j : ℕ) → j + suc k ≡ suc j + k = λ j. omega arith in
+    simp (eq-eqb (codeOf (item k)) 0 z)
+    (refusal-at n (suc k) i item (λ j l. rw (e j) (before (suc j) (omega arith))) (omega arith) (rw (e i) bad)
+    ∙ ap (λ (m : ℕ). codeOf (item m)) (e i))
+
+-- none of them is refused
+pub refusal-none : (n k : ℕ) (item : ℕ → Item) → ((j : ℕ) → j < n → codeOf (item (j + k)) ≡ 0) → firstRefusal n k item ≡ 0
+unfolding firstRefusal
+refusal-none zero k item h = refl
+refusal-none (suc n) k item h =
+    let z : codeOf (item k) ≡ 0 = rw zero-add at (h 0 (omega arith)) in
+    let e : (j : ℕ) → j + suc k ≡ suc j + k = λ j. omega arith in
+    simp (eq-eqb (codeOf (item k)) 0 z) (refusal-none n (suc k) item (λ j l. rw (e j) (h (suc j) (omega arith))))
+
+-- and back
+pub none-refused : (n k : ℕ) (item : ℕ → Item) → firstRefusal n k item ≡ 0 → (j : ℕ) → j < n → codeOf (item (j + k)) ≡ 0
+unfolding firstRefusal
+none-refused zero k item e j h = absurd (omega arith)
+none-refused (suc n) k item e j h = go (eqb (codeOf (item k)) 0) refl e (λ q. none-refused n (suc k) item q) j h
+  where
+    go : (b : Bool) → eqb (codeOf (item k)) 0 ≡ b → cond b (firstRefusal n (suc k) item) (codeOf (item k)) ≡ 0
+        → (firstRefusal n (suc k) item ≡ 0 → (j : ℕ) → j < n → codeOf (item (j + suc k)) ≡ 0) → (j : ℕ) → j < suc n → codeOf (item (j + k)) ≡ 0
+    go true p q ih zero l = rw zero-add (eqb-true (codeOf (item k)) 0 p)
+    go true p q ih (suc j) l = let s : j + suc k ≡ suc j + k = omega arith in rw s at (ih q j (omega arith))
+    go false p q ih j l = absurd (eqb-false (codeOf (item k)) 0 p q)
+
+-- one item more
+pub given-next : (i k : ℕ) (item : ℕ → Item) → allGiven (suc i) k item ≡ allGiven i k item ++ givenOf (item (i + k))
+unfolding allGiven
+given-next zero k item = rw zero-add (append-nil (givenOf (item k)))
+given-next (suc i) k item =
+    let e : i + suc k ≡ suc i + k = omega arith in
+    ap (λ l. givenOf (item k) ++ l) (given-next i (suc k) item ∙ ap (λ (m : ℕ). allGiven i (suc k) item ++ givenOf (item m)) e)
+    ∙ sym (append-assoc (givenOf (item k)) (allGiven i (suc k) item) (givenOf (item (suc i + k))))
+
+pub puts-append : (c : Camera) (a b : List (ℕ × Setting)) → puts c (a ++ b) ≡ puts (puts c a) b
+unfolding puts
+puts-append c [] b = refl
+puts-append c (s ∷ a) b = puts-append (put c (s .1)) a b
+
+-- the record with i + 1 items is the record with i of them, and the next
+pub puts-next : (c : Camera) (i : ℕ) (item : ℕ → Item) → puts c (allGiven (i + 1) 0 item) ≡ puts (puts c (allGiven i 0 item)) (givenOf (item i))
+puts-next c i item =
+    let e : i + 0 ≡ i = omega arith in
+    ap (λ (m : ℕ). puts c (allGiven m 0 item)) (add-one i)
+    ∙ ap (puts c) (given-next i 0 item ∙ ap (λ (m : ℕ). allGiven i 0 item ++ givenOf (item m)) e)
+    ∙ puts-append c (allGiven i 0 item) (givenOf (item i))

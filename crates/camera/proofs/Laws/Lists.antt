@@ -1,0 +1,65 @@
+-- Lists of calls on records of one profile. Assumes nothing.
+use mathlib.Core.Path.{_≡_, refl, ap, ap₂, sym, _∙_, fun-ext}
+use mathlib.Core.List.{List, [], _∷_, _++_, append-assoc}
+use mathlib.Core.Option.{Option}
+use mathlib.Core.Bool.{Bool, true}
+use Prim.Native.Nat.{ℕ}
+use Rattle.snapshot.specs.Records.{Record}
+use Rattle.snapshot.specs.Merge.{over, merged}
+use Rattle.snapshot.specs.Settings.{lastOf, snapshotOf, Rows}
+use Rattle.snapshot.proofs.Laws.Merging.{over-assoc, over-none}
+use Rattle.snapshot.proofs.Laws.Settings.{last-append, rows-append, snapshot-append}
+use Rattle.controls.specs.declared.settings.Setting.{Setting}
+use Rattle.camera.specs.declared.profile.Profile.{Profile}
+use Rattle.camera.specs.declared.record.Camera.{Camera}
+use Rattle.camera.specs.Profile.{profileValid}
+use Rattle.camera.specs.Record.{fresh, keyOf, held, kept}
+use Rattle.camera.specs.Snapshots.{row}
+use Rattle.camera.specs.Calls.{Call, next}
+use Rattle.camera.specs.Demand.{gives, leaves, flagAfter, given, settings, run}
+use Rattle.camera.proofs.Laws.Held.{Each, fresh-held}
+use Rattle.camera.proofs.Laws.Kept.{Good, kept-formed}
+use Rattle.camera.proofs.Laws.Steps.{Ok, step, gives-good}
+
+-- the settings and the flag of a list of two parts
+pub given-append : (p : Profile) (f : Bool) (xs ys : List Call) → given p f (xs ++ ys) ≡ given p f xs ++ given p (flagAfter f xs) ys
+given-append p f [] ys = refl
+given-append p f (c ∷ xs) ys = ap (λ l. gives p f c ++ l) (given-append p (leaves f c) xs ys) ∙ sym (append-assoc (gives p f c) _ _)
+
+-- a record after a list of calls
+module _ (p : Profile) where
+  pub run-ok : (c : Camera) → Ok p c → (cs : List Call) → Ok p (run c cs)
+  run-ok c o [] = o
+  run-ok c o (x ∷ cs) = run-ok (next c x) (step p c o x .ok) cs
+
+  pub run-streaming : (c : Camera) → Ok p c → (cs : List Call) → run c cs .streaming ≡ flagAfter (c .streaming) cs
+  run-streaming c o [] = refl
+  run-streaming c o (x ∷ cs) = run-streaming (next c x) (step p c o x .ok) cs ∙ ap (λ f. flagAfter f cs) (step p c o x .streaming-after)
+
+  pub run-held : (c : Camera) → Ok p c → (cs : List Call) (k : ℕ) → held (run c cs) k ≡ over (held c k) (settings p (c .streaming) cs k)
+  run-held c o [] k = refl
+  run-held c o (x ∷ cs) k =
+      let s = step p c o x in
+      run-held (next c x) (s .ok) cs k
+      ∙ ap₂ (λ o f. over o (settings p f cs k)) (s .held-after k) (s .streaming-after)
+      ∙ over-assoc (held c k) (lastOf (gives p (c .streaming) x) k) (settings p (leaves (c .streaming) x) cs k)
+      ∙ ap (over (held c k)) (sym (last-append (gives p (c .streaming) x) (given p (leaves (c .streaming) x) cs) k))
+
+-- from a fresh camera of a valid profile
+module _ (p : Profile) (v : profileValid p ≡ true) (f : Bool) where
+  pub fresh-ok : Ok p (fresh p f)
+  unfolding fresh kept
+  fresh-ok = record { profile = refl; formed = kept-formed (fresh p f) v (λ k. rw (fresh-held p f k)); places = refl }
+
+  pub fresh-streaming : fresh p f .streaming ≡ f
+  unfolding fresh
+  fresh-streaming = refl
+
+  pub held-after : (cs : List Call) → held (run (fresh p f) cs) ≡ settings p f cs
+  held-after cs = fun-ext λ k.
+      run-held p (fresh p f) fresh-ok cs k
+      ∙ ap₂ (λ o g. over o (settings p g cs k)) (fresh-held p f k) fresh-streaming
+      ∙ over-none (settings p f cs k)
+
+  pub flag-after : (cs : List Call) → run (fresh p f) cs .streaming ≡ flagAfter f cs
+  flag-after cs = run-streaming p (fresh p f) fresh-ok cs ∙ ap (λ g. flagAfter g cs) fresh-streaming

@@ -1,0 +1,245 @@
+-- Loading a snapshot: what it answers and gives, record by record. Assumes nothing.
+use mathlib.Core.Path.{_≡_, refl, ap, ap₂, sym, _∙_, subst, fun-ext}
+use mathlib.Core.List.{List, [], _∷_, _++_}
+use mathlib.Core.Option.{Option, none, some}
+use mathlib.Core.Bool.{Bool, true, false, cond, not, _&&_, true≢false}
+use Prim.Native.Nat.{ℕ, zero, suc, _+_, _-_, _≤_, _<_}
+use native.Mathlib.Nat.{add-zero}
+use native.Mathlib.Omega.{arith}
+use lib.Dec.{eqb, leb}
+use lib.ListN.{length, getD, drop}
+use lib.Seq.{getD-drop}
+use borrow.Author.Tests.{eq-eqb, ne-eqb, eqb-true, eqb-false, leb-true, leb-false}
+use Rattle.wire.specs.Rows.{Row, _⇒_, firstOf}
+use Rattle.snapshot.specs.Form as form
+use Rattle.snapshot.specs.Records.{stands, decode, GoodAt, Record}
+use Rattle.snapshot.specs.Merge.{over, merged}
+use Rattle.snapshot.specs.Settings.{lastOf}
+use Rattle.snapshot.proofs.Laws.Sound.{stands-below}
+use Rattle.snapshot.proofs.Laws.Maps.{decode-good, none-above}
+use Rattle.snapshot.proofs.Laws.Merging.{decode-merged, merged-formed, over-none}
+use Rattle.snapshot.proofs.Laws.Settings.{last-append}
+use Rattle.controls.specs.declared.settings.Item.{Item}
+use Rattle.controls.specs.declared.settings.Item.the-variants.{Absent, Refused, Given}
+use Rattle.controls.specs.declared.settings.Setting.{Setting}
+use Rattle.controls.specs.declared.settings.Setting.the-variants as S
+use Rattle.controls.specs.Settings.{itemOf}
+use Rattle.controls.specs.Ev.{evItem}
+use Rattle.controls.specs.Face.{faceItem}
+use Rattle.controls.specs.Metadata.{metadataItem}
+use Rattle.controls.specs.Hdr.{hdrItem}
+use Rattle.controls.specs.Throttle.{throttleItem}
+use Rattle.controls.proofs.Laws.Settings.{given-is}
+use Rattle.camera.specs.declared.profile.Profile.{Profile}
+use Rattle.camera.specs.Record.{keyOf, controlRefusal}
+use Rattle.camera.specs.Items.{settingOf, codeOf, givenOf, firstRefusal, allGiven, itemAt}
+use Rattle.camera.specs.Snapshots.{selectorAt, recordItem, itemFor, loadItem, loadTests, loadGives}
+use Rattle.camera.proofs.Laws.Items.{refusal-none, none-refused}
+use Rattle.camera.proofs.Laws.Selectors.{Control, ev, face, metadata, hdr, throttle}
+use Rattle.camera.proofs.Laws.Steps.{isGiven, key-control}
+
+and-true : (a b : Bool) → a && b ≡ true → (a ≡ true) × (b ≡ true)
+and-true true b e = (refl, e)
+and-true false b e = absurd (true≢false (sym e))
+
+-- items whose settings stand under the number of the item
+abbrev pub Keyed : (ℕ → Item) → Type 0
+Keyed item = (k : ℕ) (s : Setting) → item k ≡ Given s → keyOf s ≡ k
+
+-- the last setting that one item gives
+module _ (item : ℕ → Item) (keyed : Keyed item) where
+  last-one : (k j : ℕ) → lastOf (givenOf (item k)) j ≡ cond (eqb k j) (settingOf (item k)) none
+  unfolding givenOf
+  last-one k j = go (item k) refl
+    where
+      nothing : (b : Bool) → none ≡ cond {A = Option Setting} b none none
+      nothing true = refl
+      nothing false = refl
+
+      go : (i : Item) → item k ≡ i → lastOf (givenOf i) j ≡ cond (eqb k j) (settingOf i) none
+      go Absent e = nothing (eqb k j)
+      go (Refused code) e = nothing (eqb k j)
+      go (Given s) e = rw (keyed k s e)
+
+  -- and that n items give, from key k on
+  last-below : (n k j : ℕ) → j < k → lastOf (allGiven n k item) j ≡ none
+  unfolding allGiven
+  last-below zero k j h = refl
+  last-below (suc n) k j h =
+      last-append (givenOf (item k)) (allGiven n (suc k) item) j
+      ∙ ap₂ over (last-one k j ∙ simp (ne-eqb k j (omega arith))) (last-below n (suc k) j (omega arith))
+
+  last-all : (n k j : ℕ) → k ≤ j → j < n + k → lastOf (allGiven n k item) j ≡ settingOf (item j)
+  unfolding allGiven
+  last-all zero k j h l = absurd (omega arith)
+  last-all (suc n) k j h l = last-append (givenOf (item k)) (allGiven n (suc k) item) j ∙ go (eqb k j) refl (λ p. last-all n (suc k) j p (omega arith))
+    where
+      go : (b : Bool) → eqb k j ≡ b → (suc k ≤ j → lastOf (allGiven n (suc k) item) j ≡ settingOf (item j))
+          → over (lastOf (givenOf (item k)) j) (lastOf (allGiven n (suc k) item) j) ≡ settingOf (item j)
+      go true e ih =
+          let q : k ≡ j = eqb-true k j e in
+          ap₂ over (last-one k j ∙ simp e) (last-below n (suc k) j (omega arith)) ∙ ap (λ i. settingOf (item i)) q
+      go false e ih =
+          let q : k ≡ j → ⊥ = eqb-false k j e in
+          ap₂ over (last-one k j ∙ simp e) (ih (omega arith)) ∙ over-none _
+
+  last-above : (n k j : ℕ) → n + k ≤ j → lastOf (allGiven n k item) j ≡ none
+  unfolding allGiven
+  last-above zero k j h = refl
+  last-above (suc n) k j h =
+      last-append (givenOf (item k)) (allGiven n (suc k) item) j
+      ∙ ap₂ over (last-one k j ∙ simp (ne-eqb k j (omega arith))) (last-above n (suc k) j (omega arith))
+
+-- an item is by its tests' number and its setting
+by-number : (code : ℕ) (s : Setting) → codeOf (itemOf code s) ≡ code
+unfolding itemOf codeOf
+by-number code s = go (eqb code 0) refl
+  where
+    go : (b : Bool) → eqb code 0 ≡ b → codeOf (cond b (Given s) (Refused code)) ≡ code
+    go true e = sym (eqb-true code 0 e)
+    go false e = refl
+
+-- and where its number is 0 gives the setting
+pub taken : (code : ℕ) (s : Setting) → codeOf (itemOf code s) ≡ 0 → itemOf code s ≡ Given s
+unfolding itemOf
+taken code s e = rw (eq-eqb code 0 (sym (by-number code s) ∙ e))
+
+-- the key of a face record is its address, less 0x80
+face-key : (kind address k : ℕ) → form.keyFor kind address ≡ k → 1 ≤ k → k ≤ 15 → address - 0x80 ≡ k
+face-key kind address k e l h = go (eqb kind 0x03) (eqb kind 0x06) (eqb kind 0x09) (eqb kind 0x0D) e
+  where
+    go : (a b c d : Bool) → cond a 0 (cond b (address - 0x80) (cond c 16 (cond d 17 18))) ≡ k → address - 0x80 ≡ k
+    go true b c d z = absurd (omega arith)
+    go false true c d z = z
+    go false false true d z = absurd (omega arith)
+    go false false false true z = absurd (omega arith)
+    go false false false false z = absurd (omega arith)
+
+-- the setting that a record gives stands under the record's key
+record-keyed : (p : Profile) (k : ℕ) (r : List ℕ) (s : Setting) → Record k r → itemAt p (selectorAt k) (drop 4 r) 0 ≡ Given s → keyOf s ≡ k
+unfolding itemAt evItem faceItem metadataItem hdrItem throttleItem stands form.keyAt
+record-keyed p k r s q e = go (eqb k 0) (leb k 15) (eqb k 16) (eqb k 17) refl refl refl refl e
+  where
+    is-key : form.keyFor (form.kindAt r) (getD r 5 0) ≡ k
+    is-key = eqb-true _ k (and-true (form.sound r) _ (q .is) .1)
+
+    go : (a b c d : Bool) → eqb k 0 ≡ a → leb k 15 ≡ b → eqb k 16 ≡ c → eqb k 17 ≡ d
+        → itemAt p (cond a 0x03 (cond b 0x06 (cond c 0x09 (cond d 0x0D 0x0E)))) (drop 4 r) 0 ≡ Given s → keyOf s ≡ k
+    go true b c d t u v w i = ap keyOf (sym (given-is _ _ s i .1)) ∙ sym (eqb-true k 0 t)
+    go false true c d t u v w i =
+        ap keyOf (sym (given-is _ _ s i .1))
+        ∙ ap (λ (a : ℕ). a - 0x80) (getD-drop 4 r 1 0)
+        ∙ face-key (form.kindAt r) (getD r 5 0) k is-key (let n = eqb-false k 0 t in omega arith) (leb-true k 15 u)
+    go false false true d t u v w i = ap keyOf (sym (given-is _ _ s i .1)) ∙ sym (eqb-true k 16 v)
+    go false false false true t u v w i = ap keyOf (sym (given-is _ _ s i .1)) ∙ sym (eqb-true k 17 w)
+    go false false false false t u v w i =
+        let n = leb-false k 15 u in
+        let below = stands-below k r (q .is) in
+        let l16 = eqb-false k 16 v in
+        let l17 = eqb-false k 17 w in
+        let h : 18 ≡ k = omega arith in
+        ap keyOf (sym (given-is _ _ s i .1)) ∙ h
+
+-- a control's item is by its tests' number
+item-taken : (p : Profile) (selector : ℕ) (payload : List ℕ) (i : ℕ) → Control selector → codeOf (itemAt p selector payload i) ≡ 0 → isGiven (itemAt p selector payload i) ≡ true
+unfolding itemAt evItem faceItem metadataItem hdrItem throttleItem isGiven
+item-taken p _ payload i ev e = ap isGiven (taken _ _ e)
+item-taken p _ payload i face e = ap isGiven (taken _ _ e)
+item-taken p _ payload i metadata e = ap isGiven (taken _ _ e)
+item-taken p _ payload i hdr e = ap isGiven (taken _ _ e)
+item-taken p _ payload i throttle e = ap isGiven (taken _ _ e)
+
+module _ (p : Profile) (streaming : Bool) where
+  -- so is a record's
+  record-taken : (k : ℕ) (r : List ℕ) → codeOf (recordItem p streaming k r) ≡ 0 → isGiven (recordItem p streaming k r) ≡ true
+  unfolding recordItem codeOf
+  record-taken k r e = go (eqb (controlRefusal p streaming (selectorAt k)) 0) refl e
+    where
+      go : (b : Bool) → eqb (controlRefusal p streaming (selectorAt k)) 0 ≡ b
+          → codeOf (cond b (itemAt p (selectorAt k) (drop 4 r) 0) (Refused (controlRefusal p streaming (selectorAt k)))) ≡ 0
+          → isGiven (cond b (itemAt p (selectorAt k) (drop 4 r) 0) (Refused (controlRefusal p streaming (selectorAt k)))) ≡ true
+      go true q z = item-taken p (selectorAt k) (drop 4 r) 0 (key-control k) z
+      go false q z = absurd (eqb-false _ 0 q z)
+
+  -- the settings of a snapshot's records stand under the records' keys
+  load-keyed : (s : List ℕ) → Keyed (loadItem p streaming s)
+  unfolding itemFor recordItem isGiven
+  load-keyed s k t e = go (decode s k) (decode-good s k) e
+    where
+      given : (r : List ℕ) → Record k r → (b : Bool) → cond b (itemAt p (selectorAt k) (drop 4 r) 0) (Refused (controlRefusal p streaming (selectorAt k))) ≡ Given t → keyOf t ≡ k
+      given r g true i = record-keyed p k r t g i
+      given r g false i = absurd (true≢false (sym (ap isGiven i)))
+
+      go : (o : Option (List ℕ)) → GoodAt k o → itemFor p streaming k o ≡ Given t → keyOf t ≡ k
+      go none g i = absurd (true≢false (sym (ap isGiven i)))
+      go (some r) g i = given r g (eqb (controlRefusal p streaming (selectorAt k)) 0) i
+
+  -- behind the last key there is no record
+  load-end : (s : List ℕ) (k : ℕ) → 19 ≤ k → loadItem p streaming s k ≡ Absent
+  unfolding itemFor
+  load-end s k h = rw (none-above (decode s) (decode-good s) k h)
+
+  -- what a load gives: each record's setting
+  pub load-settings : (s : List ℕ) (k : ℕ) → lastOf (loadGives p streaming s) k ≡ settingOf (loadItem p streaming s k)
+  unfolding loadGives
+  load-settings s k = go (leb 19 k) refl
+    where
+      go : (b : Bool) → leb 19 k ≡ b → lastOf (allGiven 19 0 (loadItem p streaming s)) k ≡ settingOf (loadItem p streaming s k)
+      go true e = let h = leb-true 19 k e in last-above _ (load-keyed s) 19 0 k (omega arith) ∙ ap settingOf (sym (load-end s k h))
+      go false e = let h = leb-false 19 k e in last-all _ (load-keyed s) 19 0 k (omega arith) (omega arith)
+
+  -- an accepted load: well formed, and no record is refused
+  pub record Accepted (s : List ℕ) : Type 0 where
+    pub formed : form.wellFormed s ≡ true
+    pub each : (k : ℕ) → codeOf (loadItem p streaming s k) ≡ 0
+
+  pub load-accepted : (s : List ℕ) → firstOf (loadTests p streaming s) ≡ 0 → Accepted s
+  unfolding loadTests codeOf
+  load-accepted s e = go (form.wellFormed s) refl (eqb (firstRefusal 19 0 (loadItem p streaming s)) 0) refl e
+    where
+      each : firstRefusal 19 0 (loadItem p streaming s) ≡ 0 → (k : ℕ) (b : Bool) → leb 19 k ≡ b → codeOf (loadItem p streaming s k) ≡ 0
+      each z k true q = ap codeOf (load-end s k (leb-true 19 k q))
+      each z k false q = let h = leb-false 19 k q in ap (λ (j : ℕ). codeOf (loadItem p streaming s j)) (sym (add-zero k)) ∙ none-refused 19 0 (loadItem p streaming s) z k h
+
+      go : (w : Bool) → form.wellFormed s ≡ w → (b : Bool) → eqb (firstRefusal 19 0 (loadItem p streaming s)) 0 ≡ b
+          → cond (not w) 0x22 (cond (not b) (firstRefusal 19 0 (loadItem p streaming s)) 0) ≡ 0 → Accepted s
+      go true q true r z = record { formed = q; each = λ k. each (eqb-true _ 0 r) k _ refl }
+      go true q false r z = absurd (eqb-false _ 0 r z)
+      go false q b r z = absurd (omega arith)
+
+  pub accepted-load : (s : List ℕ) → Accepted s → firstOf (loadTests p streaming s) ≡ 0
+  unfolding loadTests
+  accepted-load s a = rw (a .formed, refusal-none 19 0 (loadItem p streaming s) (λ j h. ap (λ (k : ℕ). codeOf (loadItem p streaming s k)) (add-zero j) ∙ a .each j))
+
+  -- of two records that are taken, the merge has one
+  over-taken : (k : ℕ) (x y : Option (List ℕ)) → codeOf (itemFor p streaming k x) ≡ 0 → codeOf (itemFor p streaming k y) ≡ 0
+      → codeOf (itemFor p streaming k (over x y)) ≡ 0
+  over-taken k x none a b = a
+  over-taken k x (some r) a b = b
+
+  over-setting : (k : ℕ) (x y : Option (List ℕ)) → codeOf (itemFor p streaming k y) ≡ 0
+      → settingOf (itemFor p streaming k (over x y)) ≡ over (settingOf (itemFor p streaming k x)) (settingOf (itemFor p streaming k y))
+  unfolding itemFor isGiven
+  over-setting k x none b = refl
+  over-setting k x (some r) b = go (recordItem p streaming k r) (record-taken k r b)
+    where
+      go : (i : Item) → isGiven i ≡ true → settingOf i ≡ over (settingOf (itemFor p streaming k x)) (settingOf i)
+      go Absent e = absurd (true≢false (sym e))
+      go (Refused code) e = absurd (true≢false (sym e))
+      go (Given s) e = refl
+
+  -- a camera that accepts two snapshots accepts their merge
+  pub merged-accepted : (a b : List ℕ) → Accepted a → Accepted b → Accepted (merged a b)
+  merged-accepted a b x y = record {
+    formed = merged-formed a b;
+    each = λ k. rw (decode-merged a b) (over-taken k (decode a k) (decode b k) (x .each k) (y .each k));
+  }
+
+  -- which gives what the two give in turn
+  pub merged-settings : (a b : List ℕ) → Accepted b
+      → (k : ℕ) → lastOf (loadGives p streaming (merged a b)) k ≡ over (lastOf (loadGives p streaming a) k) (lastOf (loadGives p streaming b) k)
+  merged-settings a b y k =
+      load-settings (merged a b) k
+      ∙ ap (λ m. settingOf (itemFor p streaming k (m k))) (decode-merged a b)
+      ∙ over-setting k (decode a k) (decode b k) (y .each k)
+      ∙ sym (ap₂ over (load-settings a k) (load-settings b k))

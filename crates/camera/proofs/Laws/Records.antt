@@ -1,0 +1,77 @@
+-- The records of settings: each is a record of its key, and read as a SET gives its setting back. Assumes nothing.
+use mathlib.Core.Path.{_≡_, refl, ap, sym, _∙_, subst}
+use mathlib.Core.List.{List, [], _∷_, _++_}
+use mathlib.Core.Option.{Option, none, some}
+use mathlib.Core.Bool.{Bool, true, false, cond, not}
+use Prim.Native.Nat.{ℕ, _+_, _-_, _≤_, _<_, _^_}
+use native.Mathlib.Omega.{arith}
+use lib.Dec.{eqb}
+use borrow.Author.Tests.{eq-eqb, ne-eqb, le-leb}
+use lib.ListN.{length, drop}
+use Rattle.wire.specs.Number.{number, leAt, bytesOf}
+use Rattle.snapshot.specs.Records.{Record}
+use Rattle.snapshot.specs.Settings.{Rows}
+use Rattle.snapshot.proofs.Laws.Controls.{record-ev, record-face, record-metadata, record-hdr, record-throttle}
+use Rattle.controls.specs.declared.settings.Setting.{Setting}
+use Rattle.controls.specs.declared.settings.Setting.the-variants as S
+use Rattle.controls.specs.Ev.{evBytes}
+use Rattle.controls.specs.Face.{entryOf}
+use Rattle.controls.specs.Throttle.{throttleBytes, throttleItem, throttleRefusal}
+use Rattle.controls.specs.Metadata.{metadataItem, metadataRefusal}
+use Rattle.controls.specs.Hdr.{hdrItem, hdrRefusal}
+use Rattle.controls.specs.Settings.{itemOf}
+use Rattle.controls.specs.declared.settings.Item.the-variants.{Given}
+use Rattle.controls.specs.declared.metadata.MetadataLimits.{MetadataLimits}
+use Rattle.controls.specs.declared.throttle.ThrottleLimits.{ThrottleLimits}
+use Rattle.controls.specs.declared.throttle.ThrottleSetting.{ThrottleSetting}
+use Rattle.controls.proofs.Laws.Numbers.{number-bytes}
+use Rattle.controls.proofs.Laws.Ev.{ev-read}
+use Rattle.controls.proofs.Laws.Face.{one-entry}
+use Rattle.controls.proofs.Laws.Plain.{metadata-read, hdr-read, throttle-read}
+use Rattle.camera.specs.declared.profile.Profile.{Profile}
+use Rattle.camera.specs.Record.{keyOf, selectorOf, valueRefusal, controlRefusal}
+use Rattle.camera.specs.Items.{itemAt}
+use Rattle.camera.specs.Snapshots.{row, noLimits, selectorAt, recordItem}
+use Rattle.camera.specs.Demand.{Fitting}
+use Rattle.camera.proofs.Laws.Held.{Proper, Each}
+use Rattle.camera.proofs.Laws.Kept.{Good}
+
+-- a setting's record, under its key
+pub row-record : (k : ℕ) (s : Setting) → keyOf s ≡ k → Proper s → Record k (row k s)
+unfolding row evBytes throttleBytes bytesOf
+row-record k (S.Ev s) e p = subst (λ j. Record j (row k (S.Ev s))) e (record-ev _ _ _ _ _ _ _ _ _ _ _)
+row-record k (S.Face address flags) e p =
+    let f : 0x80 + (address - 0x80) ≡ address = omega arith in
+    subst (λ j. Record j (row k (S.Face address flags))) e
+    (subst (λ a. Record (address - 0x80) (13 ∷ 0 ∷ 6 ∷ 0 ∷ 1 ∷ entryOf a flags)) f (record-face (address - 0x80) _ _ _ _ _ _ _ (omega arith) (omega arith)))
+row-record k (S.Metadata n) e p = subst (λ j. Record j (row k (S.Metadata n))) e (record-metadata _ _ _ _)
+row-record k (S.Hdr n) e p = subst (λ j. Record j (row k (S.Hdr n))) e (record-hdr _ _ _ _)
+row-record k (S.Throttle s) e p = subst (λ j. Record j (row k (S.Throttle s))) e (record-throttle _ _ _ _ _ _ _ _)
+
+pub rows : (p : Profile) (l : List (ℕ × Setting)) → Each (Good p) l → Rows row l
+rows p [] g = tt
+rows p (x ∷ l) g = (row-record (x .0) (x .1) (sym (g .0)) (g .1 .proper), rows p l (g .2))
+
+-- the record's payload, read as a SET, comes to its setting by the value tests of that setting
+row-item : (p : Profile) (k : ℕ) (s : Setting) → Fitting s → itemAt p (selectorOf s) (drop 4 (row k s)) 0 ≡ itemOf (valueRefusal p s) s
+unfolding itemAt valueRefusal row bytesOf
+row-item p k (S.Ev s) f = ev-read s (f .0) (f .1) (p .ev)
+row-item p k (S.Face address flags) f = one-entry (p .face) address flags f
+row-item p k (S.Metadata n) f = metadata-read (p .metadata) n f
+row-item p k (S.Hdr n) f = hdr-read (p .auto) n f
+row-item p k (S.Throttle s) f = throttle-read s noLimits (p .throttle) (f .0) (f .1)
+
+-- the selector of a setting's key is the setting's
+key-selector : (k : ℕ) (s : Setting) → keyOf s ≡ k → Proper s → selectorAt k ≡ selectorOf s
+key-selector k (S.Ev s) e p = rw (← e)
+key-selector k (S.Face address flags) e p = rw (ne-eqb k 0 (omega arith), le-leb k 15 (omega arith))
+key-selector k (S.Metadata n) e p = rw (← e)
+key-selector k (S.Hdr n) e p = rw (← e)
+key-selector k (S.Throttle s) e p = rw (← e)
+
+-- so a setting's record is taken by a camera that streams, and gives the setting back
+pub row-taken : (p : Profile) (k : ℕ) (s : Setting) → Fitting s → keyOf s ≡ k → Good p s → recordItem p true k (row k s) ≡ Given s
+unfolding recordItem itemOf
+row-taken p k s f e g =
+    rw (key-selector k s e (g .proper), eq-eqb (controlRefusal p true (selectorOf s)) 0 (g .control))
+    (row-item p k s f ∙ rw (eq-eqb (valueRefusal p s) 0 (g .value)))

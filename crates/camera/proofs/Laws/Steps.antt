@@ -1,0 +1,263 @@
+-- What one call leaves of a well-formed record: the settings that it gives are put in, and the flag is set. Assumes nothing.
+use mathlib.Core.Path.{_≡_, refl, ap, ap₂, sym, _∙_, subst}
+use mathlib.Core.List.{List, [], _∷_, _++_}
+use mathlib.Core.Option.{Option, none, some}
+use mathlib.Core.Bool.{Bool, true, false, cond, not, _&&_, _||_, true≢false, and-eq-true-iff}
+use Prim.Native.Nat.{ℕ, zero, suc, _≤_, _<_}
+use native.Mathlib.Omega.{arith}
+use lib.Dec.{eqb, ltb, leb}
+use lib.ListN.{length, drop}
+use borrow.Author.Tests.{eq-eqb, ne-eqb, eqb-true, eqb-false}
+use Rattle.wire.specs.Rows.{Row, _⇒_, firstOf}
+use Rattle.request.specs.Setup.{isSetRequest}
+use Rattle.request.specs.Setup as setup
+use Rattle.request.specs.Tests.{requestTests, addressed, understood, sized}
+use Rattle.request.proofs.Laws.Tests.{then-rows}
+use Rattle.snapshot.specs.Form as form
+use Rattle.snapshot.specs.Records.{decode}
+use Rattle.snapshot.specs.Merge.{over}
+use Rattle.snapshot.specs.Settings.{lastOf}
+use Rattle.controls.specs.declared.settings.Item.{Item}
+use Rattle.controls.specs.declared.settings.Item.the-variants.{Absent, Refused, Given}
+use Rattle.controls.specs.declared.settings.Setting.{Setting}
+use Rattle.camera.specs.declared.profile.Profile.{Profile}
+use Rattle.camera.specs.declared.record.Camera.{Camera}
+use Rattle.camera.specs.declared.calls.Outcome.{Outcome}
+use Rattle.camera.specs.Profile.{has, settable, takes, table, profileValid}
+use Rattle.camera.specs.Record.{withStreaming, held, controlRefusal, wellFormed}
+use Rattle.camera.specs.Items.{puts, itemCount, itemAt, setGives}
+use Rattle.camera.specs.Requests.{sentCount, valueTests, requestRows, requestCode, refused, outcomeBy, requestDone, requested}
+use Rattle.camera.specs.Snapshots.{selectorAt, snapshot, recordItem, itemFor, loadItem, loadTests, loadCode, loadGives, loaded, written, writeCode}
+use Rattle.camera.specs.Calls.{streamed, sensed, Call, request, stream, load, write, sense, next}
+use Rattle.camera.specs.Demand.{setAccepted, gives, leaves}
+use Rattle.camera.proofs.Laws.Selectors.{Control, ev, face, metadata, hdr, throttle, control-known}
+use Rattle.camera.proofs.Laws.Held.{Each, puts-held, puts-length, puts-profile, puts-streaming}
+use Rattle.camera.proofs.Laws.Kept.{Good, valid-presence, control-there, control-streaming, item-good, all-good, each-proper, puts-formed, formed-profile, kept-formed, formed-kept}
+
+and-true : (a b : Bool) → a && b ≡ true → (a ≡ true) × (b ≡ true)
+and-true true b e = (refl, e)
+and-true false b e = absurd (true≢false (sym e))
+
+-- rows whose tests all fail add nothing
+first-quiet : (a b : List Row) → firstOf b ≡ 0 → firstOf (a ++ b) ≡ firstOf a
+first-quiet [] b e = e
+first-quiet ((test ⇒ code) ∷ a) b e = ap (cond test code) (first-quiet a b e)
+
+-- the number of a SET, on a well-formed record
+set-code : (c : Camera) (s payload : List ℕ) (room : ℕ) → wellFormed c ≡ true → isSetRequest s ≡ true
+    → requestCode c s payload room ≡ firstOf (requestTests (table (c .profile)) s payload ++ valueTests (c .profile) (c .streaming) s payload)
+unfolding requestCode requestRows
+set-code c s payload room w e =
+    let last : firstOf ((not (isSetRequest s) && ltb room (sentCount c s) ⇒ 0x20) ∷ []) ≡ 0 = rw e in
+    rw w (first-quiet (requestTests (table (c .profile)) s payload ++ valueTests (c .profile) (c .streaming) s payload) _ last)
+
+-- what a request leaves of the record
+request-next : (c : Camera) (s payload reply : List ℕ) → wellFormed c ≡ true
+    → requested c s payload (length reply) .camera ≡ puts c (gives (c .profile) (c .streaming) (request s payload reply))
+unfolding requested requestDone gives puts
+request-next c s payload reply w = go (isSetRequest s) refl
+  where
+    set : ℕ → Bool → Outcome
+    set code b = cond b (record { code = 0; count = 0; camera = puts c (setGives (c .profile) (setup.selectorOf s) payload) }) (refused code c)
+
+    taken : (code : ℕ) (b : Bool) → set code b .camera ≡ puts c (cond b (setGives (c .profile) (setup.selectorOf s) payload) [])
+    taken code true = refl
+    taken code false = refl
+
+    get : (b : Bool) (done bad : Outcome) → done .camera ≡ c → bad .camera ≡ c → cond b done bad .camera ≡ c
+    get true done bad p q = p
+    get false done bad p q = q
+
+    go : (b : Bool) → isSetRequest s ≡ b → requested c s payload (length reply) .camera ≡ puts c (gives (c .profile) (c .streaming) (request s payload reply))
+    go true e =
+        let n = set-code c s payload (length reply) w e in
+        rw (e, n) (taken (firstOf (requestTests (table (c .profile)) s payload ++ valueTests (c .profile) (c .streaming) s payload)) (eqb (firstOf (requestTests (table (c .profile)) s payload ++ valueTests (c .profile) (c .streaming) s payload)) 0))
+    go false e = rw e (get (eqb (requestCode c s payload (length reply)) 0) (record { code = 0; count = sentCount c s; camera = c }) (refused (requestCode c s payload (length reply)) c) refl refl)
+
+load-next : (c : Camera) (s : List ℕ) → wellFormed c ≡ true → loaded c s .camera ≡ puts c (gives (c .profile) (c .streaming) (load s))
+unfolding loaded loadCode gives puts
+load-next c s w = rw w (go (eqb (firstOf (loadTests (c .profile) (c .streaming) s)) 0))
+  where
+    go : (b : Bool) → cond b (record { code = 0; count = 0; camera = puts c (loadGives (c .profile) (c .streaming) s) }) (refused (firstOf (loadTests (c .profile) (c .streaming) s)) c) .camera
+        ≡ puts c (cond b (loadGives (c .profile) (c .streaming) s) [])
+    go true = refl
+    go false = refl
+
+write-next : (c : Camera) (out : List ℕ) → written c (length out) .camera ≡ c
+unfolding written
+write-next c out = go (eqb (writeCode c (length out)) 0)
+  where
+    go : (b : Bool) → cond b (record { code = 0; count = length (snapshot c); camera = c }) (refused (writeCode c (length out)) c) .camera ≡ c
+    go true = refl
+    go false = refl
+
+stream-next : (c : Camera) (on : Bool) → wellFormed c ≡ true → streamed c on .camera ≡ withStreaming c on
+unfolding streamed
+stream-next c on w = rw w
+
+-- where no row answers, the first row's test fails and so do the others'
+first-off : (test : Bool) (code : ℕ) (rows : List Row) → firstOf ((test ⇒ suc code) ∷ rows) ≡ 0 → (test ≡ false) × (firstOf rows ≡ 0)
+first-off true code rows e = absurd (omega arith)
+first-off false code rows e = (refl, e)
+
+not-off : (b : Bool) → not b ≡ false → b ≡ true
+not-off true e = refl
+not-off false e = absurd (true≢false e)
+
+-- tests 2 to 6 of an accepted SET say that its control is there and takes a SET
+module _ (p : Profile) (streaming : Bool) (s payload : List ℕ) (a : setAccepted p streaming s payload ≡ true) where
+  accepted-set : isSetRequest s ≡ true
+  accepted-set = and-true (isSetRequest s) _ a .0
+
+  accepted-tests : firstOf (requestTests (table p) s payload) ≡ 0
+  accepted-tests = go (eqb (firstOf (requestTests (table p) s payload)) 0) refl (sym (then-rows (table p) s payload (valueTests p streaming s payload)) ∙ eqb-true _ 0 (and-true (isSetRequest s) _ a .1))
+    where
+      go : (b : Bool) → eqb (firstOf (requestTests (table p) s payload)) 0 ≡ b
+          → cond b (firstOf (valueTests p streaming s payload)) (firstOf (requestTests (table p) s payload)) ≡ 0 → firstOf (requestTests (table p) s payload) ≡ 0
+      go true e z = eqb-true _ 0 e
+      go false e z = z
+
+  accepted-control : (has p (setup.selectorOf s) ≡ true) × (settable p (setup.selectorOf s) ≡ true)
+  unfolding requestTests
+  accepted-control =
+      let t = table p in
+      let last = (not (sized (takes p (setup.selectorOf s) payload) s payload) ⇒ 0xFF) ∷ [] in
+      let fifth = (not (understood t s) ⇒ 0x07) ∷ last in
+      let fourth = (not (has p (setup.selectorOf s)) ⇒ 0x06) ∷ fifth in
+      let q2 = first-off (not (eqb (length s) 8)) 0xFE ((not (addressed t s) ⇒ 0x05) ∷ fourth) accepted-tests in
+      let q3 = first-off (not (addressed t s)) 0x04 fourth (q2 .1) in
+      let q4 = first-off (not (has p (setup.selectorOf s))) 0x05 fifth (q3 .1) in
+      let q5 = first-off (not (understood t s)) 0x06 last (q4 .1) in
+      let u = and-true (eqb (setup.valueLow s) 0) _ (not-off (understood t s) (q5 .0)) .1 in
+      (not-off (has p (setup.selectorOf s)) (q4 .0), rw accepted-set at u)
+
+  set-control : controlRefusal p true (setup.selectorOf s) ≡ 0
+  unfolding controlRefusal
+  set-control = rw (accepted-control .0, accepted-control .1) (go (eqb (setup.selectorOf s) 0x0E))
+    where
+      go : (b : Bool) → cond {A = ℕ} (b && false) 2 0 ≡ 0
+      go true = refl
+      go false = refl
+
+-- which items give a setting
+unfoldable pub isGiven : Item → Bool
+isGiven Absent = false
+isGiven (Refused code) = false
+isGiven (Given s) = true
+
+-- a key's records are of one of the five controls
+pub key-control : (k : ℕ) → Control (selectorAt k)
+key-control k = go (eqb k 0) (leb k 15) (eqb k 16) (eqb k 17)
+  where
+    go : (a b c d : Bool) → Control (cond a 0x03 (cond b 0x06 (cond c 0x09 (cond d 0x0D 0x0E))))
+    go true b c d = ev
+    go false true c d = face
+    go false false true d = metadata
+    go false false false true = hdr
+    go false false false false = throttle
+
+-- what a call gives is good
+module _ (p : Profile) (v : profileValid p ≡ true) where
+  record-good : (streaming : Bool) (k : ℕ) (r : List ℕ) (s : Setting) → recordItem p streaming k r ≡ Given s → Good p s
+  unfolding recordItem isGiven
+  record-good streaming k r s e = go (eqb (controlRefusal p streaming (selectorAt k)) 0) refl e
+    where
+      go : (b : Bool) → eqb (controlRefusal p streaming (selectorAt k)) 0 ≡ b
+          → cond b (itemAt p (selectorAt k) (drop 4 r) 0) (Refused (controlRefusal p streaming (selectorAt k))) ≡ Given s → Good p s
+      go true q i = item-good p v (drop 4 r) 0 s (selectorAt k) (key-control k) (control-streaming p streaming (selectorAt k) (eqb-true _ 0 q)) i
+      go false q i = absurd (true≢false (sym (ap isGiven i)))
+
+  load-good : (streaming : Bool) (s : List ℕ) → Each (Good p) (loadGives p streaming s)
+  unfolding loadGives itemFor isGiven
+  load-good streaming s = all-good p 19 0 (loadItem p streaming s) (λ k t e. go k t (decode s k) e)
+    where
+      go : (k : ℕ) (t : Setting) (o : Option (List ℕ)) → itemFor p streaming k o ≡ Given t → Good p t
+      go k t none e = absurd (true≢false (sym (ap isGiven e)))
+      go k t (some r) e = record-good streaming k r t e
+
+  set-good : (streaming : Bool) (s payload : List ℕ) → setAccepted p streaming s payload ≡ true → Each (Good p) (setGives p (setup.selectorOf s) payload)
+  unfolding setGives
+  set-good streaming s payload a =
+      let c = set-control p streaming s payload a in
+      let k = control-known (p .controls) (setup.selectorOf s) (valid-presence p v) (accepted-control p streaming s payload a .0) in
+      all-good p (itemCount (setup.selectorOf s) payload) 0 (itemAt p (setup.selectorOf s) payload) (λ i t e. item-good p v payload i t (setup.selectorOf s) k c e)
+
+  pub gives-good : (streaming : Bool) (call : Call) → Each (Good p) (gives p streaming call)
+  unfolding gives
+  gives-good streaming (request s payload reply) = go (setAccepted p streaming s payload) refl
+    where
+      go : (b : Bool) → setAccepted p streaming s payload ≡ b → Each (Good p) (cond b (setGives p (setup.selectorOf s) payload) [])
+      go true e = set-good streaming s payload e
+      go false e = tt
+  gives-good streaming (stream on) = tt
+  gives-good streaming (load s) = go (eqb (firstOf (loadTests p streaming s)) 0)
+    where
+      go : (b : Bool) → Each (Good p) (cond b (loadGives p streaming s) [])
+      go true = load-good streaming s
+      go false = tt
+  gives-good streaming (write out) = tt
+  gives-good streaming sense = tt
+
+-- a record of the profile p that a call leaves such a record of: valid, well formed, and with all its face places
+pub record Ok (p : Profile) (c : Camera) : Type 0 where
+  pub profile : c .profile ≡ p
+  pub formed : wellFormed c ≡ true
+  pub places : length (c .face) ≡ 15
+
+-- what a call leaves but for the flag
+module _ (p : Profile) (c : Camera) (o : Ok p c) (call : Call) where
+  abbrev given : List (ℕ × Setting)
+  given = gives (c .profile) (c .streaming) call
+
+  given-good : Each (Good (c .profile)) given
+  given-good = gives-good (c .profile) (formed-profile c (o .formed)) (c .streaming) call
+
+  puts-ok : Ok p (puts c given)
+  puts-ok = record {
+    profile = puts-profile c given ∙ o .profile;
+    formed = puts-formed c given (o .formed) (o .places) given-good;
+    places = puts-length c given (each-proper (c .profile) given given-good) ∙ o .places;
+  }
+
+  given-held : (k : ℕ) → held (puts c given) k ≡ over (held c k) (lastOf given k)
+  given-held = puts-held c given (each-proper (c .profile) given given-good) (o .places)
+
+-- the flag says nothing of the settings
+streaming-held : (c : Camera) (on : Bool) (k : ℕ) → held (withStreaming c on) k ≡ held c k
+unfolding withStreaming held
+streaming-held c on k = refl
+
+streaming-ok : (p : Profile) (c : Camera) (on : Bool) → Ok p c → Ok p (withStreaming c on)
+unfolding withStreaming
+streaming-ok p c on o = record {
+  profile = o .profile;
+  formed = kept-formed (withStreaming c on) (formed-profile c (o .formed)) (λ k. rw (streaming-held c on k) (formed-kept c (o .formed) k));
+  places = o .places;
+}
+
+-- What one call leaves of such a record.
+pub record Step (p : Profile) (c : Camera) (call : Call) : Type 0 where
+  pub ok : Ok p (next c call)
+  pub held-after : (k : ℕ) → held (next c call) k ≡ over (held c k) (lastOf (gives p (c .streaming) call) k)
+  pub streaming-after : next c call .streaming ≡ leaves (c .streaming) call
+
+puts-step : (p : Profile) (c : Camera) (o : Ok p c) (call : Call) → next c call ≡ puts c (gives (c .profile) (c .streaming) call) → c .streaming ≡ leaves (c .streaming) call → Step p c call
+puts-step p c o call e f = record {
+  ok = subst (Ok p) (sym e) (puts-ok p c o call);
+  held-after = λ k. ap (λ d. held d k) e ∙ given-held p c o call k ∙ ap (λ q. over (held c k) (lastOf (gives q (c .streaming) call) k)) (o .profile);
+  streaming-after = ap (λ d. d .streaming) e ∙ puts-streaming c (gives (c .profile) (c .streaming) call) ∙ f;
+}
+
+pub step : (p : Profile) (c : Camera) → Ok p c → (call : Call) → Step p c call
+unfolding gives puts sensed withStreaming
+step p c o (request s payload reply) = puts-step p c o (request s payload reply) (request-next c s payload reply (o .formed)) refl
+step p c o (load s) = puts-step p c o (load s) (load-next c s (o .formed)) refl
+step p c o (write out) = puts-step p c o (write out) (write-next c out) refl
+step p c o sense = puts-step p c o sense refl refl
+step p c o (stream on) =
+    let e = stream-next c on (o .formed) in
+    record {
+      ok = subst (Ok p) (sym e) (streaming-ok p c on o);
+      held-after = λ k. ap (λ d. held d k) e ∙ streaming-held c on k;
+      streaming-after = ap (λ d. d .streaming) e;
+    }

@@ -1,0 +1,3 @@
+-- Laws that several proofs share, one topic to a file, and the owner's demands.
+pub mod Laws
+pub mod Demand3

@@ -1,0 +1,108 @@
+-- Document 01, "Settings sheet": loading a snapshot and writing one.
+use Prim.Native.Nat.{ℕ, _+_, min}
+use mathlib.Core.List.{List, [], _∷_, _++_}
+use mathlib.Core.Option.{Option, none, some}
+use mathlib.Core.Bool.{Bool, cond, not, _&&_}
+use lib.Dec.{leb, ltb, eqb}
+use lib.ListN.{length, take, drop, replicate}
+use Rattle.wire.specs.Number.{bytesOf}
+use Rattle.wire.specs.Overlay.{overlay}
+use Rattle.wire.specs.Rows.{Row, _⇒_, firstOf}
+use Rattle.snapshot.specs.Form as form
+use Rattle.snapshot.specs.Records.{decode}
+use Rattle.snapshot.specs.Settings.{snapshotOf}
+use Rattle.controls.specs.declared.settings.Item.{Item}
+use Rattle.controls.specs.declared.settings.Item.the-variants.{Absent, Refused}
+use Rattle.controls.specs.declared.settings.Setting.{Setting}
+use Rattle.controls.specs.declared.settings.Setting.the-variants as S
+use Rattle.controls.specs.declared.throttle.ThrottleLimits.{ThrottleLimits}
+use Rattle.controls.specs.Ev.{evBytes}
+use Rattle.controls.specs.Face.{entryOf}
+use Rattle.controls.specs.Throttle.{throttleBytes}
+use Rattle.camera.specs.declared.profile.Profile.{Profile}
+use Rattle.camera.specs.declared.record.Camera.{Camera}
+use Rattle.camera.specs.declared.calls.Outcome.{Outcome}
+use Rattle.camera.specs.declared.writing.Record.{Record}
+use Rattle.camera.specs.Record.{held, controlRefusal, wellFormed}
+use Rattle.camera.specs.Items.{firstRefusal, allGiven, puts, itemAt}
+use Rattle.camera.specs.Requests.{outcomeBy}
+
+-- the selector of a key, which is the kind of its records
+abbrev pub selectorAt : ℕ → ℕ
+selectorAt k = cond (eqb k 0) 0x03 (cond (leb k 15) 0x06 (cond (eqb k 16) 0x09 (cond (eqb k 17) 0x0D 0x0E)))
+
+-- a record of a key as a SET: the control's tests, then the value tests of its payload
+unfoldable pub recordItem : Profile → Bool → ℕ → List ℕ → Item
+recordItem p streaming k r =
+    let code = controlRefusal p streaming (selectorAt k) in
+    cond (eqb code 0) (itemAt p (selectorAt k) (drop 4 r) 0) (Refused code)
+
+-- the record of key k in a snapshot
+unfoldable pub itemFor : Profile → Bool → ℕ → Option (List ℕ) → Item
+itemFor p streaming k none = Absent
+itemFor p streaming k (some r) = recordItem p streaming k r
+
+-- the same where n bytes stand at a place of the snapshot; none where n is 0
+abbrev pub itemIn : Profile → Bool → ℕ → List ℕ → ℕ → ℕ → Item
+itemIn p streaming k s at n = cond (eqb n 0) Absent (recordItem p streaming k (take n (drop at s)))
+
+abbrev pub loadItem : Profile → Bool → List ℕ → ℕ → Item
+loadItem p streaming s k = itemFor p streaming k (decode s k)
+
+-- the form of the whole snapshot, then record by record; first fault answering
+unfoldable pub loadTests : Profile → Bool → List ℕ → List Row
+loadTests p streaming s =
+    let code = firstRefusal 19 0 (loadItem p streaming s) in
+    (not (form.wellFormed s) ⇒ 0x22)
+    ∷ (not (eqb code 0) ⇒ code)
+    ∷ []
+
+unfoldable pub loadCode : Camera → List ℕ → ℕ
+loadCode c s = firstOf (((not (wellFormed c) ⇒ 0x21) ∷ []) ++ loadTests (c .profile) (c .streaming) s)
+
+-- the settings that an accepted load gives: its records', in order
+unfoldable pub loadGives : Profile → Bool → List ℕ → List (ℕ × Setting)
+loadGives p streaming s = allGiven 19 0 (loadItem p streaming s)
+
+unfoldable pub loaded : Camera → List ℕ → Outcome
+loaded c s =
+    outcomeBy (loadCode c s) c
+    (record { code = 0; count = 0; camera = puts c (loadGives (c .profile) (c .streaming) s) })
+
+-- a record: its length and its kind, two bytes each, then a SET payload
+abbrev pub framed : ℕ → List ℕ → List ℕ
+framed kind payload = bytesOf 2 (4 + length payload) ++ bytesOf 2 kind ++ payload
+
+-- the record of a setting; a throttle's tail is zero
+abbrev pub noLimits : ThrottleLimits
+noLimits = record { minimum = 0; maximum = 0; step = 0 }
+
+unfoldable pub row : ℕ → Setting → List ℕ
+row k (S.Ev s) = framed 0x03 (evBytes s)
+row k (S.Face address flags) = framed 0x06 (1 ∷ entryOf address flags)
+row k (S.Metadata n) = framed 0x09 (bytesOf 4 n)
+row k (S.Hdr n) = framed 0x0D (bytesOf 4 n)
+row k (S.Throttle s) = framed 0x0E (throttleBytes s noLimits)
+
+-- a camera's snapshot: a record for each setting held and no other, in ascending order of the keys
+unfoldable pub snapshot : Camera → List ℕ
+snapshot c = snapshotOf row (held c)
+
+unfoldable pub writeCode : Camera → ℕ → ℕ
+writeCode c room = firstOf ((not (wellFormed c) ⇒ 0x21) ∷ (ltb room (length (snapshot c)) ⇒ 0x20) ∷ [])
+
+unfoldable pub written : Camera → ℕ → Outcome
+written c room = outcomeBy (writeCode c room) c (record { code = 0; count = length (snapshot c); camera = c })
+
+-- the lent buffer afterwards
+unfoldable pub writtenOut : Camera → List ℕ → List ℕ
+writtenOut c out = cond (eqb (writeCode c (length out)) 0) (snapshot c ++ drop (length (snapshot c)) out) out
+
+-- a record as the code hands it on: its bytes with zeros behind them, and its length
+unfoldable pub recordOf : List ℕ → Record
+recordOf l = record { bytes = overlay (replicate 24 0) 0 l; len = min (length l) 24 }
+
+-- the record of what a key holds, of no bytes where that is nothing
+abbrev pub rowHeld : ℕ → Option Setting → List ℕ
+rowHeld k none = []
+rowHeld k (some s) = row k s

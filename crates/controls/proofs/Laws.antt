@@ -1,0 +1,8 @@
+pub mod Answers
+pub mod Ev
+pub mod Face
+pub mod Numbers
+pub mod Packed
+pub mod Plain
+pub mod Settings
+pub mod Signed

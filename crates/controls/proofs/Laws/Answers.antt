@@ -1,0 +1,49 @@
+-- Answers: their length, and what is packed. Assumes nothing.
+use mathlib.Core.Path.{_≡_, sym}
+use mathlib.Core.List.{List, [], _∷_}
+use mathlib.Core.Bool.{Bool, true, false, cond}
+use Prim.Native.Nat.{ℕ, _≤_, min}
+use native.Mathlib.Omega.{arith}
+use native.Mathlib.Nat.{min-eq-left}
+use lib.Dec.{eqb}
+use lib.ListN.{length, take, replicate}
+use lib.Seq.{take-at}
+use borrow.Author.Tests.{eq-eqb, ne-eqb}
+use Rattle.wire.specs.Number.{bytesOf}
+use Rattle.wire.proofs.Laws.Overlay.{fits}
+use Rattle.controls.specs.Answers.{answerBy, packed}
+
+-- LEN, INFO and the rest
+module _ (code len info : ℕ) (value : List ℕ) where
+  pub answer-len : code ≡ 0x85 → answerBy code len info value ≡ bytesOf 2 len
+  unfolding answerBy
+  answer-len e = rw (eq-eqb code 0x85 e)
+
+  module _ (n : code ≡ 0x85 → ⊥) where
+    pub answer-info : code ≡ 0x86 → answerBy code len info value ≡ info ∷ []
+    unfolding answerBy
+    answer-info e = rw (ne-eqb code 0x85 n, eq-eqb code 0x86 e)
+
+    pub answer-value : (code ≡ 0x86 → ⊥) → answerBy code len info value ≡ value
+    unfolding answerBy
+    answer-value m = rw (ne-eqb code 0x85 n, ne-eqb code 0x86 m)
+
+  -- no longer than a bound of two or more on the control's bytes
+  pub answer-length : (m : ℕ) → 2 ≤ m → length value ≤ m → length (answerBy code len info value) ≤ m
+  unfolding answerBy bytesOf
+  answer-length m h g = go (eqb code 0x85) (eqb code 0x86)
+    where
+      go : (a b : Bool) → length (cond a (bytesOf 2 len) (cond b (info ∷ []) value)) ≤ m
+      go true b = h
+      go false true = omega arith
+      go false false = g
+
+-- an answer that has room is packed whole
+module _ (l : List ℕ) (h : length l ≤ 65) where
+  pub packed-length : packed l .len ≡ length l
+  unfolding packed
+  packed-length = min-eq-left h
+
+  pub packed-whole : take (packed l .len) (packed l .bytes) ≡ l
+  unfolding packed
+  packed-whole = rw (fits (replicate 65 0) 0 l (omega arith)) (take-at l _ (min (length l) 65) (sym (min-eq-left h)))

@@ -1,0 +1,51 @@
+-- Answers as they are handed on: bytes laid over zeros, and taken out again. Assumes nothing.
+use mathlib.Core.Path.{_≡_, ap₂, sym, _∙_}
+use mathlib.Core.List.{List, [], _++_}
+use Prim.Native.Nat.{ℕ, min, _+_, _≤_}
+use native.Mathlib.Nat.{zero-add}
+use native.Mathlib.Omega.{arith}
+use lib.ListN.{length, take, drop, replicate, length-append}
+use lib.Seq.{take-append-seam, drop-append-add, drop-drop, length-take-le}
+use Rattle.wire.specs.Overlay.{overlay}
+use Rattle.wire.proofs.Laws.Overlay.{fits, same-length}
+use Rattle.controls.specs.declared.answers.Answer.{Answer}
+use Rattle.controls.specs.Answers.{packed}
+
+-- bytes laid over the start, and others behind them, are both at once
+module _ (d s e : List ℕ) (room : length s + length e ≤ length d) where
+  laid : overlay d 0 s ≡ s ++ drop (length s) d
+  laid = fits d 0 s (omega arith) ∙ rw zero-add
+
+  pub overlay-next : overlay (overlay d 0 s) (length s) e ≡ overlay d 0 (s ++ e)
+  overlay-next =
+      fits (overlay d 0 s) (length s) e (rw same-length room)
+      ∙ rw (laid, take-append-seam s (drop (length s) d), drop-append-add s (drop (length s) d) (length e), drop-drop (length e) (length s) d)
+      (sym (fits d 0 (s ++ e) (simp length-append (omega arith)) ∙ simp (length-append, zero-add)))
+
+-- the empty answer that an answer is laid over
+abbrev pub blank : List ℕ
+blank = replicate 65 0
+
+-- an answer as it is handed on, and its bytes out of it again
+module _ (s : List ℕ) (h : length s ≤ 65) where
+  pub pack-is : (b : List ℕ) (n : ℕ) → b ≡ overlay blank 0 s → n ≡ length s → _≡_ {A = Answer} (record { bytes = b; len = n }) (packed s)
+  unfolding packed
+  pack-is b n e f = let g : n ≡ min (length s) 65 = omega arith in ap₂ (λ (x : List ℕ) (y : ℕ). record { bytes = x; len = y }) e g
+
+  packed-take : take (packed s .len) (packed s .bytes) ≡ s
+  unfolding packed
+  packed-take = let e : min (length s) 65 ≡ length s = omega arith in rw (e, laid blank s [] (omega arith)) (take-append-seam s (drop (length s) blank))
+
+  packed-room : packed s .len ≤ length (packed s .bytes)
+  unfolding packed
+  packed-room = rw (same-length blank 0 s) (omega arith)
+
+  module _ (v : Answer) (e : v ≡ packed s) where
+    pub unpack-room : v .len ≤ length (v .bytes)
+    unpack-room = rw e packed-room
+
+    pub unpack : take (v .len) (v .bytes) ≡ s
+    unpack = rw e packed-take
+
+    pub unpack-length : v .len ≡ length (take (v .len) (v .bytes))
+    unpack-length = sym (length-take-le (v .len) (v .bytes) unpack-room)

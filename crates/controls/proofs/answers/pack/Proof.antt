@@ -1,0 +1,24 @@
+use mathlib.Core.Path.{ap₂}
+use mathlib.Core.List.{List}
+use Prim.Native.Nat.{ℕ}
+use borrow.Author.Needs.{needs}
+use Rattle.controls.specs.declared.answers.Answer.{Answer}
+use Rattle.controls.specs.Answers.{packed}
+use Rattle.controls.proofs.answers.pack.Statement.{statement}
+use Rattle.controls.proofs.answers.pack.Tie as tie
+
+slice-aggregate-copy : tie.Need-slice-aggregate-copy
+slice-aggregate-copy c = search needs
+
+copy-requires : tie.Need-copy-requires
+copy-requires c κs = search needs
+
+least-requires : tie.Need-least-requires
+least-requires c κs = search needs
+
+returns : tie.Need-returns
+unfolding packed
+returns c = ap₂ {C = Answer} (λ (b : List ℕ) (n : ℕ). record { bytes = b; len = n }) (c .before .before .copy .ensures) (c .least .ensures)
+
+pub pack-spec : {M : Type 1} → statement M
+pack-spec = tie.close (tie.spec slice-aggregate-copy copy-requires least-requires returns)

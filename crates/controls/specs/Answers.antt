@@ -1,0 +1,17 @@
+-- Document 01, "The five controls": LEN answers two bytes and INFO one; the other answers are the control's.
+use Prim.Native.Nat.{ℕ, min}
+use mathlib.Core.List.{List, [], _∷_}
+use mathlib.Core.Bool.{cond}
+use lib.Dec.{eqb}
+use lib.ListN.{length, replicate}
+use Rattle.wire.specs.Number.{bytesOf}
+use Rattle.wire.specs.Overlay.{overlay}
+use Rattle.controls.specs.declared.answers.Answer.{Answer}
+
+-- the answer of a control to a GET's code, where `value` answers CUR, MIN, MAX, RES and DEF
+unfoldable pub answerBy : (code len info : ℕ) → List ℕ → List ℕ
+answerBy code len info value = cond (eqb code 0x85) (bytesOf 2 len) (cond (eqb code 0x86) (info ∷ []) value)
+
+-- an answer as the code hands it on: its bytes with zeros behind them, and its length
+unfoldable pub packed : List ℕ → Answer
+packed l = record { bytes = overlay (replicate 65 0) 0 l; len = min (length l) 65 }

@@ -1,0 +1,32 @@
+-- Document 01, "HDR": four bytes, 0 off, 1 on, 2 auto.
+use Prim.Native.Nat.{ℕ}
+use mathlib.Core.List.{List, [], _∷_}
+use mathlib.Core.Bool.{Bool, cond, not, _&&_}
+use lib.Dec.{ltb, eqb}
+use Rattle.wire.specs.Number.{leAt, bytesOf}
+use Rattle.wire.specs.Rows.{Row, _⇒_, firstOf}
+use Rattle.controls.specs.declared.settings.Number.{Number}
+use Rattle.controls.specs.declared.settings.Item.{Item}
+use Rattle.controls.specs.declared.settings.Setting.the-variants as S
+use Rattle.controls.specs.Answers.{answerBy}
+use Rattle.controls.specs.Settings.{itemOf, numberOr}
+
+-- above 2, then 2 without Auto
+unfoldable pub hdrRefusal : Bool → ℕ → ℕ
+hdrRefusal auto n =
+    firstOf
+    ((ltb 2 n ⇒ 0x04)
+    ∷ (eqb n 2 && not auto ⇒ 0x08)
+    ∷ [])
+
+unfoldable pub hdrItem : Bool → List ℕ → Item
+hdrItem auto payload =
+    let n = leAt 4 payload 0 in
+    itemOf (hdrRefusal auto n) (S.Hdr n)
+
+-- MAX is 1, or 3 with Auto; CUR the setting held; MIN, RES and DEF 0
+unfoldable pub hdrAt : Bool → Number → ℕ → ℕ
+hdrAt auto held code = cond (eqb code 0x83) (cond auto 3 1) (cond (eqb code 0x81) (numberOr 0 held) 0)
+
+unfoldable pub hdrAnswer : Bool → Number → ℕ → List ℕ
+hdrAnswer auto held code = answerBy code 4 0x03 (bytesOf 4 (hdrAt auto held code))

@@ -1,0 +1,18 @@
+-- Settings, whichever control they are of.
+use Prim.Native.Nat.{ℕ}
+use mathlib.Core.Bool.{cond}
+use lib.Dec.{eqb}
+use Rattle.controls.specs.declared.settings.Number.{Number}
+use Rattle.controls.specs.declared.settings.Number.the-variants.{Unset, Held}
+use Rattle.controls.specs.declared.settings.Setting.{Setting}
+use Rattle.controls.specs.declared.settings.Item.{Item}
+use Rattle.controls.specs.declared.settings.Item.the-variants.{Refused, Given}
+
+-- what an item comes to by the number that its tests give: 0 is acceptance
+unfoldable pub itemOf : ℕ → Setting → Item
+itemOf code s = cond (eqb code 0) (Given s) (Refused code)
+
+-- the number held, or n while there is none
+unfoldable pub numberOr : ℕ → Number → ℕ
+numberOr n Unset = n
+numberOr n (Held m) = m

@@ -1,0 +1,36 @@
+// A GET's full answer, before it is cut to wLength.
+ghost use mathlib.Core.Path.{_≡_};
+ghost use Rattle.controls.specs.Answers.{packed, answerBy};
+
+// The longest answer: a count and an entry of eight bytes for each of eight endpoints.
+pub const LONGEST: usize = 65;
+
+// The first len bytes are the answer, the others 0.
+pub struct Answer {
+    pub bytes: [u8; 65],
+    pub len: usize,
+}
+
+pub(crate) fn pack(answer: &[u8]) -> Answer
+    ensures { λ r. ⌜ r ≡ packed (now (answer .entry)) ⌝ }
+{
+    let mut bytes = [0u8; 65];
+    wire::copy(&mut bytes, 0, answer);
+    let len = wire::least(answer.len(), 65);
+    Answer { bytes, len }
+}
+
+// LEN and INFO by themselves; every other request is answered by the control's bytes.
+pub(crate) fn answer_by(code: u8, len: usize, info: u8, value: &[u8]) -> Answer
+    ensures { λ r. ⌜ r ≡ packed (answerBy code len info (now (value .entry))) ⌝ }
+{
+    if code == 0x85 {
+        let b = wire::bytes16(len);
+        return pack(&b);
+    }
+    if code == 0x86 {
+        let b = [info];
+        return pack(&b);
+    }
+    pack(value)
+}

@@ -1,0 +1,58 @@
+// HDR: four bytes, 0 off, 1 on and 2 auto. The maximum is a mask of modes and no largest mode.
+use crate::answers::Answer;
+use crate::answers::answer_by;
+use crate::settings::Item;
+use crate::settings::Number;
+use crate::settings::Setting;
+use crate::settings::item_of;
+use crate::settings::number_or;
+ghost use mathlib.Core.Path.{_≡_};
+ghost use Rattle.controls.specs.Answers.{packed};
+ghost use Rattle.controls.specs.Hdr.{hdrRefusal, hdrItem, hdrAt, hdrAnswer};
+
+// SET's value tests, and those of a setting held, where Auto is offered or not.
+pub fn refusal(auto: bool, n: u32) -> u8
+    ensures { λ r. ⌜ r ≡ hdrRefusal auto n ⌝ }
+{
+    if 2 < n {
+        return 0x04;
+    }
+    if n != 2 {
+        return 0;
+    }
+    if auto {
+        return 0;
+    }
+    0x08
+}
+
+// What a SET's payload comes to.
+pub fn item(auto: bool, payload: &[u8]) -> Item
+    ensures { λ r. ⌜ r ≡ hdrItem auto (now (payload .entry)) ⌝ }
+{
+    let n = wire::le32(payload, 0);
+    item_of(refusal(auto, n), Setting::Hdr(n))
+}
+
+// The number that a GET asks for.
+fn at(auto: bool, held: Number, code: u8) -> u32
+    ensures { λ r. ⌜ r ≡ hdrAt auto held code ⌝ }
+{
+    if code == 0x83 {
+        if auto {
+            return 3;
+        }
+        return 1;
+    }
+    if code == 0x81 {
+        return number_or(0, held);
+    }
+    0
+}
+
+pub fn answer(auto: bool, held: Number, code: u8) -> Answer
+    ensures { λ r. ⌜ r ≡ packed (hdrAnswer auto held code) ⌝ }
+{
+    let b = wire::bytes32(at(auto, held, code));
+    answer_by(code, 4, 0x03, &b)
+}

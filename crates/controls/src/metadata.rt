@@ -1,0 +1,79 @@
+// Metadata: four bytes, the size of the buffer that frame metadata goes to; 0 turns it off and the maximum on.
+use crate::answers::Answer;
+use crate::answers::answer_by;
+use crate::settings::Item;
+use crate::settings::Number;
+use crate::settings::Setting;
+use crate::settings::item_of;
+use crate::settings::number_or;
+ghost use mathlib.Core.Path.{_≡_};
+ghost use Rattle.controls.specs.Answers.{packed};
+ghost use Rattle.controls.specs.Metadata.{metadataValid, metadataRefusal, metadataItem, metadataAt, metadataInfo, metadataAnswer};
+
+pub struct MetadataLimits {
+    pub maximum: u32,
+    pub writable: bool,
+}
+
+pub fn valid(l: MetadataLimits) -> bool
+    ensures { λ r. ⌜ r ≡ metadataValid l ⌝ }
+{
+    1 <= l.maximum
+}
+
+// SET's value tests, and those of a setting held.
+pub fn refusal(l: MetadataLimits, n: u32) -> u8
+    ensures { λ r. ⌜ r ≡ metadataRefusal l n ⌝ }
+{
+    if l.maximum < n {
+        return 0x04;
+    }
+    if n == 0 {
+        return 0;
+    }
+    if n == l.maximum {
+        return 0;
+    }
+    0x08
+}
+
+// What a SET's payload comes to.
+pub fn item(l: MetadataLimits, payload: &[u8]) -> Item
+    ensures { λ r. ⌜ r ≡ metadataItem l (now (payload .entry)) ⌝ }
+{
+    let n = wire::le32(payload, 0);
+    item_of(refusal(l, n), Setting::Metadata(n))
+}
+
+// The number that a GET asks for.
+fn at(l: MetadataLimits, held: Number, code: u8) -> u32
+    ensures { λ r. ⌜ r ≡ metadataAt l held code ⌝ }
+{
+    if !l.writable {
+        if code == 0x84 {
+            return 0;
+        }
+        return l.maximum;
+    }
+    if (code == 0x83) | (code == 0x84) {
+        return l.maximum;
+    }
+    if code == 0x81 {
+        return number_or(0, held);
+    }
+    0
+}
+
+// The information byte: read-only metadata can be asked for and not set.
+fn info(l: MetadataLimits) -> u8
+    ensures { λ r. ⌜ r ≡ metadataInfo l ⌝ }
+{
+    if l.writable { 0x03 } else { 0x01 }
+}
+
+pub fn answer(l: MetadataLimits, held: Number, code: u8) -> Answer
+    ensures { λ r. ⌜ r ≡ packed (metadataAnswer l held code) ⌝ }
+{
+    let b = wire::bytes32(at(l, held, code));
+    answer_by(code, 4, info(l), &b)
+}

@@ -1,0 +1,49 @@
+// Settings, whichever control they are of.
+use crate::ev::EvSetting;
+use crate::throttle::ThrottleSetting;
+ghost use mathlib.Core.Path.{_≡_};
+ghost use Rattle.controls.specs.Settings.{itemOf, numberOr};
+
+// One setting, as a SET gives it. A face setting names its endpoint by the address.
+pub enum Setting {
+    Ev(EvSetting),
+    Face { address: u8, flags: u8 },
+    Metadata(u32),
+    Hdr(u32),
+    Throttle(ThrottleSetting),
+}
+
+// What one item of a SET or one record of a snapshot comes to.
+pub enum Item {
+    // no record of that key
+    Absent,
+    // document 01's number
+    Refused(u8),
+    Given(Setting),
+}
+
+// The setting held of a control whose payload is one number, or none.
+pub enum Number {
+    Unset,
+    Held(u32),
+}
+
+// What an item comes to by the number that its tests give.
+pub(crate) fn item_of(code: u8, s: Setting) -> Item
+    ensures { λ r. ⌜ r ≡ itemOf code s ⌝ }
+{
+    if code == 0 {
+        return Item::Given(s);
+    }
+    Item::Refused(code)
+}
+
+// The number held, or n while there is none.
+pub(crate) fn number_or(n: u32, held: Number) -> u32
+    ensures { λ r. ⌜ r ≡ numberOr n held ⌝ }
+{
+    match held {
+        Number::Unset => n,
+        Number::Held(m) => m,
+    }
+}

@@ -1,0 +1,12 @@
+pub mod Rows
+pub mod Heads
+pub mod Fuel
+pub mod Walk
+pub mod Append
+pub mod Packets
+pub mod Bytes
+pub mod Join
+pub mod Layout
+pub mod Located
+pub mod Refusals
+pub mod Appended

@@ -1,0 +1,75 @@
+-- One item by itself: which row of its table answers, and what a sound one says of its bytes. Assumes nothing.
+use Prim.Native.Nat.{ℕ, _≤_, _<_}
+use mathlib.Core.Path.{_≡_, refl, sym}
+use mathlib.Core.List.{List}
+use mathlib.Core.Bool.{Bool, true, false, not, cond}
+use native.Mathlib.Omega.{arith}
+use lib.ListN.{length}
+use lib.Dec.{ltb, eqb}
+use borrow.Author.Tests.{lt-ltb, le-ltb, ltb-false, eqb-true, eqb-false, not-false}
+use Rattle.frame.specs.declared.items.Head.{Head}
+use Rattle.frame.specs.declared.items.Head.the-variants.{Bad, Whole}
+use Rattle.frame.specs.Ids.{isKnown}
+use Rattle.frame.specs.Items.{idOf, sizeOf, refusal, headOf}
+use Rattle.frame.proofs.Laws.Rows.{passes}
+
+module _ (s : List ℕ) where
+  pub head-short : length s < 8 → Bad 0x40 ≡ headOf s
+  unfolding headOf refusal
+  head-short a = simp (lt-ltb _ _ a)
+
+  -- what was read of an item whose header is there
+  module _ (id : ℕ) (known : Bool) (a : 8 ≤ length s) (i : id ≡ idOf s) (k : known ≡ isKnown id) where
+    is : (b : Bool) → known ≡ b → isKnown (idOf s) ≡ b
+    is b e = cc
+
+    pub head-unknown : known ≡ false → Bad 0x41 ≡ headOf s
+    unfolding headOf refusal
+    head-unknown b = simp (le-ltb _ _ a, is false b)
+
+    pub head-small : known ≡ true → sizeOf s < 8 → Bad 0x42 ≡ headOf s
+    unfolding headOf refusal
+    head-small b c = simp (le-ltb _ _ a, is true b, lt-ltb _ _ c)
+
+    pub head-past : known ≡ true → 8 ≤ sizeOf s → length s < sizeOf s → Bad 0x40 ≡ headOf s
+    unfolding headOf refusal
+    head-past b c d = simp (le-ltb _ _ a, is true b, le-ltb _ _ c, lt-ltb _ _ d)
+
+    pub head-whole : (size : ℕ) → size ≡ sizeOf s → known ≡ true → 8 ≤ size → size ≤ length s → Whole id size ≡ headOf s
+    unfolding headOf refusal
+    head-whole size e b c d = simp (i, e, le-ltb _ _ a, is true b, le-ltb (sizeOf s) 8 (omega arith), le-ltb (length s) (sizeOf s) (omega arith))
+
+-- none of the tests of the item that s begins with held
+pub record Sound (s : List ℕ) (id size : ℕ) : Type 0 where
+  pub known : isKnown id ≡ true
+  pub long : 8 ≤ size
+  pub inside : size ≤ length s
+  pub its-id : id ≡ idOf s
+  pub its-size : size ≡ sizeOf s
+
+-- what a head says of the bytes that it was read from
+abbrev pub Says : List ℕ → Head → Type 0
+Says s (Bad code) = code ≡ 0 → ⊥
+Says s (Whole id size) = Sound s id size
+
+pub says : (s : List ℕ) → Says s (headOf s)
+unfolding headOf refusal
+says s = go (eqb (refusal s) 0) refl
+  where
+    tests : refusal s ≡ 0 → Sound s (idOf s) (sizeOf s)
+    tests e =
+        let a = passes (ltb (length s) 8) 0x40 _ (omega arith) e in
+        let b = passes (not (isKnown (idOf s))) 0x41 _ (omega arith) (a .1) in
+        let c = passes (ltb (sizeOf s) 8) 0x42 _ (omega arith) (b .1) in
+        let d = passes (ltb (length s) (sizeOf s)) 0x40 _ (omega arith) (c .1) in
+        record { known = not-false _ (b .0); long = ltb-false _ _ (c .0); inside = ltb-false _ _ (d .0); its-id = refl; its-size = refl }
+
+    go : (b : Bool) → eqb (refusal s) 0 ≡ b → Says s (cond b (Whole (idOf s) (sizeOf s)) (Bad (refusal s)))
+    go true e = tests (eqb-true _ _ e)
+    go false e = eqb-false _ _ e
+
+pub sound-head : (s : List ℕ) (id size : ℕ) → headOf s ≡ Whole id size → Sound s id size
+sound-head s id size e = rw e at (says s)
+
+pub head-of : (s : List ℕ) (id size : ℕ) → Sound s id size → headOf s ≡ Whole id size
+head-of s id size h = sym (head-whole s id true (omega arith) (h .its-id) (sym (h .known)) size (h .its-size) refl (h .long) (h .inside))

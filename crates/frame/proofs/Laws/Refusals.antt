@@ -1,0 +1,60 @@
+-- What is left of each answer where its number is not 0. Assumes nothing.
+use Prim.Native.Nat.{ℕ, zero, suc, _+_}
+use mathlib.Core.Path.{_≡_, refl}
+use mathlib.Core.List.{List, [], _∷_}
+use mathlib.Core.Bool.{Bool, true, false, cond}
+use lib.ListN.{length}
+use lib.Dec.{eqb}
+use Rattle.wire.specs.Overlay.{overlay}
+use Rattle.frame.specs.declared.writer.Appended.{Appended}
+use Rattle.frame.specs.declared.packet.PayloadHeader.{PayloadHeader}
+use Rattle.frame.specs.Items.{Item, Finding, refused, sound, itemsOf}
+use Rattle.frame.specs.Answers.{refusedWith, itemAt, foundIn, countIn, itemOf, countOf}
+use Rattle.frame.specs.Writer.{itemBytes, endOf, appendRefusal, appendedOf, writtenOf}
+use Rattle.frame.specs.Packet.{headerRefusal, refusedHeader, headerOf}
+
+no-item : (at k : ℕ) (is : List Item) → (itemAt at k is .code ≡ 0 → ⊥) → itemAt at k is ≡ refusedWith (itemAt at k is .code)
+unfolding itemAt
+no-item at k [] n = refl
+no-item at zero (i ∷ is) n = absurd (n refl)
+no-item at (suc k) (i ∷ is) n = no-item (at + (8 + length (i .payload))) k is n
+
+pub item-refused : (s : List ℕ) (k : ℕ) → (itemOf s k .code ≡ 0 → ⊥) → itemOf s k ≡ refusedWith (itemOf s k .code)
+unfolding itemOf
+item-refused s k = go (itemsOf s)
+  where
+    go : (f : Finding) → (foundIn k f .code ≡ 0 → ⊥) → foundIn k f ≡ refusedWith (foundIn k f .code)
+    go (refused code) n = refl
+    go (sound is) n = no-item 0 k is n
+
+pub count-refused : (s : List ℕ) → (countOf s .code ≡ 0 → ⊥) → countOf s .items ≡ 0
+unfolding countOf
+count-refused s = go (itemsOf s)
+  where
+    go : (f : Finding) → (countIn f .code ≡ 0 → ⊥) → countIn f .items ≡ 0
+    go (refused code) n = refl
+    go (sound is) n = absurd (n refl)
+
+module _ (buf : List ℕ) (at id : ℕ) (payload : List ℕ) where
+  pub append-refused : (appendedOf (length buf) at id (length payload) .code ≡ 0 → ⊥)
+      → (appendedOf (length buf) at id (length payload) .end ≡ 0) × (writtenOf buf at id payload ≡ buf)
+  unfolding appendedOf writtenOf
+  append-refused = go (eqb (appendRefusal (length buf) at id (length payload)) 0)
+    where
+      answer : Bool → Appended
+      answer b =
+          cond b (record { code = 0; end = endOf at (length payload) }) (record { code = appendRefusal (length buf) at id (length payload); end = 0 })
+
+      go : (b : Bool) → (answer b .code ≡ 0 → ⊥) → (answer b .end ≡ 0) × (cond b (overlay buf at (itemBytes id payload)) buf ≡ buf)
+      go true n = absurd (n refl)
+      go false n = (refl, refl)
+
+-- an answer with number 0, or a refusal
+either : (b : Bool) (h : PayloadHeader) (code : ℕ) → h .code ≡ 0 → (cond b h (refusedHeader code) .code ≡ 0 → ⊥)
+    → cond b h (refusedHeader code) ≡ refusedHeader (cond b h (refusedHeader code) .code)
+either true h code e n = absurd (n e)
+either false h code e n = refl
+
+pub header-refused : (p : List ℕ) → (headerOf p .code ≡ 0 → ⊥) → headerOf p ≡ refusedHeader (headerOf p .code)
+unfolding headerOf
+header-refused p n = either (eqb (headerRefusal p) 0) _ (headerRefusal p) refl n

@@ -1,0 +1,15 @@
+-- `count` meets its contract. Assumes nothing.
+use Rattle.frame.specs.Answers.{countOf}
+use borrow.Author.Needs.{needs}
+use Rattle.frame.proofs.items.count.Statement.{statement}
+use Rattle.frame.proofs.items.count.Tie as tie
+
+walk-requires : tie.Need-walk-requires
+walk-requires c κs = search needs
+
+returns : tie.Need-returns
+unfolding countOf
+returns c = rw (c .before .walk .ensures)
+
+pub count-spec : {M : Type 1} → statement M
+count-spec = tie.close (tie.spec walk-requires returns)

@@ -1,0 +1,36 @@
+-- The numbers of document 01 for frame metadata and packets, and the longest block.
+use Prim.Native.Nat.{ℕ}
+
+-- the lent buffer ends before what is to be written
+abbrev pub noRoom : ℕ
+noRoom = 0x20
+
+-- fewer than 8 bytes for an item's header, or a size past the end of the block
+abbrev pub truncated : ℕ
+truncated = 0x40
+
+abbrev pub unknownId : ℕ
+unknownId = 0x41
+
+-- a size that does not hold the item's own header
+abbrev pub shortSize : ℕ
+shortSize = 0x42
+
+-- a block over the longest, read or to be written
+abbrev pub tooLong : ℕ
+tooLong = 0x43
+
+abbrev pub noItem : ℕ
+noItem = 0x44
+
+-- a packet under 2 bytes, or a header past its end
+abbrev pub cutHeader : ℕ
+cutHeader = 0x45
+
+-- a header that does not hold the fields its flags announce
+abbrev pub shortHeader : ℕ
+shortHeader = 0x46
+
+-- the most bytes a block may have
+abbrev pub longestBlock : ℕ
+longestBlock = 65535

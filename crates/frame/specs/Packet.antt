@@ -1,0 +1,50 @@
+-- The payload header of a packet: byte 0 its length, byte 1 flags, the fields that PTS and SCR announce, and the metadata to its end.
+use Prim.Native.Nat.{ℕ, _+_, _-_}
+use mathlib.Core.List.{List, [], _∷_}
+use mathlib.Core.Bool.{cond}
+use lib.ListN.{length, getD}
+use lib.Dec.{ltb, eqb}
+use Rattle.wire.specs.Flags.{isSet}
+use Rattle.frame.specs.declared.packet.PayloadHeader.{PayloadHeader}
+use Rattle.frame.specs.Codes.{cutHeader, shortHeader}
+use Rattle.frame.specs.Rows.{_⇒_, firstOf}
+use Rattle.frame.specs.Parts.{bytesAt, nowhere}
+
+abbrev pub lengthOf : List ℕ → ℕ
+lengthOf p = getD p 0 0
+
+abbrev pub flagsOf : List ℕ → ℕ
+flagsOf p = getD p 1 0
+
+-- the flags that announce a field: D2 PTS, 4 bytes, and D3 SCR, 6 bytes
+abbrev pub fieldLength : (flags flag len : ℕ) → ℕ
+fieldLength flags flag len = cond (isSet flags flag) len 0
+
+abbrev pub fieldsLength : ℕ → ℕ
+fieldsLength flags = 2 + fieldLength flags 2 4 + fieldLength flags 3 6
+
+unfoldable pub headerRefusal : List ℕ → ℕ
+headerRefusal p =
+    firstOf
+    ((ltb (length p) 2 ⇒ cutHeader)
+    ∷ (ltb (length p) (lengthOf p) ⇒ cutHeader)
+    ∷ (ltb (lengthOf p) (fieldsLength (flagsOf p)) ⇒ shortHeader)
+    ∷ [])
+
+-- a refusal: flags 0 and an empty part
+abbrev pub refusedHeader : ℕ → PayloadHeader
+refusedHeader code = record { code = code; flags = 0; metadata = nowhere }
+
+-- the flags byte as it stands, and the rest of the header as the metadata
+unfoldable pub headerOf : List ℕ → PayloadHeader
+headerOf p =
+    cond (eqb (headerRefusal p) 0)
+    (record {
+      code = 0;
+      flags = flagsOf p;
+      metadata = record { at = fieldsLength (flagsOf p); len = lengthOf p - fieldsLength (flagsOf p) };
+    })
+    (refusedHeader (headerRefusal p))
+
+unfoldable pub metadataOf : List ℕ → List ℕ
+metadataOf p = bytesAt p (headerOf p .metadata)

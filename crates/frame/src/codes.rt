@@ -1,0 +1,18 @@
+// The numbers of document 01 for frame metadata and packets.
+pub const ACCEPTED: u8 = 0x00;
+// The lent buffer ends before what is to be written.
+pub const NO_ROOM: u8 = 0x20;
+// Fewer than 8 bytes for an item's header, or a size past the end of the block.
+pub const TRUNCATED: u8 = 0x40;
+
+pub const UNKNOWN_ID: u8 = 0x41;
+// A size that does not hold the item's own header.
+pub const SHORT_SIZE: u8 = 0x42;
+// A block over 65,535 bytes, read or to be written.
+pub const TOO_LONG: u8 = 0x43;
+
+pub const NO_ITEM: u8 = 0x44;
+// A packet under 2 bytes, or a header past its end.
+pub const CUT_HEADER: u8 = 0x45;
+// A header that does not hold the fields its flags announce.
+pub const SHORT_HEADER: u8 = 0x46;

@@ -1,0 +1,159 @@
+// Reading a metadata block: the item asked for, its payload, and how many items there are.
+use crate::codes::ACCEPTED;
+use crate::codes::NO_ITEM;
+use crate::codes::SHORT_SIZE;
+use crate::codes::TOO_LONG;
+use crate::codes::TRUNCATED;
+use crate::codes::UNKNOWN_ID;
+use crate::ids::known;
+use crate::parts::Part;
+use crate::parts::lent;
+ghost use mathlib.Core.Path.{_≡_};
+ghost use Prim.Native.Nat.{_+_, _-_, _≤_};
+ghost use Rattle.frame.specs.Items.{headOf, itemsOf};
+ghost use Rattle.frame.specs.Answers.{refusedWith, itemOf, countOf, payloadOf};
+ghost use Rattle.frame.specs.Steps.{pass, stoppedAt, surveyOf};
+
+// The most bytes a block may have.
+pub const LONGEST_BLOCK: usize = 65535;
+
+// The bytes of an item's id and size, which stand before its payload and count in its size.
+pub(crate) const ITEM_HEADER: usize = 8;
+
+// An item's id and the place of its payload, with code 0; or a refusal, with id 0 and an empty part.
+pub struct Found {
+    pub code: u8,
+    pub id: u32,
+    pub payload: Part,
+}
+
+// How many items a sound block has, with code 0; or a refusal, with none.
+pub struct Counted {
+    pub code: u8,
+    pub items: usize,
+}
+
+// One item by itself: its refusal, or its id and its size.
+pub(crate) enum Head {
+    Bad(u8),
+    Whole(u32, usize),
+}
+
+// What one walk over a block finds: how many items, and the one asked for.
+pub(crate) struct Survey {
+    pub counted: Counted,
+    pub found: Found,
+}
+
+// The item that the rest of a block begins with.
+fn first_item(rest: &[u8]) -> Head
+    ensures { λ r. ⌜ r ≡ headOf (now (rest .entry)) ⌝ }
+{
+    if rest.len() < ITEM_HEADER {
+        return Head::Bad(TRUNCATED);
+    }
+    let id = wire::le32(rest, 0);
+    if !known(id) {
+        return Head::Bad(UNKNOWN_ID);
+    }
+    let size = wire::le32(rest, 4) as usize;
+    if size < ITEM_HEADER {
+        return Head::Bad(SHORT_SIZE);
+    }
+    if rest.len() < size {
+        return Head::Bad(TRUNCATED);
+    }
+    Head::Whole(id, size)
+}
+
+// A refusal, with an empty part.
+fn refused(code: u8) -> Found
+    ensures { λ r. ⌜ r ≡ refusedWith code ⌝ }
+{
+    Found {
+        code,
+        id: 0,
+        payload: Part { at: 0, len: 0 },
+    }
+}
+
+// A refusal of the whole block.
+fn stopped(code: u8) -> Survey
+    ensures { λ r. ⌜ r ≡ stoppedAt code ⌝ }
+{
+    let counted = Counted { code, items: 0 };
+    let found = refused(code);
+    Survey { counted, found }
+}
+
+// Item n is passed, at `at`: it is the one asked for, or what was found before stays.
+fn passed(found: Found, k: usize, n: usize, id: u32, at: usize, size: usize) -> Found
+    requires { ⌜ (8 ≤ size) × (at + size ≤ 65535) ⌝ }
+    ensures { λ r. ⌜ r ≡ pass k at n found id (size - 8) ⌝ }
+{
+    if n == k {
+        return Found {
+            code: ACCEPTED,
+            id,
+            payload: Part {
+                at: at + ITEM_HEADER,
+                len: size - ITEM_HEADER,
+            },
+        };
+    }
+    found
+}
+
+// Walks the whole block, each item once.
+fn walk(block: &[u8], k: usize) -> Survey
+    ensures { λ r. ⌜ r ≡ surveyOf k (itemsOf (now (block .entry))) ⌝ }
+{
+    if LONGEST_BLOCK < block.len() {
+        return stopped(TOO_LONG);
+    }
+    let mut at = 0;
+    let mut n = 0;
+    let mut found = refused(NO_ITEM);
+    while at < block.len() {
+        match first_item(wire::tail(block, at)) {
+            Head::Bad(code) => {
+                return stopped(code);
+            }
+            Head::Whole(id, size) => {
+                found = passed(found, k, n, id, at, size);
+                at += size;
+                n += 1;
+            }
+        }
+    }
+    let counted = Counted {
+        code: ACCEPTED,
+        items: n,
+    };
+    Survey { counted, found }
+}
+
+// Item k of the block, k from 0.
+pub fn item(block: &[u8], k: usize) -> Found
+    ensures { λ r. ⌜ r ≡ itemOf (now (block .entry)) k ⌝ }
+{
+    let w = walk(block, k);
+    w.found
+}
+
+// The payload of item k, as a part of the block; empty where `item` refuses.
+pub fn payload(block: &[u8], k: usize) -> &[u8]
+    ensures { λ r. ⌜ now r ≡ payloadOf (now (block .entry)) k ⌝ }
+{
+    let f = item(block, k);
+    let p = f.payload;
+    lent(block, p)
+}
+
+// How many items the block has.
+pub fn count(block: &[u8]) -> Counted
+    ensures { λ r. ⌜ r ≡ countOf (now (block .entry)) ⌝ }
+{
+    let w = walk(block, 0);
+    w.counted
+}

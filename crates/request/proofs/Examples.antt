@@ -1,0 +1,42 @@
+-- A few requests to a unit, computed from the definitions: unit 4 on interface 0, with selectors 9 and 13 of which 13 takes a SET of
+-- four bytes.
+use mathlib.Core.Path.{_≡_, refl}
+use mathlib.Core.List.{List, [], _∷_}
+use mathlib.Core.Bool.{true}
+use Prim.Native.Nat.{ℕ}
+use Rattle.wire.specs.Number.{number, leAt}
+use Rattle.wire.specs.Flags.{isSet}
+use Rattle.wire.specs.Rows.{firstOf}
+use Rattle.request.specs.Setup.{selectorOf, wLengthOf, isSetRequest}
+use Rattle.request.specs.Table.{Table, tableOf}
+use Rattle.request.specs.Tests.{requestTests}
+
+abbrev table : Table
+table = tableOf (record { unit = 4; interface = 0; present = 0x1100; settable = 0x1000 }) 4
+
+abbrev verdict : List ℕ → List ℕ → ℕ
+verdict setup payload = firstOf (requestTests table setup payload)
+
+-- SET_CUR of selector 13, as the bench camera's row for HDR has it
+abbrev set : List ℕ
+set = 0x21 ∷ 0x01 ∷ 0x00 ∷ 0x0D ∷ 0x00 ∷ 0x04 ∷ 0x04 ∷ 0x00 ∷ []
+
+abbrev on : List ℕ
+on = 1 ∷ 0 ∷ 0 ∷ 0 ∷ []
+
+is-set : (isSetRequest set ≡ true) × (selectorOf set ≡ 0x0D) × (wLengthOf set ≡ 4)
+unfolding leAt number
+is-set = (refl, refl, refl)
+
+accepted : verdict set on ≡ 0
+unfolding requestTests isSet leAt number
+accepted = refl
+
+-- seven bytes; wIndex's bytes exchanged; a selector that is not there; a SET of selector 9; three bytes of payload
+refused : (verdict (0x21 ∷ 0x01 ∷ 0x00 ∷ 0x0D ∷ 0x00 ∷ 0x04 ∷ 0x04 ∷ []) on ≡ 0xFF)
+    × (verdict (0x21 ∷ 0x01 ∷ 0x00 ∷ 0x0D ∷ 0x04 ∷ 0x00 ∷ 0x04 ∷ 0x00 ∷ []) on ≡ 0x05)
+    × (verdict (0x21 ∷ 0x01 ∷ 0x00 ∷ 0x0E ∷ 0x00 ∷ 0x04 ∷ 0x04 ∷ 0x00 ∷ []) on ≡ 0x06)
+    × (verdict (0x21 ∷ 0x01 ∷ 0x00 ∷ 0x09 ∷ 0x00 ∷ 0x04 ∷ 0x04 ∷ 0x00 ∷ []) on ≡ 0x07)
+    × (verdict set (1 ∷ 0 ∷ 0 ∷ []) ≡ 0xFF)
+unfolding requestTests isSet leAt number
+refused = (refl, refl, refl, refl, refl)

@@ -1,0 +1,5 @@
+-- Document 01, "Requests and the order of tests", as far as it holds for any unit.
+pub mod Setup
+pub mod Table
+pub mod Tests
+pub mod Reply

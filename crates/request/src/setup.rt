@@ -1,0 +1,55 @@
+// The setup packet: bmRequestType, bRequest, wValue, wIndex and wLength. A byte past its end is 0.
+ghost use mathlib.Core.Path.{_≡_};
+ghost use Prim.Native.Nat.{_<_};
+ghost use Rattle.request.specs.Setup.{typeOf, codeOf, selectorOf, wLengthOf, isSetRequest, isGetRequest};
+
+// UVC's request codes.
+pub const SET_CUR: u8 = 0x01;
+
+pub const GET_CUR: u8 = 0x81;
+
+pub const GET_MIN: u8 = 0x82;
+
+pub const GET_MAX: u8 = 0x83;
+
+pub const GET_RES: u8 = 0x84;
+
+pub const GET_LEN: u8 = 0x85;
+
+pub const GET_INFO: u8 = 0x86;
+
+pub const GET_DEF: u8 = 0x87;
+
+pub fn code(setup: &[u8]) -> u8
+    ensures { λ r. ⌜ r ≡ codeOf (now (setup .entry)) ⌝ }
+{
+    wire::byte(setup, 1)
+}
+
+// The control that wValue's high byte selects.
+pub fn selector(setup: &[u8]) -> u8
+    ensures { λ r. ⌜ r ≡ selectorOf (now (setup .entry)) ⌝ }
+{
+    wire::byte(setup, 3)
+}
+
+pub fn wlength(setup: &[u8]) -> usize
+    ensures { λ r. ⌜ (r ≡ wLengthOf (now (setup .entry))) × (r < 65536) ⌝ }
+{
+    wire::le16(setup, 6)
+}
+
+// Type 0x21 with SET_CUR.
+pub fn is_set_request(setup: &[u8]) -> bool
+    ensures { λ r. ⌜ r ≡ isSetRequest (now (setup .entry)) ⌝ }
+{
+    (wire::byte(setup, 0) == 0x21) & (wire::byte(setup, 1) == SET_CUR)
+}
+
+// Type 0xA1 with one of the seven GET codes.
+pub(crate) fn is_get_request(setup: &[u8]) -> bool
+    ensures { λ r. ⌜ r ≡ isGetRequest (now (setup .entry)) ⌝ }
+{
+    let code = wire::byte(setup, 1);
+    (wire::byte(setup, 0) == 0xA1) & (GET_CUR <= code) & (code <= GET_DEF)
+}

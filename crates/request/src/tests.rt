@@ -1,0 +1,80 @@
+// Tests 2 to 6 of a request, in document 01's order, over the table of a unit's controls.
+use crate::setup::is_get_request;
+use crate::setup::is_set_request;
+use crate::setup::selector;
+use crate::setup::wlength;
+ghost use mathlib.Core.Path.{_≡_};
+ghost use Rattle.wire.specs.Rows.{firstOf};
+ghost use Rattle.request.specs.Table.{hasControl, tableOf};
+ghost use Rattle.request.specs.Tests.{requestTests, addressed, understood, sized};
+
+// A unit's controls as numbers: bit s - 1 of `present` says that the control of selector s is there, and that of
+// `settable` that it takes a SET.
+pub struct Unit {
+    pub unit: u8,
+    pub interface: u8,
+    pub present: u32,
+    pub settable: u32,
+}
+
+// Whether the bit of a selector is set.
+pub fn has_control(bits: u32, selector: u8) -> bool
+    ensures { λ r. ⌜ r ≡ hasControl bits selector ⌝ }
+{
+    if selector == 0 {
+        return false;
+    }
+    wire::is_set(bits as u64, selector - 1)
+}
+
+// wIndex names the unit in its high byte and the interface in its low one.
+fn is_addressed(u: Unit, setup: &[u8]) -> bool
+    ensures { λ r. ⌜ r ≡ addressed (tableOf u 0) (now (setup .entry)) ⌝ }
+{
+    (wire::byte(setup, 5) == u.unit) & (wire::byte(setup, 4) == u.interface)
+}
+
+// A request that the control takes.
+fn is_understood(u: Unit, setup: &[u8]) -> bool
+    ensures { λ r. ⌜ r ≡ understood (tableOf u 0) (now (setup .entry)) ⌝ }
+{
+    if wire::byte(setup, 2) != 0 {
+        return false;
+    }
+    if is_set_request(setup) {
+        return has_control(u.settable, selector(setup));
+    }
+    is_get_request(setup)
+}
+
+// A GET's payload is empty; a SET's has wLength bytes, which is the length that the control takes.
+fn is_sized(takes: usize, setup: &[u8], payload: &[u8]) -> bool
+    ensures { λ r. ⌜ r ≡ sized takes (now (setup .entry)) (now (payload .entry)) ⌝ }
+{
+    if is_set_request(setup) {
+        return (payload.len() == wlength(setup)) & (payload.len() == takes);
+    }
+    payload.len() == 0
+}
+
+// The number of the first of tests 2 to 6 that fails, or 0. `takes` is the length that a SET of this payload must have.
+pub fn refusal(u: Unit, takes: usize, setup: &[u8], payload: &[u8]) -> u8
+    ensures { λ r. ⌜ r ≡ firstOf (requestTests (tableOf u takes) (now (setup .entry)) (now (payload .entry))) ⌝ }
+{
+    if setup.len() != 8 {
+        return 0xFF;
+    }
+    if !is_addressed(u, setup) {
+        return 0x05;
+    }
+    if !has_control(u.present, selector(setup)) {
+        return 0x06;
+    }
+    if !is_understood(u, setup) {
+        return 0x07;
+    }
+    if !is_sized(takes, setup, payload) {
+        return 0xFF;
+    }
+    0
+}

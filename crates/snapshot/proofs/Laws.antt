@@ -1,0 +1,12 @@
+pub mod Sound
+pub mod Keys
+pub mod Controls
+pub mod Maps
+pub mod Lengths
+pub mod Form
+pub mod Entries
+pub mod Merging
+pub mod Answers
+pub mod Settings
+pub mod Cursor
+pub mod Writing

@@ -1,0 +1,113 @@
+-- Well-formed bytes: going through the 19 keys passes all of them, and they are the snapshot of their records. Assumes nothing.
+use Prim.Native.Nat.{ℕ, zero, suc, _+_, _≤_, _<_}
+use native.Mathlib.Omega.{arith}
+use native.Mathlib.Nat.{zero-add}
+use mathlib.Core.Path.{_≡_, refl, sym, ap, _∙_}
+use mathlib.Core.Bool.{Bool, true, false, cond, _&&_, true≢false, false≢true}
+use mathlib.Core.List.{List, [], _∷_, _++_}
+use mathlib.Core.Option.{Option, none, some}
+use lib.ListN.{length, take, drop, length-drop, take-append-drop}
+use lib.Dec.{leb}
+use borrow.Author.Tests.{le-leb, lt-leb, leb-true, leb-false}
+use Rattle.snapshot.specs.Form.{sizeOf, lengthAt, sound, keyAt, isEmpty, formed, wellFormed}
+use Rattle.snapshot.specs.Records.{stands, skip, from, recordAt, decode, bytes, records, encode, Good}
+use Rattle.snapshot.proofs.Laws.Sound.{sound-parts, parts-sound, sound-of, stands-sound, sound-stands, stands-size, stands-long, stands-some}
+use Rattle.snapshot.proofs.Laws.Maps.{from-records}
+
+-- going through n keys from k on
+sweep : ℕ → ℕ → List ℕ → List ℕ
+sweep zero k s = s
+sweep (suc n) k s = sweep n (suc k) (skip k s)
+
+from-sweep : (n k : ℕ) (s : List ℕ) → sweep n k (from s k) ≡ from s (n + k)
+unfolding sweep from
+from-sweep zero k s = simp zero-add
+from-sweep (suc n) k s = let e : suc n + k ≡ n + suc k = omega arith in rw e (from-sweep n (suc k) s)
+
+not-empty : (s : List ℕ) → 0 < length s → isEmpty s ≡ false
+not-empty [] h = absurd (omega arith)
+not-empty (b ∷ s) h = refl
+
+pub empty-nil : (s : List ℕ) → isEmpty s ≡ true → s ≡ []
+empty-nil [] e = refl
+empty-nil (b ∷ s) e = absurd (false≢true e)
+
+-- no key is 19 or above
+pub formed-end : (fuel : ℕ) (s : List ℕ) → formed fuel 19 s ≡ isEmpty s
+unfolding formed
+formed-end zero s = refl
+formed-end (suc fuel) [] = refl
+formed-end (suc fuel) (b ∷ s) = go (sound (b ∷ s)) refl
+  where
+    go : (t : Bool) → sound (b ∷ s) ≡ t → (t && leb 19 (keyAt (b ∷ s)) && formed fuel (suc (keyAt (b ∷ s))) (drop (lengthAt (b ∷ s)) (b ∷ s))) ≡ false
+    go true e = simp (lt-leb 19 (keyAt (b ∷ s)) (sound-of (b ∷ s) (sound-parts (b ∷ s) e) .key))
+    go false e = refl
+
+-- where the key `low` stands, its record is passed
+pub formed-at : (fuel low : ℕ) (s : List ℕ) → stands low s ≡ true → formed (suc fuel) low s ≡ formed fuel (suc low) (drop (sizeOf low) s)
+unfolding formed
+formed-at fuel low s e =
+    let p = stands-sound low s e in
+    simp (not-empty s (omega (arith, p .0 .four)), parts-sound s (p .0), p .1, le-leb low low (omega arith), ← (stands-size low s e))
+
+-- where it does not, the next key may
+pub formed-not : (fuel low : ℕ) (s : List ℕ) → stands low s ≡ false → formed fuel low s ≡ formed fuel (suc low) s
+unfolding formed
+formed-not zero low s e = refl
+formed-not (suc fuel) low s e = go (sound s) refl
+  where
+    ne : sound s ≡ true → keyAt s ≡ low → ⊥
+    ne p q = true≢false (sym (sound-stands low s (sound-parts s p) q) ∙ e)
+
+    same : (b : Bool) → leb low (keyAt s) ≡ b → sound s ≡ true → leb low (keyAt s) ≡ leb (suc low) (keyAt s)
+    same true e p = e ∙ sym (le-leb (suc low) (keyAt s) (let h = leb-true low (keyAt s) e in let n = ne p in omega arith))
+    same false e p = e ∙ sym (lt-leb (suc low) (keyAt s) (let h = leb-false low (keyAt s) e in omega arith))
+
+    go : (t : Bool) → sound s ≡ t → cond (isEmpty s) true (t && leb low (keyAt s) && formed fuel (suc (keyAt s)) (drop (lengthAt s) s))
+        ≡ cond (isEmpty s) true (t && leb (suc low) (keyAt s) && formed fuel (suc (keyAt s)) (drop (lengthAt s) s))
+    go true p = rw (same _ refl p)
+    go false p = refl
+
+formed-sweep : (n fuel low : ℕ) (s : List ℕ) → length s ≤ fuel → n + low ≡ 19 → formed fuel low s ≡ isEmpty (sweep n low s)
+unfolding sweep skip stands
+formed-sweep zero fuel low s l h = let e : low ≡ 19 = omega arith in rw e (formed-end fuel s)
+formed-sweep (suc n) fuel low s l h = go (stands low s) refl fuel l (λ fuel s l. formed-sweep n fuel (suc low) s l (omega arith))
+  where
+    go : (t : Bool) → stands low s ≡ t → (fuel : ℕ) → length s ≤ fuel
+        → ((fuel : ℕ) (s : List ℕ) → length s ≤ fuel → formed fuel (suc low) s ≡ isEmpty (sweep n (suc low) s))
+        → formed fuel low s ≡ isEmpty (sweep n (suc low) (cond t (drop (sizeOf low) s) s))
+    go true e zero l ih = absurd (let p = stands-long low s e in let q = stands-some low s e in omega arith)
+    go true e (suc fuel) l ih = formed-at fuel low s e ∙ ih fuel (drop (sizeOf low) s) (simp length-drop (omega (arith, stands-some low s e)))
+    go false e fuel l ih = formed-not fuel low s e ∙ ih fuel s l
+
+pub formed-from : (s : List ℕ) → wellFormed s ≡ isEmpty (from s 19)
+unfolding wellFormed from
+formed-from s = formed-sweep 19 (length s) 0 s (omega arith) refl ∙ ap isEmpty (from-sweep 19 0 s)
+
+-- the record of key k, and what is behind it
+at-skip : (k : ℕ) (s : List ℕ) → bytes (recordAt k s) ++ skip k s ≡ s
+unfolding recordAt skip
+at-skip k s = go (stands k s)
+  where
+    go : (t : Bool) → bytes (cond t (some (take (sizeOf k) s)) none) ++ cond t (drop (sizeOf k) s) s ≡ s
+    go true = take-append-drop (sizeOf k) s
+    go false = refl
+
+records-from : (n k : ℕ) (s : List ℕ) → from s 19 ≡ [] → n + k ≡ 19 → records n k (decode s) ≡ from s k
+unfolding records from decode
+records-from zero k s e h = let q : k ≡ 19 = omega arith in rw q (sym e)
+records-from (suc n) k s e h = rw (records-from n (suc k) s e (omega arith)) (at-skip k (from s k))
+
+-- the second round trip: well-formed bytes are the snapshot of their records
+pub encode-decode : (s : List ℕ) → wellFormed s ≡ true → encode (decode s) ≡ s
+unfolding encode from
+encode-decode s w = records-from 19 0 s (empty-nil _ (sym (formed-from s) ∙ w)) refl
+
+-- the snapshot of records of their keys is well formed
+pub encode-formed : (m : ℕ → Option (List ℕ)) → Good m → wellFormed (encode m) ≡ true
+unfolding records
+encode-formed m g = formed-from (encode m) ∙ ap isEmpty (from-records m g 19 0 refl)
+
+pub nil-formed : wellFormed [] ≡ true
+unfolding wellFormed formed
+nil-formed = refl

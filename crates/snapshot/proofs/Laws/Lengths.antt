@@ -1,0 +1,60 @@
+-- How long a snapshot is. Assumes nothing.
+use Prim.Native.Nat.{ℕ, zero, suc, _+_, _*_, _≤_}
+use native.Mathlib.Omega.{arith}
+use mathlib.Core.Path.{_≡_, ap}
+use mathlib.Core.List.{List, _++_}
+use mathlib.Core.Option.{Option, none, some}
+use lib.ListN.{length, length-append}
+use borrow.Author.Tests.{ne-eqb, le-leb}
+use Rattle.snapshot.specs.Form.{sizeOf}
+use Rattle.snapshot.specs.Records.{bytes, records, encode, heldAt, held, GoodAt, Good}
+use Rattle.snapshot.proofs.Laws.Maps.{records-split}
+
+-- the lengths of the n keys' records from k on
+total : ℕ → ℕ → ℕ
+total zero k = 0
+total (suc n) k = sizeOf k + total n (suc k)
+
+module _ (m : ℕ → Option (List ℕ)) (g : Good m) where
+  records-length : (n k : ℕ) → length (records n k m) ≤ total n k
+  unfolding records total
+  records-length zero k = omega arith
+  records-length (suc n) k = simp length-append (omega (arith, records-length n (suc k), short (m k) (g k)))
+    where
+      short : (o : Option (List ℕ)) → GoodAt k o → length (bytes o) ≤ sizeOf k
+      short none p = omega arith
+      short (some r) p = omega (arith, p .long)
+
+  -- a snapshot has at most 250 bytes
+  pub encode-length : length (encode m) ≤ 250
+  unfolding encode total
+  encode-length = records-length 19 0
+
+  -- 13 for each endpoint that is held
+  faces-length : (n k : ℕ) → 1 ≤ k → n + k ≤ 16 → length (records n k m) ≤ 13 * held n k m
+  unfolding records held
+  faces-length zero k h l = omega arith
+  faces-length (suc n) k h l = go (m k) (g k) (faces-length n (suc k) (omega arith) (omega arith))
+    where
+      size : sizeOf k ≡ 13
+      size = simp (ne-eqb k 0 (omega arith), le-leb k 15 (omega arith))
+
+      go : (o : Option (List ℕ)) → GoodAt k o → length (records n (suc k) m) ≤ 13 * held n (suc k) m
+          → length (bytes o ++ records n (suc k) m) ≤ 13 * heldAt o (held n (suc k) m)
+      go none p ih = ih
+      go (some r) p ih = simp length-append (omega (arith, p .long, size))
+
+  -- a snapshot with at most 8 endpoints has at most 159 bytes
+  pub encode-short : held 15 1 m ≤ 8 → length (encode m) ≤ 159
+  unfolding encode total
+  encode-short h =
+      omega (
+        arith,
+        ap length (records-split m 1 18 0),
+        length-append (records 1 0 m) (records 18 1 m),
+        ap length (records-split m 15 3 1),
+        length-append (records 15 1 m) (records 3 16 m),
+        records-length 1 0,
+        faces-length 15 1 (omega arith) (omega arith),
+        records-length 3 16,
+      )

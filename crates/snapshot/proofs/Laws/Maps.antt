@@ -1,0 +1,93 @@
+-- Maps of records, and the first round trip: the snapshot of given records has those records. Assumes nothing.
+use Prim.Native.Nat.{ℕ, zero, suc, _+_, _-_, _≤_, _<_}
+use native.Mathlib.Omega.{arith}
+use native.Mathlib.Nat.{zero-add}
+use mathlib.Core.Path.{_≡_, refl, sym, ap, _∙_, fun-ext}
+use mathlib.Core.Bool.{Bool, true, false, cond}
+use mathlib.Core.List.{List, _++_, append-assoc}
+use mathlib.Core.Option.{Option, none, some}
+use lib.ListN.{take}
+use lib.Seq.{drop-at, take-at}
+use lib.Dec.{leb}
+use borrow.Author.Tests.{leb-true, leb-false}
+use Rattle.snapshot.specs.Form.{sizeOf}
+use Rattle.snapshot.specs.Records.{stands, skip, from, recordAt, decode, bytes, records, encode, GoodAt, Good}
+use Rattle.snapshot.proofs.Laws.Sound.{stands-one, stands-nil, stands-below, stands-record, record-stands}
+
+at-good : (k : ℕ) (s : List ℕ) → GoodAt k (recordAt k s)
+unfolding recordAt
+at-good k s = go (stands k s) refl
+  where
+    go : (b : Bool) → stands k s ≡ b → GoodAt k (cond b (some (take (sizeOf k) s)) none)
+    go true e = stands-record k s e
+    go false e = tt
+
+pub decode-good : (s : List ℕ) → Good (decode s)
+unfolding decode
+decode-good s k = at-good k (from s k)
+
+not-true : (b : Bool) → (b ≡ true → ⊥) → b ≡ false
+not-true true h = absurd (h refl)
+not-true false h = refl
+
+module _ (m : ℕ → Option (List ℕ)) (g : Good m) where
+  -- at the start of the records from key k on stands none of a key below k
+  above : (n k j : ℕ) → j < k → stands j (records n k m) ≡ false
+  unfolding records
+  above zero k j h = stands-nil j
+  above (suc n) k j h = go (m k) (g k) (above n (suc k) j (omega arith))
+    where
+      go : (o : Option (List ℕ)) → GoodAt k o → stands j (records n (suc k) m) ≡ false → stands j (bytes o ++ records n (suc k) m) ≡ false
+      go none p q = q
+      go (some r) p q = not-true _ (λ e. let z = stands-one j k _ e (record-stands k r _ p) in omega arith)
+
+  skip-records : (n k : ℕ) → skip k (records (suc n) k m) ≡ records n (suc k) m
+  unfolding records skip
+  skip-records n k = go (m k) (g k)
+    where
+      go : (o : Option (List ℕ)) → GoodAt k o → skip k (bytes o ++ records n (suc k) m) ≡ records n (suc k) m
+      go none p = simp (above n (suc k) k (omega arith))
+      go (some r) p = simp (record-stands k r (records n (suc k) m) p) (drop-at r (records n (suc k) m) (sizeOf k) (p .long))
+
+  at-records : (n k : ℕ) → recordAt k (records (suc n) k m) ≡ m k
+  unfolding records recordAt
+  at-records n k = go (m k) (g k)
+    where
+      go : (o : Option (List ℕ)) → GoodAt k o → recordAt k (bytes o ++ records n (suc k) m) ≡ o
+      go none p = simp (above n (suc k) k (omega arith))
+      go (some r) p = simp (record-stands k r (records n (suc k) m) p) (ap {B = Option (List ℕ)} some (take-at r (records n (suc k) m) (sizeOf k) (p .long)))
+
+  -- the keys below k are passed once their records are
+  pub from-records : (k n : ℕ) → n + k ≡ 19 → from (encode m) k ≡ records n k m
+  unfolding from encode
+  from-records zero n h = let e : 19 ≡ n = omega arith in rw (← e)
+  from-records (suc k) n h = rw (from-records k (suc n) (omega arith)) (skip-records n k)
+
+  -- no key is 19 or above
+  pub none-above : (k : ℕ) → 19 ≤ k → m k ≡ none
+  none-above k h = go (m k) (g k)
+    where
+      go : (o : Option (List ℕ)) → GoodAt k o → o ≡ none
+      go none p = refl
+      go (some r) p = let b = stands-below k r (p .is) in absurd (omega arith)
+
+pub decode-encode : (m : ℕ → Option (List ℕ)) → Good m → decode (encode m) ≡ m
+unfolding decode
+decode-encode m g = fun-ext λ k. go k (leb 19 k) refl
+  where
+    go : (k : ℕ) (b : Bool) → leb 19 k ≡ b → decode (encode m) k ≡ m k
+    go k true e = none-above (decode (encode m)) (decode-good (encode m)) k (leb-true _ _ e) ∙ sym (none-above m g k (leb-true _ _ e))
+    go k false e =
+        let h = leb-false 19 k e in
+        ap (recordAt k) (from-records m g k (suc (18 - k)) (omega arith)) ∙ at-records m g (18 - k) k
+
+-- the records of the next j keys behind those of the first i
+pub records-split : (m : ℕ → Option (List ℕ)) (i j k : ℕ) → records (i + j) k m ≡ records i k m ++ records j (i + k) m
+unfolding records
+records-split m zero j k = simp zero-add
+records-split m (suc i) j k =
+    let e : suc i + j ≡ suc (i + j) = omega arith in
+    let f : i + suc k ≡ suc i + k = omega arith in
+    ap (λ n. records n k m) e
+    ∙ ap (λ l. bytes (m k) ++ l) (records-split m i j (suc k) ∙ ap (λ n. records i (suc k) m ++ records j n m) f)
+    ∙ sym (append-assoc (bytes (m k)) (records i (suc k) m) (records j (suc i + k) m))

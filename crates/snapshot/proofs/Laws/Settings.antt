@@ -1,0 +1,71 @@
+-- The snapshot of two runs of settings is the first's merged with the second's, and the settings of a snapshot's records are their values.
+-- Assumes nothing.
+use Prim.Native.Nat.{ℕ, suc, _+_, _<_}
+use native.Mathlib.Omega.{arith}
+use mathlib.Core.Path.{_≡_, refl, sym, ap, ap₂, _∙_, subst, fun-ext}
+use mathlib.Core.Bool.{Bool, true, false, cond}
+use mathlib.Core.List.{List, [], _∷_, _++_}
+use mathlib.Core.Option.{Option, none, some, Option·map}
+use lib.Dec.{eqb}
+use borrow.Author.Tests.{eqb-true, ne-eqb}
+use Rattle.snapshot.specs.Form.{wellFormed}
+use Rattle.snapshot.specs.Records.{decode, encode, Record, GoodAt, Good, Entry, recordsOf, find, Ascending}
+use Rattle.snapshot.specs.Merge.{over, overs, merged}
+use Rattle.snapshot.specs.Settings.{Setting, lastOf, snapshotOf, Rows, valuesOf}
+use Rattle.snapshot.proofs.Laws.Maps.{decode-encode}
+use Rattle.snapshot.proofs.Laws.Entries.{find-records, records-ascend}
+use Rattle.snapshot.proofs.Laws.Merging.{over-assoc, over-none}
+
+pub last-append : {Value : Type 0} (a b : List (Setting Value)) (k : ℕ) → lastOf (a ++ b) k ≡ over (lastOf a k) (lastOf b k)
+last-append [] b k = sym (over-none (lastOf b k))
+last-append (p ∷ a) b k =
+    ap (over (cond (eqb (p .0) k) (some (p .1)) none)) (last-append a b k)
+    ∙ sym (over-assoc (cond (eqb (p .0) k) (some (p .1)) none) (lastOf a k) (lastOf b k))
+
+-- a map of the values goes through
+pub over-map : {A B : Type 0} (f : A → B) (a b : Option A) → Option·map f (over a b) ≡ over (Option·map f a) (Option·map f b)
+over-map f a none = refl
+over-map f a (some v) = refl
+
+module _ {Value : Type 0} (row : ℕ → Value → List ℕ) where
+  pub rows-append : (a b : List (Setting Value)) → Rows row a → Rows row b → Rows row (a ++ b)
+  rows-append [] b p q = q
+  rows-append (x ∷ a) b p q = (p .0, rows-append a b (p .1) q)
+
+  over-map-good : (k : ℕ) (a b : Option Value) → GoodAt k (Option·map (row k) a) → GoodAt k (Option·map (row k) b) → GoodAt k (Option·map (row k) (over a b))
+  over-map-good k a none p q = p
+  over-map-good k a (some v) p q = q
+
+  pub rows-good : (l : List (Setting Value)) → Rows row l → Good (λ k. Option·map (row k) (lastOf l k))
+  rows-good [] p k = tt
+  rows-good (x ∷ l) p k = over-map-good k (cond (eqb (x .0) k) (some (x .1)) none) (lastOf l k) (first (eqb (x .0) k) refl) (rows-good l (p .1) k)
+    where
+      first : (b : Bool) → eqb (x .0) k ≡ b → GoodAt k (Option·map (row k) (cond b (some (x .1)) none))
+      first true e = subst (λ j. Record j (row j (x .1))) (eqb-true _ _ e) (p .0)
+      first false e = tt
+
+  pub snapshot-append : (a b : List (Setting Value)) → Rows row a → Rows row b → snapshotOf row (lastOf (a ++ b)) ≡ merged (snapshotOf row (lastOf a)) (snapshotOf row (lastOf b))
+  unfolding merged
+  snapshot-append a b p q =
+      ap encode (fun-ext λ k. ap (Option·map (row k)) (last-append a b k) ∙ over-map (row k) (lastOf a k) (lastOf b k))
+      ∙ ap₂ (λ m n. encode (overs m n)) (sym (decode-encode _ (rows-good a p))) (sym (decode-encode _ (rows-good b q)))
+
+module _ {Value : Type 0} (value : ℕ → List ℕ → Value) where
+  none-before : (low k : ℕ) (l : List Entry) → Ascending low l → k < low → lastOf (valuesOf value l) k ≡ none
+  none-before low k [] p h = refl
+  none-before low k (x ∷ l) p h = ap₂ over (simp (ne-eqb (x .0) k (let q = p .0 in omega arith))) (none-before (suc (x .0)) k l (p .1) (let q = p .0 in omega arith))
+
+  last-find : (low k : ℕ) (l : List Entry) → Ascending low l → lastOf (valuesOf value l) k ≡ Option·map (value k) (find k l)
+  last-find low k [] p = refl
+  last-find low k (x ∷ l) p = go (eqb (x .0) k) refl (last-find (suc (x .0)) k l (p .1))
+    where
+      go : (b : Bool) → eqb (x .0) k ≡ b → lastOf (valuesOf value l) k ≡ Option·map (value k) (find k l)
+          → over (cond b (some (value (x .0) (x .1))) none) (lastOf (valuesOf value l) k) ≡ Option·map (value k) (cond b (some (x .1)) (find k l))
+      go true e ih =
+          let q : x .0 ≡ k = eqb-true (x .0) k e in
+          ap (over (some (value (x .0) (x .1)))) (none-before (suc (x .0)) k l (p .1) (omega arith)) ∙ ap (λ j. some (value j (x .1))) q
+      go false e ih = over-none (lastOf (valuesOf value l) k) ∙ ih
+
+  -- what a well-formed snapshot's records set, one after the other
+  pub last-records : (s : List ℕ) → wellFormed s ≡ true → (k : ℕ) → lastOf (valuesOf value (recordsOf s)) k ≡ Option·map (value k) (decode s k)
+  last-records s w k = last-find 0 k (recordsOf s) (records-ascend s w) ∙ ap (Option·map (value k)) (find-records s w k)

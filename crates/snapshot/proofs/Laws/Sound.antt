@@ -1,0 +1,202 @@
+-- A sound record is told from the bytes that it states to be its own, and from no others. Assumes nothing.
+use Prim.Native.Nat.{ℕ, zero, suc, _+_, _*_, _-_, _≤_, _<_}
+use mathlib.Core.Path.{_≡_, refl, sym, ap₂, _∙_}
+use mathlib.Core.Bool.{Bool, true, false, cond, _&&_, false≢true}
+use mathlib.Core.List.{List, [], _∷_, _++_}
+use native.Mathlib.Omega.{arith}
+use lib.ListN.{length, getD, take, drop, length-drop, length-append, List·getD-append}
+use lib.Seq.{getD-take, getD-drop, ext-getD, length-take-le}
+use lib.Dec.{leb, eqb}
+use borrow.Author.Tests.{leb-true, ltb-true, eqb-true, le-leb, eq-eqb, ne-eqb, lt-ltb}
+use Rattle.wire.specs.Number.{leAt, number}
+use Rattle.wire.proofs.Laws.Numbers.{front}
+use Rattle.snapshot.specs.Form.{lengthOf, sizeOf, keyFor, lengthAt, kindAt, tailAt, zeros, all, tests, sound, keyAt}
+use Rattle.snapshot.specs.Records.{stands, Record}
+
+pub and-left : (a b : Bool) → (a && b) ≡ true → a ≡ true
+and-left true b e = refl
+and-left false b e = e
+
+pub and-right : (a b : Bool) → (a && b) ≡ true → b ≡ true
+and-right true b e = e
+and-right false b e = absurd (false≢true e)
+
+each : (ts : List Bool) → all ts ≡ true → (i : ℕ) → getD ts i true ≡ true
+each [] e i = refl
+each (t ∷ ts) e zero = and-left t (all ts) e
+each (t ∷ ts) e (suc i) = each ts (and-right t (all ts) e) i
+
+-- the tests of a record, one by one
+pub record Sound (s : List ℕ) : Type 0 where
+  pub four : 4 ≤ length s
+  pub within : lengthAt s ≤ length s
+  pub known : 0 < lengthOf (kindAt s)
+  pub right : lengthAt s ≡ lengthOf (kindAt s)
+  pub face : cond (eqb (kindAt s) 0x06) (all (eqb (getD s 4 0) 1 ∷ leb 0x81 (getD s 5 0) ∷ leb (getD s 5 0) 0x8F ∷ [])) true ≡ true
+  pub tail : cond (eqb (kindAt s) 0x0E) (zeros (tailAt s)) true ≡ true
+
+pub sound-parts : (s : List ℕ) → sound s ≡ true → Sound s
+unfolding sound
+sound-parts s e =
+    let at = each (tests (length s) (lengthAt s) (kindAt s) (getD s 4 0) (getD s 5 0) (zeros (tailAt s))) e in
+    record {
+      four = leb-true _ _ (at 0);
+      within = leb-true _ _ (at 1);
+      known = ltb-true _ _ (at 2);
+      right = eqb-true _ _ (at 3);
+      face = at 4;
+      tail = at 5;
+    }
+
+pub parts-sound : (s : List ℕ) → Sound s → sound s ≡ true
+unfolding sound
+parts-sound s p =
+    simp (le-leb _ _ (p .four), le-leb _ _ (p .within), lt-ltb _ _ (p .known), eq-eqb _ _ (p .right), p .face, p .tail)
+
+-- the five kinds
+pub data Kind (n : ℕ) : Type 0 where
+  ev : n ≡ 0x03 → Kind n
+  face : n ≡ 0x06 → Kind n
+  metadata : n ≡ 0x09 → Kind n
+  hdr : n ≡ 0x0D → Kind n
+  throttle : n ≡ 0x0E → Kind n
+
+pub kind-of : (n : ℕ) → 0 < lengthOf n → Kind n
+kind-of n h = go (eqb n 0x03) (eqb n 0x06) (eqb n 0x09) (eqb n 0x0D) (eqb n 0x0E) refl refl refl refl refl h
+  where
+    go : (a b c d e : Bool) → eqb n 0x03 ≡ a → eqb n 0x06 ≡ b → eqb n 0x09 ≡ c → eqb n 0x0D ≡ d → eqb n 0x0E ≡ e
+        → 0 < cond a 15 (cond b 13 (cond c 8 (cond d 8 (cond e 24 0)))) → Kind n
+    go true b c d e p q r s t h = ev (eqb-true n 0x03 p)
+    go false true c d e p q r s t h = face (eqb-true n 0x06 q)
+    go false false true d e p q r s t h = metadata (eqb-true n 0x09 r)
+    go false false false true e p q r s t h = hdr (eqb-true n 0x0D s)
+    go false false false false true p q r s t h = throttle (eqb-true n 0x0E t)
+    go false false false false false p q r s t h = absurd (omega arith)
+
+-- of face authentication, the address
+pub sound-address : (s : List ℕ) → Sound s → kindAt s ≡ 0x06 → (0x81 ≤ getD s 5 0) × (getD s 5 0 ≤ 0x8F)
+sound-address s p e =
+    let at = each (eqb (getD s 4 0) 1 ∷ leb 0x81 (getD s 5 0) ∷ leb (getD s 5 0) 0x8F ∷ []) (rw e at (p .face)) in
+    (leb-true _ _ (at 1), leb-true _ _ (at 2))
+
+-- what its kind says of a sound record
+pub record Of (s : List ℕ) : Type 0 where
+  pub key : keyAt s < 19
+  pub size : sizeOf (keyAt s) ≡ lengthAt s
+  pub eight : 8 ≤ lengthAt s
+
+of-kind : (s : List ℕ) → Sound s → Kind (kindAt s) → Of s
+unfolding keyAt
+of-kind s p (ev e) = let r : lengthAt s ≡ 15 = rw e at (p .right) in record { key = rw e (omega arith); size = rw e (sym r); eight = omega arith }
+of-kind s p (face e) =
+    let r : lengthAt s ≡ 13 = rw e at (p .right) in
+    let b = sound-address s p e in
+    record {
+      key = rw e (omega arith);
+      size = rw e (simp (ne-eqb (getD s 5 0 - 0x80) 0 (omega arith), le-leb (getD s 5 0 - 0x80) 15 (omega arith)) (sym r));
+      eight = omega arith;
+    }
+of-kind s p (metadata e) = let r : lengthAt s ≡ 8 = rw e at (p .right) in record { key = rw e (omega arith); size = rw e (sym r); eight = omega arith }
+of-kind s p (hdr e) = let r : lengthAt s ≡ 8 = rw e at (p .right) in record { key = rw e (omega arith); size = rw e (sym r); eight = omega arith }
+of-kind s p (throttle e) = let r : lengthAt s ≡ 24 = rw e at (p .right) in record { key = rw e (omega arith); size = rw e (sym r); eight = omega arith }
+
+pub sound-of : (s : List ℕ) → Sound s → Of s
+sound-of s p = of-kind s p (kind-of (kindAt s) (p .known))
+
+-- the same bytes are the same number
+number-same : (k : ℕ) (s t : List ℕ) (i : ℕ) → ((j : ℕ) → j < i + k → getD t j 0 ≡ getD s j 0) → leAt k t i ≡ leAt k s i
+unfolding leAt number
+number-same zero s t i h = refl
+number-same (suc k) s t i h =
+    front k t i
+    ∙ ap₂ (λ a b. a + 256 * b) (h i (omega arith)) (number-same k s t (suc i) (λ j l. h j (omega arith)))
+    ∙ sym (front k s i)
+
+-- bytes that agree with a sound record's own are a sound record of the same key and length
+module _ (s s′ : List ℕ) (p : Sound s) (long : lengthAt s ≤ length s′) (same : (i : ℕ) → i < lengthAt s → getD s′ i 0 ≡ getD s i 0) where
+  same-at : (i : ℕ) → i < 8 → getD s′ i 0 ≡ getD s i 0
+  same-at i h = same i (omega (arith, sound-of s p .eight))
+
+  same-length : lengthAt s′ ≡ lengthAt s
+  same-length = number-same 2 s s′ 0 (λ j h. same-at j (omega arith))
+
+  same-kind : kindAt s′ ≡ kindAt s
+  same-kind = number-same 2 s s′ 2 (λ j h. same-at j (omega arith))
+
+  same-key : keyAt s′ ≡ keyAt s
+  unfolding keyAt
+  same-key = ap₂ keyFor same-kind (same-at 5 (omega arith))
+
+  same-tail : kindAt s ≡ 0x0E → tailAt s′ ≡ tailAt s
+  same-tail e =
+      let r : lengthAt s ≡ 24 = rw e at (p .right) in
+      let l : (t : List ℕ) → 24 ≤ length t → length (tailAt t) ≡ 12 = λ t h. length-take-le 12 (drop 12 t) (simp length-drop (omega arith)) in
+      let n : length (tailAt s′) ≡ 12 = l s′ (omega arith) in
+      ext-getD 0 _ _ (n ∙ sym (l s (omega (arith, p .within))))
+      (λ i h.
+      getD-take 12 (drop 12 s′) i 0 (omega arith) ∙ getD-drop 12 s′ i 0 ∙ same (12 + i) (omega arith)
+      ∙ sym (getD-drop 12 s i 0) ∙ sym (getD-take 12 (drop 12 s) i 0 (omega arith)))
+
+  zeros-same : (b : Bool) → eqb (kindAt s) 0x0E ≡ b → cond b (zeros (tailAt s)) true ≡ true → cond b (zeros (tailAt s′)) true ≡ true
+  zeros-same true e h = rw (same-tail (eqb-true _ _ e)) h
+  zeros-same false e h = refl
+
+  same-sound : Sound s′
+  same-sound = record {
+    four = omega (arith, sound-of s p .eight);
+    within = omega (arith, same-length);
+    known = rw same-kind (p .known);
+    right = rw (same-length, same-kind) (p .right);
+    face = simp (same-kind, same-at 4 (omega arith), same-at 5 (omega arith)) (p .face);
+    tail = rw same-kind (zeros-same _ refl (p .tail));
+  }
+
+-- where a record of key k stands
+pub stands-sound : (k : ℕ) (s : List ℕ) → stands k s ≡ true → Sound s × (keyAt s ≡ k)
+unfolding stands
+stands-sound k s e = (sound-parts s (and-left _ (eqb (keyAt s) k) e), eqb-true (keyAt s) k (and-right (sound s) (eqb (keyAt s) k) e))
+
+pub sound-stands : (k : ℕ) (s : List ℕ) → Sound s → keyAt s ≡ k → stands k s ≡ true
+unfolding stands
+sound-stands k s p e = simp (parts-sound s p, eq-eqb (keyAt s) k e)
+
+-- one record stands at a place
+pub stands-one : (j k : ℕ) (s : List ℕ) → stands j s ≡ true → stands k s ≡ true → j ≡ k
+stands-one j k s p q = sym (stands-sound j s p .1) ∙ stands-sound k s q .1
+
+pub stands-nil : (k : ℕ) → stands k [] ≡ false
+unfolding stands sound
+stands-nil k = refl
+
+pub stands-below : (k : ℕ) (s : List ℕ) → stands k s ≡ true → k < 19
+stands-below k s e = let p = stands-sound k s e in rw (← (p .1)) (sound-of s (p .0) .key)
+
+-- it is the first `sizeOf k` bytes
+pub stands-size : (k : ℕ) (s : List ℕ) → stands k s ≡ true → sizeOf k ≡ lengthAt s
+stands-size k s e = let p = stands-sound k s e in rw (p .1) at (sound-of s (p .0) .size)
+
+pub stands-long : (k : ℕ) (s : List ℕ) → stands k s ≡ true → sizeOf k ≤ length s
+stands-long k s e = omega (arith, stands-size k s e, stands-sound k s e .0 .within)
+
+pub stands-some : (k : ℕ) (s : List ℕ) → stands k s ≡ true → 8 ≤ sizeOf k
+stands-some k s e = let p = stands-sound k s e in omega (arith, stands-size k s e, sound-of s (p .0) .eight)
+
+stands-same : (k : ℕ) (s s′ : List ℕ) → stands k s ≡ true → sizeOf k ≤ length s′
+    → ((i : ℕ) → i < sizeOf k → getD s′ i 0 ≡ getD s i 0) → stands k s′ ≡ true
+stands-same k s s′ e l f =
+    let p = stands-sound k s e in
+    let z = stands-size k s e in
+    let l′ : lengthAt s ≤ length s′ = omega arith in
+    let f′ : (i : ℕ) → i < lengthAt s → getD s′ i 0 ≡ getD s i 0 = λ i h. f i (omega arith) in
+    sound-stands k s′ (same-sound s s′ (p .0) l′ f′) (same-key s s′ (p .0) l′ f′ ∙ p .1)
+
+-- the record that stands there
+pub stands-record : (k : ℕ) (s : List ℕ) → stands k s ≡ true → Record k (take (sizeOf k) s)
+stands-record k s e =
+    let n = length-take-le (sizeOf k) s (stands-long k s e) in
+    record { long = n; is = stands-same k s _ e (omega arith) (λ i h. getD-take (sizeOf k) s i 0 h) }
+
+-- whatever follows it
+pub record-stands : (k : ℕ) (r t : List ℕ) → Record k r → stands k (r ++ t) ≡ true
+record-stands k r t p =
+    stands-same k r _ (p .is) (simp length-append (omega (arith, p .long))) (λ i h. List·getD-append r t 0 i (omega (arith, p .long)))

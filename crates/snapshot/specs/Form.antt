@@ -1,0 +1,105 @@
+-- The form of a snapshot, document 01's "settings sheet": records in strictly ascending order of their keys, none of them with a fault.
+use Prim.Native.Nat.{ℕ, zero, suc, _+_, _*_, _-_}
+use mathlib.Core.Bool.{Bool, true, false, cond, _&&_}
+use mathlib.Core.List.{List, [], _∷_}
+use lib.ListN.{length, getD, take, drop}
+use lib.Dec.{leb, ltb, eqb}
+use Rattle.wire.specs.Number.{leAt}
+
+-- 01's number for a form fault
+abbrev pub malformed : ℕ
+malformed = 0x22
+
+-- The kinds: 0x03 exposure compensation (EV), 0x06 face authentication, 0x09 metadata, 0x0D HDR, 0x0E throttle.
+-- A key is a kind, of face authentication with an address. The 19 keys are numbered by kind, then address: 0 is EV, 1 to 15 are face
+-- authentication at 0x81 to 0x8F, 16 is metadata, 17 HDR, 18 throttle.
+
+-- the length of a whole record of a kind; 0 where the kind is unknown
+abbrev pub lengthOf : ℕ → ℕ
+lengthOf kind =
+    cond (eqb kind 0x03) 15
+    (cond (eqb kind 0x06) 13
+    (cond (eqb kind 0x09) 8
+    (cond (eqb kind 0x0D) 8
+    (cond (eqb kind 0x0E) 24
+    0))))
+
+-- the length of a whole record of a key; 0 where there is no such key
+abbrev pub sizeOf : ℕ → ℕ
+sizeOf k = cond (eqb k 0) 15 (cond (leb k 15) 13 (cond (leb k 17) 8 (cond (eqb k 18) 24 0)))
+
+-- the key of a known kind, and for face authentication of an address
+abbrev pub keyFor : ℕ → ℕ → ℕ
+keyFor kind address =
+    cond (eqb kind 0x03) 0
+    (cond (eqb kind 0x06) (address - 0x80)
+    (cond (eqb kind 0x09) 16
+    (cond (eqb kind 0x0D) 17
+    18)))
+
+-- every test holds
+abbrev pub all : List Bool → Bool
+all [] = true
+all (t ∷ ts) = t && all ts
+
+-- all bytes are zero
+abbrev pub zeros : List ℕ → Bool
+zeros [] = true
+zeros (b ∷ s) = eqb b 0 && zeros s
+
+-- What a record's faults are told from, its place in the order aside: how many bytes are left from its start on, the length and the kind
+-- that it states, its bytes 4 and 5 (of face authentication the count n of entries and the address), and whether the throttle's tail is zero.
+-- None of these tests fails: 4 bytes are left; the length is not past the end; the kind is known; the length is the kind's; n is 1 and the
+-- address within 0x81..0x8F; the tail is zero.
+abbrev pub tests : ℕ → ℕ → ℕ → ℕ → ℕ → Bool → List Bool
+tests left len kind n address tail =
+    leb 4 left
+    ∷ leb len left
+    ∷ ltb 0 (lengthOf kind)
+    ∷ eqb len (lengthOf kind)
+    ∷ cond (eqb kind 0x06) (all (eqb n 1 ∷ leb 0x81 address ∷ leb address 0x8F ∷ [])) true
+    ∷ cond (eqb kind 0x0E) tail true
+    ∷ []
+
+-- the length and the kind that the record at the start of s states
+abbrev pub lengthAt : List ℕ → ℕ
+lengthAt s = leAt 2 s 0
+
+abbrev pub kindAt : List ℕ → ℕ
+kindAt s = leAt 2 s 2
+
+-- the throttle's tail, bytes 8..19 of its payload
+abbrev pub tailAt : List ℕ → List ℕ
+tailAt s = take 12 (drop 12 s)
+
+-- the record at the start of s has no fault, its place in the order aside
+unfoldable pub sound : List ℕ → Bool
+sound s = all (tests (length s) (lengthAt s) (kindAt s) (getD s 4 0) (getD s 5 0) (zeros (tailAt s)))
+
+-- the key of the record at the start of s
+unfoldable pub keyAt : List ℕ → ℕ
+keyAt s = keyFor (kindAt s) (getD s 5 0)
+
+-- the place in 01's order of the record at the start of s: its kind, then of face authentication the address, which is a byte. (`key-order`
+-- of proofs/Laws/Keys: the keys' numbers stand in this order.)
+abbrev pub place : List ℕ → ℕ
+place s = 256 * kindAt s + cond (eqb (kindAt s) 0x06) (getD s 5 0) 0
+
+abbrev pub isEmpty : List ℕ → Bool
+isEmpty [] = true
+isEmpty (b ∷ s) = false
+
+-- record by record: each is sound, and its key is `low` or above, where `low` is one more than the key before it
+unfoldable pub formed : ℕ → ℕ → List ℕ → Bool
+formed zero low s = isEmpty s
+formed (suc fuel) low s =
+    cond (isEmpty s) true
+    (sound s && leb low (keyAt s) && formed fuel (suc (keyAt s)) (drop (lengthAt s) s))
+
+-- the bytes have no form fault. (A record has bytes, so there are no more records than bytes.)
+unfoldable pub wellFormed : List ℕ → Bool
+wellFormed s = formed (length s) 0 s
+
+-- the verdict on the form: accepted, or a form fault
+unfoldable pub formCode : List ℕ → ℕ
+formCode s = cond (wellFormed s) 0 malformed

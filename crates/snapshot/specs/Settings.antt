@@ -1,0 +1,31 @@
+-- Settings given one after the other, whatever their values are: the last that names a key holds, and a snapshot has what is held.
+use Prim.Native.Nat.{ℕ}
+use mathlib.Core.Bool.{cond}
+use mathlib.Core.List.{List, [], _∷_}
+use mathlib.Core.Option.{Option, none, some, Option·map}
+use lib.Dec.{eqb}
+use Rattle.snapshot.specs.Records.{Entry, Record, encode}
+use Rattle.snapshot.specs.Merge.{over}
+
+-- a setting that is given: its key, and its value
+abbrev pub Setting : Type 0 → Type 0
+Setting Value = ℕ × Value
+
+-- the last that names k, or none
+abbrev pub lastOf : {Value : Type 0} → List (Setting Value) → ℕ → Option Value
+lastOf [] k = none
+lastOf (p ∷ l) k = over (cond (eqb (p .0) k) (some (p .1)) none) (lastOf l k)
+
+-- the snapshot of the settings held, where `row k v` is the record of the value v of the key k
+abbrev pub snapshotOf : {Value : Type 0} → (ℕ → Value → List ℕ) → (ℕ → Option Value) → List ℕ
+snapshotOf row held = encode (λ k. Option·map (row k) (held k))
+
+-- every setting of a list has a record of its key
+abbrev pub Rows : {Value : Type 0} → (ℕ → Value → List ℕ) → List (Setting Value) → Type 0
+Rows row [] = Unit {0}
+Rows row (p ∷ l) = Record (p .0) (row (p .0) (p .1)) × Rows row l
+
+-- the settings that records give, where `value k r` is what the record r of the key k sets
+abbrev pub valuesOf : {Value : Type 0} → (ℕ → List ℕ → Value) → List Entry → List (Setting Value)
+valuesOf value [] = []
+valuesOf value (e ∷ l) = (e .0, value (e .0) (e .1)) ∷ valuesOf value l

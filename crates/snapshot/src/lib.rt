@@ -1,0 +1,18 @@
+// Snapshots of a camera's settings, which document 01 calls settings sheets (its section of that name, and demand 3's sentence on merging).
+// A snapshot is a list of records, each a length, a kind and the bytes that would set one control (of face authentication, one endpoint).
+// `check` judges the form of any bytes, and `merge` puts two snapshots together, the second's records winning.
+// `key_at`, `passed_at` and `size_of` go through the records in order, for merging here and for loading in a camera, and `record_of` reads one.
+// Nothing here judges the values that the records carry: that is the camera's.
+mod form;
+mod keys;
+mod merging;
+mod records;
+
+pub use form::check;
+pub use keys::KEYS;
+pub use keys::size_of;
+pub use merging::Merged;
+pub use merging::merge;
+pub use records::key_at;
+pub use records::passed_at;
+pub use records::record_of;

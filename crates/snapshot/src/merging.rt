@@ -1,0 +1,79 @@
+// Merging two snapshots: one record for each key that is in either, the second's where both have it.
+use crate::form::MALFORMED;
+use crate::form::well_formed;
+use crate::keys::KEYS;
+use crate::records::passed_at;
+ghost use mathlib.Core.Path.{_≡_};
+ghost use lib.ListN.{length};
+ghost use Rattle.wire.specs.Overlay.{overlay};
+ghost use Rattle.snapshot.specs.Merge.{secondOr, merged, mergeCode, mergeLen, mergeOut};
+
+// 01's number for a lent buffer that is too short.
+const NO_ROOM: u8 = 0x20;
+
+// The verdict, and how many bytes the merged snapshot has; 0 where it is refused.
+pub struct Merged {
+    pub code: u8,
+    pub len: usize,
+}
+
+// A refusal reports no bytes.
+fn refused(code: u8) -> Merged
+    ensures { λ r. ⌜ (r .code ≡ code) × (r .len ≡ 0) ⌝ }
+{
+    Merged { code, len: 0 }
+}
+
+// Writes the second record where it has bytes, else the first, over out from `at` on, as far as out reaches, and returns its length.
+fn put(first: &[u8], second: &[u8], out: &mut [u8], at: usize) -> usize
+    ensures { λ r. ⌜ r ≡ length (secondOr (now (first .entry)) (now (second .entry))) ⌝ }
+    ensures { λ _. ⌜ now (out .exit) ≡ overlay (now (out .entry)) at (secondOr (now (first .entry)) (now (second .entry))) ⌝ }
+{
+    if second.len() == 0 {
+        wire::copy(out, at, first);
+        return first.len();
+    }
+    wire::copy(out, at, second);
+    second.len()
+}
+
+// Writes the merged snapshot over the start of out, as far as out reaches, and returns how long all of it is.
+fn write_merged(first: &[u8], second: &[u8], out: &mut [u8]) -> usize
+    ensures { λ r. ⌜ r ≡ length (merged (now (first .entry)) (now (second .entry))) ⌝ }
+    ensures { λ _. ⌜ now (out .exit) ≡ overlay (now (out .entry)) 0 (merged (now (first .entry)) (now (second .entry))) ⌝ }
+{
+    let mut a = 0;
+    let mut b = 0;
+    let mut n = 0;
+    let mut key = 0;
+    while key < KEYS {
+        let p = passed_at(first, a, key);
+        let q = passed_at(second, b, key);
+        n += put(wire::part(first, a, p), wire::part(second, b, q), out, n);
+        a += p;
+        b += q;
+        key += 1;
+    }
+    n
+}
+
+// Merges two snapshots into the start of out: a form fault of either is 0x22, then room short of the merged snapshot 0x20.
+pub fn merge(first: &[u8], second: &[u8], out: &mut [u8]) -> Merged
+    ensures { λ r. ⌜ r .code ≡ mergeCode (now (first .entry)) (now (second .entry)) (now (out .entry)) ⌝ }
+    ensures { λ r. ⌜ r .len ≡ mergeLen (now (first .entry)) (now (second .entry)) (now (out .entry)) ⌝ }
+    ensures { λ _. ⌜ now (out .exit) ≡ mergeOut (now (first .entry)) (now (second .entry)) (now (out .entry)) ⌝ }
+{
+    if !well_formed(first) {
+        return refused(MALFORMED);
+    }
+    if !well_formed(second) {
+        return refused(MALFORMED);
+    }
+    // Into no room nothing is written: this only measures.
+    let mut none = [0u8; 0];
+    if out.len() < write_merged(first, second, &mut none) {
+        return refused(NO_ROOM);
+    }
+    let n = write_merged(first, second, out);
+    Merged { code: 0, len: n }
+}
