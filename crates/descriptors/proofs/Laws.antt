@@ -1,0 +1,11 @@
+pub mod Words
+pub mod Rows
+pub mod Sound
+pub mod Contents
+pub mod Proper
+pub mod Stops
+pub mod Whole
+pub mod Scan
+pub mod Answer
+pub mod Levels
+pub mod Order

@@ -1,0 +1,167 @@
+-- Which row of the tables of `specs/Header.antt` answers, one law for each answer of the code. Assumes nothing.
+use Prim.Native.Nat.{ℕ, zero, suc, _+_, _-_, _≤_, _<_}
+use mathlib.Core.Path.{_≡_}
+use mathlib.Core.List.{List, [], _∷_}
+use mathlib.Core.Bool.{Bool, true, false, false≢true, and-false, or-true, or-false}
+use native.Mathlib.Omega.{arith}
+use lib.ListN.{getD}
+use lib.Dec.{leb, eqb}
+use borrow.Author.Tests.{lt-ltb, le-ltb, le-leb, lt-leb, eq-eqb, ne-eqb}
+use Rattle.wire.specs.Number.{leAt}
+use Rattle.descriptors.specs.declared.header.Parent.{Parent}
+use Rattle.descriptors.specs.declared.header.Parent.the-variants.{Set, Configuration, Function}
+use Rattle.descriptors.specs.declared.header.Descriptor.the-variants.{Refused, Opaque, Property, Subset}
+use Rattle.descriptors.specs.Codes.{pastParent, badType, badLength, badField}
+use Rattle.descriptors.specs.Header.{lengthAt, typeAt, reservedAt, totalAt, kindAt, nameLengthAt, nameEndAt, dataLengthAt, isSubset, allowed, propertyTests, allOf, goodFields, goodProperty, propertyRefusal, subsetRefusal, refusal, inner, subsetAt, propertyAt, descriptorAt}
+
+-- what may stand where
+module _ (t : ℕ) where
+  pub feature : (p : Parent) → 3 ≤ t → leb t 8 ≡ allowed p t
+  unfolding allowed
+  feature Set h = simp (ne-eqb t 1 (omega arith), le-leb _ _ h)
+  feature Configuration h = simp (ne-eqb t 2 (omega arith), le-leb _ _ h)
+  feature (Function i) h = simp (le-leb _ _ h)
+
+  pub in-set : t < 3 → eqb t 1 ≡ allowed Set t
+  unfolding allowed
+  in-set h = simp (lt-leb _ _ h, or-false)
+
+  pub in-configuration : t < 3 → eqb t 2 ≡ allowed Configuration t
+  unfolding allowed
+  in-configuration h = simp (lt-leb _ _ h, or-false)
+
+  pub in-function : (i : ℕ) → t < 3 → false ≡ allowed (Function i) t
+  unfolding allowed
+  in-function i h = simp (lt-leb _ _ h)
+
+-- what may stand somewhere and is no feature is a subset
+pub one-or-two : (p : Parent) (t : ℕ) → allowed p t ≡ true → t ≤ 2 → isSubset t ≡ true
+unfolding allowed
+one-or-two Set t e h = let one : eqb t 1 ≡ true = simp (or-false, lt-leb 3 t (omega arith)) at e in simp one
+one-or-two Configuration t e h = let two : eqb t 2 ≡ true = simp (or-false, lt-leb 3 t (omega arith)) at e in simp (two, or-true)
+one-or-two (Function i) t e h = absurd (false≢true (simp (lt-leb 3 t (omega arith)) at e))
+
+-- a subset
+module _ (s : List ℕ) (p : Parent) (at left : ℕ) where
+  pub subset-length : (lengthAt s at ≡ 8 → ⊥) → Refused badLength ≡ subsetAt s p at left
+  unfolding subsetAt subsetRefusal
+  subset-length a = simp (ne-eqb _ _ a)
+
+  pub subset-past : (lengthAt s at ≡ 8) × (left < totalAt s at) → Refused pastParent ≡ subsetAt s p at left
+  unfolding subsetAt subsetRefusal
+  subset-past h = simp (eq-eqb _ _ (h .0), lt-ltb _ _ (h .1))
+
+  pub subset-short : (lengthAt s at ≡ 8) × (totalAt s at ≤ left) × (totalAt s at < 8) → Refused badLength ≡ subsetAt s p at left
+  unfolding subsetAt subsetRefusal
+  subset-short h = simp (eq-eqb _ _ (h .0), le-ltb _ _ (h .1), lt-ltb _ _ (h .2))
+
+  pub subset-reserved : (lengthAt s at ≡ 8) × (totalAt s at ≤ left) × (8 ≤ totalAt s at) × (reservedAt s at ≡ 0 → ⊥) → Refused badField ≡ subsetAt s p at left
+  unfolding subsetAt subsetRefusal
+  subset-reserved h = simp (eq-eqb _ _ (h .0), le-ltb _ _ (h .1), le-ltb _ _ (h .2), ne-eqb _ _ (h .3))
+
+  pub subset-sound : (lengthAt s at ≡ 8) × (totalAt s at ≤ left) × (8 ≤ totalAt s at) × (reservedAt s at ≡ 0)
+      → (total : ℕ) (q : Parent) → total ≡ totalAt s at → q ≡ inner s p at → Subset total q ≡ subsetAt s p at left
+  unfolding subsetAt subsetRefusal
+  subset-sound h total q e f = simp (eq-eqb _ _ (h .0), le-ltb _ _ (h .1), le-ltb _ _ (h .2), eq-eqb _ _ (h .3), e, f)
+
+-- one test that fails is enough
+fails : (i : ℕ) (ts : List Bool) → getD ts i true ≡ false → allOf ts ≡ false
+fails i [] e = e
+fails zero (t ∷ ts) e = rw e
+fails (suc i) (t ∷ ts) e = rw (fails i ts e) (and-false t)
+
+-- a property
+module _ (s : List ℕ) (at : ℕ) where
+  pub property-length : lengthAt s at < 12 → Refused badLength ≡ propertyAt s at
+  unfolding propertyAt propertyRefusal
+  property-length a = simp (lt-ltb _ _ a)
+
+  pub property-bad : 12 ≤ lengthAt s at → goodProperty s at ≡ false → Refused badField ≡ propertyAt s at
+  unfolding propertyAt propertyRefusal
+  property-bad a b = simp (le-ltb _ _ a, b)
+
+  pub property-good : 12 ≤ lengthAt s at → goodProperty s at ≡ true → (len : ℕ) → len ≡ lengthAt s at → Property len ≡ propertyAt s at
+  unfolding propertyAt propertyRefusal
+  property-good a b len e = simp (le-ltb _ _ a, b, e)
+
+  -- the name leaves no room for the data's length: whatever stands there, the sum does not hold
+  pub name-past : lengthAt s at < 10 + nameLengthAt s at → goodProperty s at ≡ false
+  unfolding goodFields
+  name-past h =
+      fails 5 (propertyTests (lengthAt s at) (kindAt s at) (nameLengthAt s at) (nameEndAt s at) (dataLengthAt s at))
+      (ne-eqb (lengthAt s at) (10 + nameLengthAt s at + dataLengthAt s at) (omega arith))
+
+  -- the fields as they were read: the name's length first, and by it the name's end and the data's length
+  pub gathered : (len kind name ending value : ℕ) (r b : Bool) → r ≡ goodFields len kind name ending value
+      → len ≡ lengthAt s at → kind ≡ kindAt s at → name ≡ nameLengthAt s at → ending ≡ leAt 2 s (at + 6 + name) → value ≡ leAt 2 s (at + 8 + name)
+      → r ≡ b → goodProperty s at ≡ b
+  gathered len kind name ending value r b e f g h i j k = simp (← k, e, i, j, f, g, h)
+
+-- any descriptor
+module _ (s : List ℕ) (p : Parent) (at end : ℕ) where
+  pub few-left : end - at < 4 → Refused pastParent ≡ descriptorAt s p at end
+  unfolding descriptorAt refusal
+  few-left a = simp (lt-ltb _ _ a)
+
+  pub past-parent : (4 ≤ end - at) × (end - at < lengthAt s at) → Refused pastParent ≡ descriptorAt s p at end
+  unfolding descriptorAt refusal
+  past-parent h = simp (le-ltb _ _ (h .0), lt-ltb _ _ (h .1))
+
+  pub too-short : (4 ≤ end - at) × (lengthAt s at ≤ end - at) × (lengthAt s at < 4) → Refused badLength ≡ descriptorAt s p at end
+  unfolding descriptorAt refusal
+  too-short h = simp (le-ltb _ _ (h .0), le-ltb _ _ (h .1), lt-ltb _ _ (h .2))
+
+  -- the first three rows pass
+  pub record Whole : Type 0 where
+    pub room : 4 ≤ end - at
+    pub within : lengthAt s at ≤ end - at
+    pub long : 4 ≤ lengthAt s at
+
+  -- the fourth row, as the type was read
+  pub not-here : Whole → (t : ℕ) (r : Bool) → r ≡ allowed p t → t ≡ typeAt s at → r ≡ false → Refused badType ≡ descriptorAt s p at end
+  unfolding descriptorAt refusal
+  not-here w t r e f g =
+      let a : allowed p (typeAt s at) ≡ false = simp (← f, ← e, g) in
+      simp (le-ltb _ _ (w .room), le-ltb _ _ (w .within), le-ltb _ _ (w .long), a)
+
+  module _ (w : Whole) (t : ℕ) (r : Bool) (e : r ≡ allowed p t) (f : t ≡ typeAt s at) (g : r ≡ true) where
+    here : allowed p (typeAt s at) ≡ true
+    here = simp (← f, ← e, g)
+
+    pub of-property : t ≡ 4 → propertyAt s at ≡ descriptorAt s p at end
+    unfolding descriptorAt refusal propertyAt
+    of-property h =
+        simp (
+          le-ltb _ _ (w .room),
+          le-ltb _ _ (w .within),
+          le-ltb _ _ (w .long),
+          here,
+          ne-eqb (typeAt s at) 1 (omega arith),
+          ne-eqb (typeAt s at) 2 (omega arith),
+          eq-eqb (typeAt s at) 4 (omega arith),
+        )
+
+    pub of-opaque : (t ≡ 4 → ⊥) → 2 < t → (len : ℕ) → len ≡ lengthAt s at → Opaque len ≡ descriptorAt s p at end
+    unfolding descriptorAt refusal
+    of-opaque h i len j =
+        simp (
+          le-ltb _ _ (w .room),
+          le-ltb _ _ (w .within),
+          le-ltb _ _ (w .long),
+          here,
+          ne-eqb (typeAt s at) 1 (omega arith),
+          ne-eqb (typeAt s at) 2 (omega arith),
+          ne-eqb (typeAt s at) 4 (omega arith),
+          j,
+        )
+
+    pub of-subset : t ≤ 2 → subsetAt s p at (end - at) ≡ descriptorAt s p at end
+    unfolding descriptorAt refusal subsetAt
+    of-subset h =
+        simp (
+          le-ltb _ _ (w .room),
+          le-ltb _ _ (w .within),
+          le-ltb _ _ (w .long),
+          here,
+          one-or-two p (typeAt s at) here (omega arith),
+        )

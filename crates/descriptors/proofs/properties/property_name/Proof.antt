@@ -1,0 +1,18 @@
+-- `property_name` meets its contract: that part of the set. Assumes nothing.
+use mathlib.Core.Path.{_∙_}
+use Rattle.descriptors.proofs.Laws.Answer.{name-bytes}
+use borrow.Author.Needs.{needs}
+use Rattle.descriptors.proofs.properties.property_name.Statement.{statement}
+use Rattle.descriptors.proofs.properties.property_name.Tie as tie
+
+property-requires : tie.Need-property-requires
+property-requires c κs = search needs
+
+part-requires : tie.Need-part-requires
+part-requires c κs = search needs
+
+returns : tie.Need-returns
+returns c = c .part .ensures ∙ name-bytes _ _ _ (c .before .before .property .ensures)
+
+pub property-name-spec : {M : Type 1} → statement M
+property-name-spec = tie.close (tie.spec property-requires part-requires returns)

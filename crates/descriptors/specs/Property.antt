@@ -1,0 +1,50 @@
+-- What asking for property k hands back.
+use Prim.Native.Nat.{ℕ, zero, suc, _+_}
+use mathlib.Core.List.{List, [], _∷_}
+use lib.ListN.{take, drop}
+use Rattle.descriptors.specs.declared.header.Interface.the-variants.{Nowhere}
+use Rattle.descriptors.specs.declared.properties.Part.{Part}
+use Rattle.descriptors.specs.declared.properties.RegistryProperty.{RegistryProperty}
+use Rattle.descriptors.specs.Codes.{noProperty}
+use Rattle.descriptors.specs.Header.{kindAt, nameLengthAt, dataLengthAt}
+use Rattle.descriptors.specs.Reading.{Entry, Finding, refused, sound, setOf}
+
+-- a refusal has empty parts; that its data type is 0 and it has no interface is our choice
+unfoldable pub refusedWith : ℕ → ℕ → RegistryProperty
+refusedWith code offset = record {
+  code = code;
+  offset = offset;
+  kind = 0;
+  name = record { at = 0; len = 0 };
+  value = record { at = 0; len = 0 };
+  interface = Nowhere;
+}
+
+-- the property whose descriptor is at q's offset: its data type, its name with the zero pair, its data and its first interface
+unfoldable pub foundAt : List ℕ → Entry → RegistryProperty
+foundAt s q = record {
+  code = 0;
+  offset = q .at;
+  kind = kindAt s (q .at);
+  name = record { at = q .at + 8; len = nameLengthAt s (q .at) };
+  value = record { at = q .at + 10 + nameLengthAt s (q .at); len = dataLengthAt s (q .at) };
+  interface = q .interface;
+}
+
+-- entry k of a list, k from 0; that the offset is 0 where there is none is our choice
+unfoldable pub nth : List ℕ → ℕ → List Entry → RegistryProperty
+nth s k [] = refusedWith noProperty 0
+nth s zero (q ∷ qs) = foundAt s q
+nth s (suc k) (q ∷ qs) = nth s k qs
+
+unfoldable pub inFinding : List ℕ → ℕ → Finding → RegistryProperty
+inFinding s k (refused code offset) = refusedWith code offset
+inFinding s k (sound ps) = nth s k ps
+
+-- property k of the set s
+unfoldable pub propertyOf : List ℕ → ℕ → RegistryProperty
+propertyOf s k = inFinding s k (setOf s)
+
+-- the bytes of a part
+abbrev pub bytesOf : List ℕ → Part → List ℕ
+bytesOf s p = take (p .len) (drop (p .at) s)

@@ -1,0 +1,139 @@
+// One descriptor by itself: the first of the paper's tests that refuses it, or its bytes in all.
+use crate::codes::BAD_FIELD;
+use crate::codes::BAD_LENGTH;
+use crate::codes::BAD_TYPE;
+use crate::codes::PAST_PARENT;
+use crate::word::word;
+ghost use mathlib.Core.Path.{_≡_};
+ghost use Prim.Native.Nat.{_+_, _≤_, _<_};
+ghost use lib.ListN.{length};
+ghost use Rattle.descriptors.specs.Header.{lengthAt, allowed, goodFields, subsetAt, propertyAt, inner, descriptorAt};
+
+// A function's first interface; none where there is no function.
+pub enum Interface {
+    Nowhere,
+    First(u8),
+}
+
+// What a descriptor stands in: the set, a configuration subset, or a function subset with its first interface.
+pub enum Parent {
+    Set,
+    Configuration,
+    Function(u8),
+}
+
+// A descriptor by itself: its refusal, or its bytes in all, and of a subset what it is to the descriptors inside it.
+pub enum Descriptor {
+    Refused(u8),
+    Opaque(usize),
+    Property(usize),
+    Subset(usize, Parent),
+}
+
+// Whether a descriptor of this type may stand in the parent.
+fn may_stand(p: Parent, t: usize) -> bool
+    ensures { λ r. ⌜ r ≡ allowed p t ⌝ }
+{
+    if 3 <= t {
+        return t <= 8;
+    }
+    match p {
+        Parent::Set => t == 1,
+        Parent::Configuration => t == 2,
+        Parent::Function(_) => false,
+    }
+}
+
+// What the subset at `at` is to the descriptors inside it.
+fn inside(s: &[u8], p: Parent, at: usize) -> Parent
+    requires { ⌜ at + 4 < length (now s) ⌝ }
+    ensures { λ r. ⌜ r ≡ inner (now (s .entry)) p at ⌝ }
+{
+    match p {
+        Parent::Set => Parent::Configuration,
+        Parent::Configuration => Parent::Function(s[at + 4]),
+        Parent::Function(i) => Parent::Function(i),
+    }
+}
+
+// The subset at `at`, of which `left` bytes are left in its parent.
+fn subset_at(s: &[u8], p: Parent, at: usize, left: usize, len: usize) -> Descriptor
+    requires { ⌜ (len ≡ lengthAt (now s) at) × (len ≤ left) × (at + left ≤ length (now s)) ⌝ }
+    ensures { λ r. ⌜ r ≡ subsetAt (now (s .entry)) p at left ⌝ }
+{
+    if len != 8 {
+        return Descriptor::Refused(BAD_LENGTH);
+    }
+    let total = word(s, at + 6);
+    if left < total {
+        return Descriptor::Refused(PAST_PARENT);
+    }
+    if total < 8 {
+        return Descriptor::Refused(BAD_LENGTH);
+    }
+    if s[at + 5] != 0 {
+        return Descriptor::Refused(BAD_FIELD);
+    }
+    Descriptor::Subset(total, inside(s, p, at))
+}
+
+// Whether the fields of a property are what they must be.
+fn good_fields(len: usize, kind: usize, name: usize, ending: usize, value: usize) -> bool
+    requires { ⌜ (name < 65536) × (value < 65536) ⌝ }
+    ensures { λ r. ⌜ r ≡ goodFields len kind name ending value ⌝ }
+{
+    let in_range = (1 <= kind) & (kind <= 7);
+    let named = (2 <= name) & (name % 2 == 0) & (ending == 0);
+    let four = !((kind == 4) | (kind == 5)) | (value == 4);
+    in_range & named & (len == 10 + name + value) & four
+}
+
+// The property at `at`. Nothing behind the descriptor is read.
+fn property_at(s: &[u8], at: usize, len: usize) -> Descriptor
+    requires { ⌜ (len ≡ lengthAt (now s) at) × (at + len ≤ length (now s)) ⌝ }
+    ensures { λ r. ⌜ r ≡ propertyAt (now (s .entry)) at ⌝ }
+{
+    if len < 12 {
+        return Descriptor::Refused(BAD_LENGTH);
+    }
+    let name = word(s, at + 6);
+    if len < 10 + name {
+        return Descriptor::Refused(BAD_FIELD);
+    }
+    let kind = word(s, at + 4);
+    let ending = word(s, at + 6 + name);
+    let value = word(s, at + 8 + name);
+    if good_fields(len, kind, name, ending, value) {
+        return Descriptor::Property(len);
+    }
+    Descriptor::Refused(BAD_FIELD)
+}
+
+// The descriptor at `at` by itself, in the parent p that ends at `end`.
+pub(crate) fn look(s: &[u8], p: Parent, at: usize, end: usize) -> Descriptor
+    requires { ⌜ (at ≤ end) × (end ≤ length (now s)) ⌝ }
+    ensures { λ r. ⌜ r ≡ descriptorAt (now (s .entry)) p at end ⌝ }
+{
+    let left = end - at;
+    if left < 4 {
+        return Descriptor::Refused(PAST_PARENT);
+    }
+    let len = word(s, at);
+    if left < len {
+        return Descriptor::Refused(PAST_PARENT);
+    }
+    if len < 4 {
+        return Descriptor::Refused(BAD_LENGTH);
+    }
+    let t = word(s, at + 2);
+    if !may_stand(p, t) {
+        return Descriptor::Refused(BAD_TYPE);
+    }
+    if t == 4 {
+        return property_at(s, at, len);
+    }
+    if 2 < t {
+        return Descriptor::Opaque(len);
+    }
+    subset_at(s, p, at, left, len)
+}
