@@ -31,7 +31,7 @@ use Rattle.camera.specs.Snapshots.{loadTests, loadCode, loadGives, loade
 use Rattle.camera.specs.Calls.{Call, load}
 use Rattle.camera.specs.Demand.{gives, leaves, flagAfter, given, settings, sheet, run, Fitting, Typed, Same, Written, Whole, Merges, Restores}
 use Rattle.camera.proofs.Laws.Held.{fresh-held}
-use Rattle.camera.proofs.Laws.Kept.{Good, formed-profile, formed-kept}
+use Rattle.camera.proofs.Laws.Kept.{Good, formed-profile, formed-kept, held-good}
 use Rattle.camera.proofs.Laws.Steps.{Ok, step, gives-good}
 use Rattle.camera.proofs.Laws.Lists.{given-append, run-ok, fresh-ok, held-after, flag-after}
 use Rattle.camera.proofs.Laws.Records.{rows, row-record, row-taken}
@@ -140,4 +140,49 @@ load-merged c h a b ea eb =
             ∙ sym (over-assoc (held c k) (lastOf (loadGives p f a) k) (lastOf (loadGives p f b) k))
             ∙ sym (load-held d (o .formed) (o .places) b lt k ∙ ap₂ over (load-held c w h a la k) (ap₂ (λ q g. lastOf (loadGives q g b) k) (o .profile) st));
       };
+    }
+
+-- a camera's snapshot decodes to its settings' records
+module _ (c : Camera) (g : records.Good (λ k. Option·map (row k) (held c k))) where
+  snapshot-decodes : decode (snapshot c) ≡ (λ k. Option·map (row k) (held c k))
+  unfolding snapshot
+  snapshot-decodes = decode-encode (λ k. Option·map (row k) (held c k)) g
+
+  snapshot-formed : form.wellFormed (snapshot c) ≡ true
+  unfolding snapshot
+  snapshot-formed = encode-formed (λ k. Option·map (row k) (held c k)) g
+
+-- the record of what a well-formed camera holds of a key
+module _ (c : Camera) (w : wellFormed c ≡ true) (t : Typed c) where
+  written-item : (k : ℕ) (o : Option Setting) → held c k ≡ o → settingOf (itemFor (c .profile) true k (Option·map (row k) o)) ≡ o
+  unfolding itemFor
+  written-item k none e = refl
+  written-item k (some s) e = let g = held-good c w k s e in ap settingOf (row-taken (c .profile) k s (t .fitting k s e) (g .0) (g .1))
+
+  written-code : (k : ℕ) (o : Option Setting) → held c k ≡ o → codeOf (itemFor (c .profile) true k (Option·map (row k) o)) ≡ 0
+  unfolding itemFor codeOf
+  written-code k none e = refl
+  written-code k (some s) e = let g = held-good c w k s e in ap codeOf (row-taken (c .profile) k s (t .fitting k s e) (g .0) (g .1))
+
+  good-at : (k : ℕ) (o : Option Setting) → held c k ≡ o → GoodAt k (Option·map (row k) o)
+  good-at k none e = tt
+  good-at k (some s) e = let g = held-good c w k s e in row-record k s (g .0) (g .1 .proper)
+
+-- a fresh streaming camera accepts every snapshot that a camera of its profile wrote, and then holds the settings that camera held
+pub load-written : (c : Camera) → wellFormed c ≡ true → Typed c → Restores c
+unfolding fresh
+load-written c w t =
+    let p = c .profile in
+    let m : ℕ → Option (List ℕ) = λ k. Option·map (row k) (held c k) in
+    let g : records.Good m = λ k. good-at c w t k (held c k) refl in
+    let d : decode (snapshot c) ≡ m = snapshot-decodes c g in
+    let x : Accepted p true (snapshot c) = record { formed = snapshot-formed c g; each = λ k. rw d (written-code c w t k (held c k) refl) } in
+    let o = fresh-ok p (formed-profile c w) true in
+    let l : Load (fresh p true) (snapshot c) = record { formed = o .formed; tests = accepted-load p true (snapshot c) x } in
+    record {
+      accepted = says-load (fresh p true) (snapshot c) l;
+      restored = λ k.
+          load-held (fresh p true) (o .formed) (o .places) (snapshot c) l k
+          ∙ ap₂ over (fresh-held p true k) (load-settings p true (snapshot c) k ∙ ap (λ f. settingOf (itemFor p true k (f k))) d ∙ written-item c w t k (held c k) refl)
+          ∙ over-none (held c k);
     }

@@ -1,5 +1,5 @@
 -- What a record holds after settings are put in: the last of each key, and what it held of the others. Assumes nothing.
-use mathlib.Core.Path.{_≡_, refl, ap, ap₂, sym, _∙_}
+use mathlib.Core.Path.{_≡_, refl, ap, ap₂, sym, _∙_, subst}
 use mathlib.Core.List.{List, [], _∷_, _++_}
 use mathlib.Core.Option.{Option, none, some}
 use mathlib.Core.Bool.{Bool, true, false, cond}
@@ -14,12 +14,15 @@ use Rattle.snapshot.specs.Settings.{lastOf}
 use Rattle.snapshot.proofs.Laws.Merging.{over-assoc}
 use Rattle.controls.specs.declared.settings.Setting.{Setting}
 use Rattle.controls.specs.declared.settings.Setting.the-variants as S
+use Rattle.controls.specs.declared.ev.Ev.{Ev}
 use Rattle.controls.specs.declared.ev.Ev.the-variants as E
+use Rattle.controls.specs.declared.settings.Number.{Number}
+use Rattle.controls.specs.declared.throttle.Throttle.{Throttle}
 use Rattle.controls.specs.declared.settings.Number.the-variants as N
 use Rattle.controls.specs.declared.throttle.Throttle.the-variants as T
 use Rattle.camera.specs.declared.profile.Profile.{Profile}
 use Rattle.camera.specs.declared.record.Camera.{Camera}
-use Rattle.camera.specs.Record.{fresh, keyOf, evHeld, faceHeld, metadataHeld, hdrHeld, throttleHeld, held, putFace, put}
+use Rattle.camera.specs.Record.{fresh, keyOf, evHeld, faceHeld, numberHeld, metadataHeld, hdrHeld, throttleHeld, held, putFace, put}
 use Rattle.camera.specs.Items.{puts}
 
 -- a setting that a record can hold: of face authentication, at an address that has a place and with a flag
@@ -174,3 +177,43 @@ fresh-held p streaming k = go (eqb k 0) (leb k 15) (eqb k 16) (eqb k 17) (eqb k 
     go false false false true t p q = refl
     go false false false false true p q = refl
     go false false false false false p q = refl
+
+-- what is held of a key stands under that key, and is proper
+some-is : (P : Setting → Type 0) (x s : Setting) → some x ≡ some s → P x → P s
+some-is P x s e p = let q : x ≡ s = cc in subst P q p
+
+none-never : (s : Setting) → none ≡ some s → ⊥
+none-never s e = let z : _≡_ {A = ℕ} 0 1 = cc in omega arith
+
+abbrev pub Named : ℕ → Setting → Type 0
+Named k s = (keyOf s ≡ k) × Proper s
+
+pub held-named : (c : Camera) (k : ℕ) (s : Setting) → held c k ≡ some s → Named k s
+unfolding held
+held-named c k s e = go (eqb k 0) (leb k 15) (eqb k 16) (eqb k 17) (eqb k 18) refl refl refl refl refl e
+  where
+    of-ev : (h : Ev) → evHeld h ≡ some s → Named 0 s
+    of-ev E.Unset q = absurd (none-never s q)
+    of-ev (E.Held x) q = some-is (Named 0) (S.Ev x) s q (refl, tt)
+
+    of-number : (n : ℕ) (control : ℕ → Setting) → ((m : ℕ) → Named n (control m)) → (h : Number) → numberHeld control h ≡ some s → Named n s
+    of-number n control p N.Unset q = absurd (none-never s q)
+    of-number n control p (N.Held m) q = some-is (Named n) (control m) s q (p m)
+
+    of-throttle : (h : Throttle) → throttleHeld h ≡ some s → Named 18 s
+    of-throttle T.Unset q = absurd (none-never s q)
+    of-throttle (T.Held x) q = some-is (Named 18) (S.Throttle x) s q (refl, tt)
+
+    of-face : (flags : ℕ) (b : Bool) → eqb flags 0 ≡ b → 1 ≤ k → k ≤ 15 → cond b none (some (S.Face (0x80 + k) flags)) ≡ some s → Named k s
+    of-face flags true z l h q = absurd (none-never s q)
+    of-face flags false z l h q = let n = eqb-false flags 0 z in some-is (Named k) (S.Face (0x80 + k) flags) s q (omega arith, (omega arith, omega arith, omega arith))
+
+    go : (a b m h t : Bool) → eqb k 0 ≡ a → leb k 15 ≡ b → eqb k 16 ≡ m → eqb k 17 ≡ h → eqb k 18 ≡ t
+        → cond a (evHeld (c .ev)) (cond b (faceHeld (0x80 + k) (getD (c .face) (k - 1) 0)) (cond m (metadataHeld (c .metadata)) (cond h (hdrHeld (c .hdr)) (cond t (throttleHeld (c .throttle)) none)))) ≡ some s
+        → Named k s
+    go true b m h t p q r u v x = rw (eqb-true k 0 p) (of-ev (c .ev) x)
+    go false true m h t p q r u v x = of-face (getD (c .face) (k - 1) 0) _ refl (let n = eqb-false k 0 p in omega arith) (leb-true k 15 q) x
+    go false false true h t p q r u v x = rw (eqb-true k 16 r) (of-number 16 S.Metadata (λ m. (refl, tt)) (c .metadata) x)
+    go false false false true t p q r u v x = rw (eqb-true k 17 u) (of-number 17 S.Hdr (λ m. (refl, tt)) (c .hdr) x)
+    go false false false false true p q r u v x = rw (eqb-true k 18 v) (of-throttle (c .throttle) x)
+    go false false false false false p q r u v x = absurd (none-never s x)

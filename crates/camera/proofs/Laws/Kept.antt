@@ -30,7 +30,7 @@ use Rattle.camera.specs.Profile.{has, settable, presenceValid, profileVa
 use Rattle.camera.specs.Record.{keyOf, selectorOf, held, valueRefusal, controlRefusal, kept, wellFormed}
 use Rattle.camera.specs.Items.{codeOf, givenOf, allGiven, itemAt, puts}
 use Rattle.camera.proofs.Laws.Selectors.{Control, ev, face, metadata, hdr, throttle, control-known, all-below, below-all}
-use Rattle.camera.proofs.Laws.Held.{Proper, Each, held-none, puts-held, puts-profile}
+use Rattle.camera.proofs.Laws.Held.{Proper, Each, held-none, held-named, puts-held, puts-profile}
 
 -- a setting that its SET takes if streaming, and that a record can hold
 pub record Good (p : Profile) (s : Setting) : Type 0 where
@@ -190,3 +190,12 @@ puts-formed c l w f g =
     let e = puts-profile c l in
     kept-formed (puts c l) (rw e (formed-profile c w))
     (λ k. rw (e, puts-held c l (each-proper (c .profile) l g) f k) (over-kept (c .profile) (held c k) (lastOf l k) (formed-kept c w k) (last-kept (c .profile) l g k)))
+
+-- and what is held of a key is good
+pub held-good : (c : Camera) → wellFormed c ≡ true → (k : ℕ) (s : Setting) → held c k ≡ some s → (keyOf s ≡ k) × Good (c .profile) s
+unfolding kept
+held-good c w k s e =
+    let n = held-named c k s e in
+    let q : eqb (controlRefusal (c .profile) true (selectorOf s)) 0 && eqb (valueRefusal (c .profile) s) 0 ≡ true = ap (kept (c .profile)) (sym e) ∙ formed-kept c w k in
+    let r = simp and-eq-true-iff at q in
+    (n .0, record { control = eqb-true _ 0 (r .0); value = eqb-true _ 0 (r .1); proper = n .1 })
