@@ -1,0 +1,65 @@
+-- The owner's demand 1 on the calls that take the record, all at once. Assumes nothing.
+use mathlib.Core.Path.{_≡_, refl, ap, sym, _∙_}
+use mathlib.Core.List.{List, _++_}
+use mathlib.Core.Bool.{Bool, true, false, cond, not, _&&_}
+use Prim.Native.Nat.{ℕ}
+use lib.Dec.{eqb}
+use lib.IntN.{ℤ, pos}
+use lib.ListN.{length, take, drop}
+use borrow.Author.Tests.{ne-eqb}
+use Rattle.request.specs.Setup.{isSetRequest}
+use Rattle.controls.specs.Ev.{compensation}
+use Rattle.camera.specs.declared.record.Camera.{Camera}
+use Rattle.camera.specs.declared.calls.Outcome.{Outcome}
+use Rattle.camera.specs.Record.{wellFormed}
+use Rattle.camera.specs.Requests.{asked, sentCount, requestCode, refused, outcomeBy, requestDone, requested, replied}
+use Rattle.camera.specs.Snapshots.{loadCode, loaded, snapshot, writeCode, written, writtenOut}
+use Rattle.camera.specs.Calls.{recordCode, streamed, sensed, Call, request, stream, load, write, sense, outcome, lent, left, next}
+
+-- a call that changes nothing: no count, the record as it came in, every lent byte as it was, and 0 for the sensor
+pub record Unchanged (c : Camera) (call : Call) : Type 0 where
+  pub count : outcome c call .count ≡ 0
+  pub camera : next c call ≡ c
+  pub buffer : left c call ≡ lent call
+
+-- a call by its number: where that is not 0, it is refused
+by-number : (code : ℕ) (c : Camera) (done : Outcome) → done .code ≡ 0 → (outcomeBy code c done .code ≡ 0 → ⊥) → (code ≡ 0 → ⊥) × (outcomeBy code c done ≡ refused code c)
+by-number code c done z n = go (eqb code 0) refl n
+  where
+    go : (b : Bool) → eqb code 0 ≡ b → (cond b done (refused code c) .code ≡ 0 → ⊥) → (code ≡ 0 → ⊥) × (cond b done (refused code c) ≡ refused code c)
+    go true e m = absurd (m z)
+    go false e m = (m, refl)
+
+done-code : (c : Camera) (s payload : List ℕ) → requestDone c s payload .code ≡ 0
+unfolding requestDone
+done-code c s payload = go (isSetRequest s) _ _ refl refl
+  where
+    go : (b : Bool) (set get : Outcome) → set .code ≡ 0 → get .code ≡ 0 → cond b set get .code ≡ 0
+    go true set get p q = p
+    go false set get p q = q
+
+-- every refusal, of every call, for all bytes and any record
+pub refusals : (c : Camera) (call : Call) → (outcome c call .code ≡ 0 → ⊥) → Unchanged c call
+unfolding requested replied loaded written writtenOut streamed sensed
+refusals c (request s payload reply) n =
+    let r = by-number (requestCode c s payload (length reply)) c (requestDone c s payload) (done-code c s payload) n in
+    record { count = ap (λ o. o .count) (r .1); camera = ap (λ o. o .camera) (r .1); buffer = rw (ne-eqb (requestCode c s payload (length reply)) 0 (r .0)) }
+refusals c (stream on) n =
+    let r = by-number (recordCode c) c _ refl n in
+    record { count = ap (λ o. o .count) (r .1); camera = ap (λ o. o .camera) (r .1); buffer = refl }
+refusals c (load s) n =
+    let r = by-number (loadCode c s) c _ refl n in
+    record { count = ap (λ o. o .count) (r .1); camera = ap (λ o. o .camera) (r .1); buffer = refl }
+refusals c (write out) n =
+    let r = by-number (writeCode c (length out)) c _ refl n in
+    record { count = ap (λ o. o .count) (r .1); camera = ap (λ o. o .camera) (r .1); buffer = rw (ne-eqb (writeCode c (length out)) 0 (r .0)) }
+refusals c sense n = record { count = refl; camera = refl; buffer = refl }
+
+-- and the sensor is handed 0
+pub refused-sensor : (c : Camera) → (sensed c .code ≡ 0 → ⊥) → sensed c .value ≡ pos 0
+unfolding sensed
+refused-sensor c n = go (wellFormed c) n
+  where
+    go : (w : Bool) → (cond {A = ℕ} w 0 0x21 ≡ 0 → ⊥) → cond w (compensation (c .profile .ev) (c .ev)) (pos 0) ≡ pos 0
+    go true m = absurd (m refl)
+    go false m = refl
