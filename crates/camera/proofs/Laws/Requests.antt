@@ -126,7 +126,7 @@ module _ (c : Camera) (s payload reply : List ℕ) where
           let selector = setup.selectorOf s in
           let code = setRefusal (c .profile) selector payload in
           let n : number ≡ firstOf ((eqb selector 0x0E && not (c .streaming) ⇒ 0x02) ∷ (not (eqb code 0) ⇒ code) ∷ []) =
-              number-is ∙ rw (eq-eqb (firstOf (requestTests (table (c .profile)) s payload)) 0 t, e) in
+          number-is ∙ rw (eq-eqb (firstOf (requestTests (table (c .profile)) s payload)) 0 t, e) in
           (rw (n, e), rw e (nothing (eqb number 0)))
         where
           nothing : (b : Bool) → reply ≡ cond (b && false) (take (sentCount c s) (asked c s) ++ drop (sentCount c s) reply) reply

@@ -28,7 +28,7 @@ code-of-requires c κs = search needs
 
 returns : tie.Need-returns Inv-loop μ-loop
 unfolding setRefusal
-returns c = 
+returns c =
     let l = c .before .before .before in
     let a = l .before .before .before .before .args in
     let e : c .before .code-of .result ≡ codeOf (itemAt (a .p) (a .selector) (a .payload .now) (l .before .loop .i)) = c .before .code-of .ensures ∙ ap codeOf (c .before .before .item-at .ensures) in
@@ -42,14 +42,14 @@ loop-less : tie.Need-loop-less Inv-loop μ-loop
 loop-less c = search needs
 
 loop-again : tie.Need-loop-again Inv-loop μ-loop
-loop-again c = 
+loop-again c =
     let l = c .before .before .before in
     let a = l .before .before .before .before .args in
     (omega arith, below-more _ _ (l .before .loop .inv .1) (ap codeOf (sym (c .before .before .item-at .ensures)) ∙ sym (c .before .code-of .ensures) ∙ c .if1 .left))
 
 returns-2 : tie.Need-returns-2 Inv-loop μ-loop
 unfolding setRefusal
-returns-2 c = 
+returns-2 c =
     let l = c .before in
     let a = l .before .before .before .args in
     let e : l .loop .i ≡ l .before .item-count .result = omega arith in

@@ -16,7 +16,7 @@ answer-requires-2 c κs = search needs
 
 returns-2 : tie.Need-returns-2
 unfolding answerOf
-returns-2 c = 
+returns-2 c =
     let a = c .before .before .before .before .before .before .args in
     rw (ne-eqb (a .selector) 0x03 (c .before .before .before .before .if1 .left), eq-eqb (a .selector) 0x06 (c .before .before .before .if2 .taken)) (c .answer2 .ensures)
 
@@ -25,7 +25,7 @@ answer-requires-3 c κs = search needs
 
 returns-3 : tie.Need-returns-3
 unfolding answerOf
-returns-3 c = 
+returns-3 c =
     let a = c .before .before .before .before .before .before .args in
     rw (ne-eqb (a .selector) 0x03 (c .before .before .before .before .if1 .left), ne-eqb (a .selector) 0x06 (c .before .before .before .if2 .left), eq-eqb (a .selector) 0x09 (c .before .before .if3 .taken)) (c .answer3 .ensures)
 
@@ -34,7 +34,7 @@ answer-requires-4 c κs = search needs
 
 returns-4 : tie.Need-returns-4
 unfolding answerOf
-returns-4 c = 
+returns-4 c =
     let a = c .before .before .before .before .before .before .args in
     rw (ne-eqb (a .selector) 0x03 (c .before .before .before .before .if1 .left), ne-eqb (a .selector) 0x06 (c .before .before .before .if2 .left), ne-eqb (a .selector) 0x09 (c .before .before .if3 .left), eq-eqb (a .selector) 0x0D (c .before .if4 .taken)) (c .answer4 .ensures)
 
@@ -43,7 +43,7 @@ answer-requires-5 c κs = search needs
 
 returns-5 : tie.Need-returns-5
 unfolding answerOf
-returns-5 c = 
+returns-5 c =
     let a = c .before .before .before .before .before .before .before .args in
     rw (ne-eqb (a .selector) 0x03 (c .before .before .before .before .before .if1 .left), ne-eqb (a .selector) 0x06 (c .before .before .before .before .if2 .left), ne-eqb (a .selector) 0x09 (c .before .before .before .if3 .left), ne-eqb (a .selector) 0x0D (c .before .before .if4 .left)) (c .answer5 .ensures)
 

@@ -45,7 +45,7 @@ same-length c = search needs
 
 returns : tie.Need-returns
 unfolding getDone
-returns c = 
+returns c =
     let w = c .before .before .before .before in
     let k = w .before .before .before in
     let a = k .before .before .before .before .before .args in

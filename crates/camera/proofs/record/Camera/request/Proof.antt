@@ -38,7 +38,7 @@ refuse-requires : tie.Need-refuse-requires
 refuse-requires c κs = search needs
 
 returns : tie.Need-returns
-returns c = 
+returns c =
     let a = c .before .before .before .before .before .before .args in
     let m = malformed (a .self) (a .setup .now) (a .payload .now) (a .reply .now) (sym (c .before .before .well-formed .ensures) ∙ not-true _ (c .before .if1 .taken)) in
     (c .refuse .ensures ∙ m .0, m .1)
@@ -59,7 +59,7 @@ refuse-requires-2 : tie.Need-refuse-requires-2
 refuse-requires-2 c κs = search needs
 
 returns-2 : tie.Need-returns-2
-returns-2 c = 
+returns-2 c =
     let r = c .before .before in
     let a = r .before .before .before .before .before .before .before .before .before .before .args in
     let f = tests-fail (a .self) (a .setup .now) (a .payload .now) (a .reply .now) (formed r) (λ z. c .before .if2 .taken (tests r ∙ z)) in
@@ -72,7 +72,7 @@ set-requires : tie.Need-set-requires
 set-requires c κs = search needs
 
 returns-3 : tie.Need-returns-3
-returns-3 c = 
+returns-3 c =
     let r = c .before .before .before .before in
     let a = r .before .before .before .before .before .before .before .before .before .before .args in
     let s = a-set (a .self) (a .setup .now) (a .payload .now) (a .reply .now) (formed r) (sym (tests r) ∙ c .before .before .before .if2 .left) (sym (c .before .before .is-set-request .ensures) ∙ c .before .if3 .taken) in
@@ -85,7 +85,7 @@ same-length : tie.Need-same-length
 same-length c = search needs
 
 returns-4 : tie.Need-returns-4
-returns-4 c = 
+returns-4 c =
     let g = c .before .before in
     let r = g .before .before .before .before .before in
     let a = r .before .before .before .before .before .before .before .before .before .before .args in

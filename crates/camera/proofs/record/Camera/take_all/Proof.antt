@@ -33,7 +33,7 @@ loop-less : tie.Need-loop-less Inv-loop μ-loop
 loop-less c = search needs
 
 loop-again : tie.Need-loop-again Inv-loop μ-loop
-loop-again c = 
+loop-again c =
     let l = c .before .before in
     let a = l .before .before .before .before .before .args in
     let item = itemAt (a .self .profile) (a .selector) (a .payload .now) in
@@ -41,7 +41,7 @@ loop-again c =
 
 returns : tie.Need-returns Inv-loop μ-loop
 unfolding setGives
-returns c = 
+returns c =
     let l = c .before in
     let a = l .before .before .before .before .args in
     let e : l .loop .i ≡ l .before .item-count .result = omega arith in
