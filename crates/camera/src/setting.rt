@@ -132,65 +132,55 @@ fn with_flags(face: [u8; 15], address: u8, flags: u8) -> [u8; 15]
 }
 
 impl Camera {
+    // The record with other settings.
+    fn with_settings(
+        self,
+        ev: Ev,
+        face: [u8; 15],
+        metadata: Number,
+        hdr: Number,
+        throttle: Throttle,
+    ) -> Camera
+        ensures { λ r. ⌜ r ≡ record {
+          profile = self .profile;
+          streaming = self .streaming;
+          ev = ev;
+          face = face;
+          metadata = metadata;
+          hdr = hdr;
+          throttle = throttle;
+        } ⌝ }
+    {
+        let profile = self.profile;
+        Camera {
+            profile,
+            streaming: self.streaming,
+            ev,
+            face,
+            metadata,
+            hdr,
+            throttle,
+        }
+    }
+
     // The record with one setting more.
     pub(crate) fn put(self, s: Setting) -> Camera
         ensures { λ r. ⌜ r ≡ put self s ⌝ }
     {
-        let profile = self.profile;
         let ev = self.ev;
         let face = self.face;
         let metadata = self.metadata;
         let hdr = self.hdr;
         let throttle = self.throttle;
         match s {
-            Setting::Ev(e) => Camera {
-                profile,
-                streaming: self.streaming,
-                ev: Ev::Held(e),
-                face,
-                metadata,
-                hdr,
-                throttle,
-            },
+            Setting::Ev(e) => self.with_settings(Ev::Held(e), face, metadata, hdr, throttle),
             Setting::Face { address, flags } => {
                 let next = with_flags(face, address, flags);
-                Camera {
-                    profile,
-                    streaming: self.streaming,
-                    ev,
-                    face: next,
-                    metadata,
-                    hdr,
-                    throttle,
-                }
+                self.with_settings(ev, next, metadata, hdr, throttle)
             }
-            Setting::Metadata(n) => Camera {
-                profile,
-                streaming: self.streaming,
-                ev,
-                face,
-                metadata: Number::Held(n),
-                hdr,
-                throttle,
-            },
-            Setting::Hdr(n) => Camera {
-                profile,
-                streaming: self.streaming,
-                ev,
-                face,
-                metadata,
-                hdr: Number::Held(n),
-                throttle,
-            },
-            Setting::Throttle(t) => Camera {
-                profile,
-                streaming: self.streaming,
-                ev,
-                face,
-                metadata,
-                hdr,
-                throttle: Throttle::Held(t),
-            },
+            Setting::Metadata(n) => self.with_settings(ev, face, Number::Held(n), hdr, throttle),
+            Setting::Hdr(n) => self.with_settings(ev, face, metadata, Number::Held(n), throttle),
+            Setting::Throttle(t) => self.with_settings(ev, face, metadata, hdr, Throttle::Held(t)),
         }
     }
 
@@ -208,21 +198,9 @@ impl Camera {
     pub(crate) fn with_streaming(self, on: bool) -> Camera
         ensures { λ r. ⌜ r ≡ withStreaming self on ⌝ }
     {
-        let profile = self.profile;
-        let ev = self.ev;
-        let face = self.face;
-        let metadata = self.metadata;
-        let hdr = self.hdr;
-        let throttle = self.throttle;
-        Camera {
-            profile,
-            streaming: on,
-            ev,
-            face,
-            metadata,
-            hdr,
-            throttle,
-        }
+        let mut next = self;
+        next.streaming = on;
+        next
     }
 }
 

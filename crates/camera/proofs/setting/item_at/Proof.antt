@@ -36,7 +36,13 @@ returns-4 : tie.Need-returns-4
 unfolding itemAt
 returns-4 c =
     let e = c .before in
-    rw (ne-eqb _ _ (e .before .before .before .if1 .left), ne-eqb _ _ (e .before .before .if2 .left), ne-eqb _ _ (e .before .if3 .left), eq-eqb _ _ (e .if4 .taken)) (c .item4 .ensures)
+    rw (
+      ne-eqb _ _ (e .before .before .before .if1 .left),
+      ne-eqb _ _ (e .before .before .if2 .left),
+      ne-eqb _ _ (e .before .if3 .left),
+      eq-eqb _ _ (e .if4 .taken),
+    )
+    (c .item4 .ensures)
 
 item-requires-5 : tie.Need-item-requires-5
 item-requires-5 c κs = search needs
@@ -45,7 +51,13 @@ returns-5 : tie.Need-returns-5
 unfolding itemAt
 returns-5 c =
     let e = c .before .before in
-    rw (ne-eqb _ _ (e .before .before .before .if1 .left), ne-eqb _ _ (e .before .before .if2 .left), ne-eqb _ _ (e .before .if3 .left), ne-eqb _ _ (e .if4 .left)) (c .item5 .ensures)
+    rw (
+      ne-eqb _ _ (e .before .before .before .if1 .left),
+      ne-eqb _ _ (e .before .before .if2 .left),
+      ne-eqb _ _ (e .before .if3 .left),
+      ne-eqb _ _ (e .if4 .left),
+    )
+    (c .item5 .ensures)
 
 pub item-at-spec : {M : Type 1} → statement M
 item-at-spec =

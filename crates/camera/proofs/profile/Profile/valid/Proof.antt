@@ -42,8 +42,23 @@ returns c =
     let m = c .before .before .before .before in
     let b = m .before .before .before .before in
     let p = b .before .before .before .before .before .args .self in
-    rw (c .valid4 .ensures, c .before .has-control4 .ensures, c .before .before .valid3 .ensures, c .before .before .before .has-control3 .ensures, m .valid2 .ensures, m .before .has-control2 .ensures, m .before .before .valid .ensures, m .before .before .before .has-control .ensures, b .presence-valid .ensures)
-    (all-five (presenceValid (p .controls)) (not (has p 0x03) || evValid (p .ev)) (not (has p 0x06) || faceValid (p .face)) (not (has p 0x09) || metadataValid (p .metadata)) (not (has p 0x0E) || throttleValid (p .throttle)))
+    rw (
+      c .valid4 .ensures,
+      c .before .has-control4 .ensures,
+      c .before .before .valid3 .ensures,
+      c .before .before .before .has-control3 .ensures,
+      m .valid2 .ensures,
+      m .before .has-control2 .ensures,
+      m .before .before .valid .ensures,
+      m .before .before .before .has-control .ensures,
+      b .presence-valid .ensures,
+    )
+    (all-five
+    (presenceValid (p .controls))
+    (not (has p 0x03) || evValid (p .ev))
+    (not (has p 0x06) || faceValid (p .face))
+    (not (has p 0x09) || metadataValid (p .metadata))
+    (not (has p 0x0E) || throttleValid (p .throttle)))
 
 pub valid-spec : {M : Type 1} → statement M
 valid-spec =

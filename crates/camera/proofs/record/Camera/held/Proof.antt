@@ -48,7 +48,13 @@ returns-4 : tie.Need-returns-4
 unfolding held
 returns-4 c =
     let e = c .before in
-    rw (ne-eqb _ _ (e .before .before .before .if1 .left), lt-leb _ _ (e .before .before .if2 .left), ne-eqb _ _ (e .before .if3 .left), eq-eqb _ _ (e .if4 .taken)) (c .held-hdr .ensures)
+    rw (
+      ne-eqb _ _ (e .before .before .before .if1 .left),
+      lt-leb _ _ (e .before .before .if2 .left),
+      ne-eqb _ _ (e .before .if3 .left),
+      eq-eqb _ _ (e .if4 .taken),
+    )
+    (c .held-hdr .ensures)
 
 held-throttle-requires : tie.Need-held-throttle-requires
 held-throttle-requires c κs = search needs
@@ -57,13 +63,26 @@ returns-5 : tie.Need-returns-5
 unfolding held
 returns-5 c =
     let e = c .before in
-    rw (ne-eqb _ _ (e .before .before .before .before .if1 .left), lt-leb _ _ (e .before .before .before .if2 .left), ne-eqb _ _ (e .before .before .if3 .left), ne-eqb _ _ (e .before .if4 .left), eq-eqb _ _ (e .if5 .taken)) (c .held-throttle .ensures)
+    rw (
+      ne-eqb _ _ (e .before .before .before .before .if1 .left),
+      lt-leb _ _ (e .before .before .before .if2 .left),
+      ne-eqb _ _ (e .before .before .if3 .left),
+      ne-eqb _ _ (e .before .if4 .left),
+      eq-eqb _ _ (e .if5 .taken),
+    )
+    (c .held-throttle .ensures)
 
 returns-6 : tie.Need-returns-6
 unfolding held
 returns-6 c =
     let e = c in
-    rw (ne-eqb _ _ (e .before .before .before .before .if1 .left), lt-leb _ _ (e .before .before .before .if2 .left), ne-eqb _ _ (e .before .before .if3 .left), ne-eqb _ _ (e .before .if4 .left), ne-eqb _ _ (e .if5 .left))
+    rw (
+      ne-eqb _ _ (e .before .before .before .before .if1 .left),
+      lt-leb _ _ (e .before .before .before .if2 .left),
+      ne-eqb _ _ (e .before .before .if3 .left),
+      ne-eqb _ _ (e .before .if4 .left),
+      ne-eqb _ _ (e .if5 .left),
+    )
 
 pub held-spec : {M : Type 1} → statement M
 held-spec =
