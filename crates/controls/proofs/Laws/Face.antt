@@ -17,6 +17,7 @@ use Rattle.wire.specs.declared.flags.Choice.{Choice}
 use Rattle.wire.specs.declared.flags.Choice.the-variants as C
 use Rattle.wire.proofs.Laws.Numbers.{Bytes, below}
 use Rattle.wire.proofs.Laws.Bits.{chosen-is}
+use Rattle.wire.proofs.Laws.Overlay.{append}
 use Rattle.controls.specs.declared.face.FaceLimits.{FaceLimits}
 use Rattle.controls.specs.declared.settings.Item.the-variants.{Refused, Given}
 use Rattle.controls.specs.declared.settings.Setting.the-variants as S
@@ -26,7 +27,7 @@ use Rattle.controls.specs.Face.{endpointLimit, endpoints, addressAt, off
 use Rattle.controls.proofs.Laws.Numbers.{number-bytes, bytes-byte}
 use Rattle.controls.proofs.Laws.Settings.{given-is}
 use Rattle.controls.proofs.Laws.Answers.{answer-len, answer-length}
-use Rattle.controls.proofs.Laws.Packed.{blank, overlay-next}
+use Rattle.controls.proofs.Laws.Packed.{blank}
 
 -- a place behind the first comes after the one before it
 pub before-next : (l : FaceLimits) (i : ℕ) → (i ≡ 0 → ⊥) → addressAt l (i - 1) ≡ addressBefore l i
@@ -115,7 +116,7 @@ module _ (l : FaceLimits) (held : List ℕ) (code : ℕ) where
   entries-next m i b h e =
       let s = m ∷ entriesOf l held code i in
       let n : 1 + 8 * i ≡ length s = omega (arith, length-entries i) in
-      rw (e, n, add-one i) (overlay-next blank s (entryOf (addressAt l i) (flagsAt l held code i)) (omega (arith, length-entries i)))
+      rw (e, n, add-one i) (append blank s (entryOf (addressAt l i) (flagsAt l held code i)))
 
   pub value-length : length (faceValue l held code) ≤ 65
   unfolding faceValue

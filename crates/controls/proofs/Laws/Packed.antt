@@ -1,26 +1,14 @@
 -- Answers as they are handed on: bytes laid over zeros, and taken out again. Assumes nothing.
-use mathlib.Core.Path.{_≡_, ap₂, sym, _∙_}
-use mathlib.Core.List.{List, [], _++_}
-use Prim.Native.Nat.{ℕ, min, _+_, _≤_}
-use native.Mathlib.Nat.{zero-add}
+use mathlib.Core.Path.{_≡_, ap₂, sym}
+use mathlib.Core.List.{List}
+use Prim.Native.Nat.{ℕ, min, _≤_}
 use native.Mathlib.Omega.{arith}
-use lib.ListN.{length, take, drop, replicate, length-append}
-use lib.Seq.{take-append-seam, drop-append-add, drop-drop, length-take-le}
+use lib.ListN.{length, take, replicate}
+use lib.Seq.{length-take-le}
 use Rattle.wire.specs.Overlay.{overlay}
-use Rattle.wire.proofs.Laws.Overlay.{fits, same-length}
+use Rattle.wire.proofs.Laws.Overlay.{front, same-length}
 use Rattle.controls.specs.declared.answers.Answer.{Answer}
 use Rattle.controls.specs.Answers.{packed}
-
--- bytes laid over the start, and others behind them, are both at once
-module _ (d s e : List ℕ) (room : length s + length e ≤ length d) where
-  laid : overlay d 0 s ≡ s ++ drop (length s) d
-  laid = fits d 0 s (omega arith) ∙ rw zero-add
-
-  pub overlay-next : overlay (overlay d 0 s) (length s) e ≡ overlay d 0 (s ++ e)
-  overlay-next =
-      fits (overlay d 0 s) (length s) e (rw same-length room)
-      ∙ rw (laid, take-append-seam s (drop (length s) d), drop-append-add s (drop (length s) d) (length e), drop-drop (length e) (length s) d)
-      (sym (fits d 0 (s ++ e) (simp length-append (omega arith)) ∙ simp (length-append, zero-add)))
 
 -- the empty answer that an answer is laid over
 abbrev pub blank : List ℕ
@@ -34,7 +22,7 @@ module _ (s : List ℕ) (h : length s ≤ 65) where
 
   packed-take : take (packed s .len) (packed s .bytes) ≡ s
   unfolding packed
-  packed-take = let e : min (length s) 65 ≡ length s = omega arith in rw (e, laid blank s [] (omega arith)) (take-append-seam s (drop (length s) blank))
+  packed-take = let e : min (length s) 65 ≡ length s = omega arith in rw e (front blank s (omega arith))
 
   packed-room : packed s .len ≤ length (packed s .bytes)
   unfolding packed

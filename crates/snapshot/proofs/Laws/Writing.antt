@@ -1,59 +1,19 @@
 -- Writing a merged snapshot key by key, as far as the lent buffer reaches. Assumes nothing.
 use Prim.Native.Nat.{ℕ, _+_, _-_, _≤_, _<_}
 use native.Mathlib.Omega.{arith}
-use native.Mathlib.Nat.{zero-add, add-zero}
+use native.Mathlib.Nat.{add-zero}
 use mathlib.Core.Path.{_≡_, refl, sym, ap, ap₂, _∙_}
-use mathlib.Core.Bool.{Bool, true, false}
 use mathlib.Core.List.{List, [], _∷_, _++_, append-nil}
 use mathlib.Core.Option.{Option, none, some}
-use lib.ListN.{length, take, drop, length-append, length-drop, drop-of-length-le}
-use lib.Seq.{take-append-le, take-append-add, take-at, drop-append-add, drop-drop}
-use lib.Dec.{leb}
-use borrow.Author.Tests.{leb-true, leb-false}
+use lib.ListN.{length, take, drop, length-append}
 use Rattle.wire.specs.Overlay.{overlay}
-use Rattle.wire.proofs.Laws.Overlay.{fits, past, same-length}
+use Rattle.wire.proofs.Laws.Overlay.{no-bytes, append, same-length}
 use Rattle.snapshot.specs.Records.{passed, decode, bytes, records, encode, GoodAt, Cursor}
 use Rattle.snapshot.specs.Merge.{over, overs, merged, secondOr}
 use Rattle.snapshot.proofs.Laws.Sound.{stands-some}
 use Rattle.snapshot.proofs.Laws.Maps.{decode-good, records-split}
 use Rattle.snapshot.proofs.Laws.Merging.{merged-length}
 use Rattle.snapshot.proofs.Laws.Cursor.{start, next, cursor-record}
-
--- where there is room for all of it at the start
-pub overlay-fits : (d x : List ℕ) → length x ≤ length d → overlay d 0 x ≡ x ++ drop (length x) d
-overlay-fits d x h = fits d 0 x (omega arith) ∙ simp zero-add
-
-overlay-nil : (d : List ℕ) → d ≡ overlay d 0 []
-overlay-nil d = sym (overlay-fits d [] (omega arith))
-
--- y laid over behind x, where there is room for x
-append-fits : (d x y : List ℕ) → length x ≤ length d → overlay (overlay d 0 x) (length x) y ≡ overlay d 0 (x ++ y)
-unfolding overlay
-append-fits d x y h =
-    let e = overlay-fits d x h in
-    let n : length (x ++ drop (length x) d) ≡ length d = simp (length-append, length-drop) (omega arith) in
-    let q : length d - 0 ≡ length x + (length d - length x) = omega arith in
-    let r : length x + length y ≡ 0 + length (x ++ y) = omega (arith, length-append x y) in
-    ap (λ o. overlay o (length x) y) e
-    ∙ ap₂ (λ u v. u ++ v)
-    (ap₂ (λ u v. u ++ v) (take-at x (drop (length x) d) (length x) refl) (ap (λ m. take (m - length x) y) n)
-    ∙ sym (ap (λ m. take m (x ++ y)) q ∙ take-append-add x y (length d - length x)))
-    (drop-append-add x (drop (length x) d) (length y) ∙ drop-drop (length y) (length x) d ∙ ap (λ m. drop m d) r)
-
--- and where there is not
-append-past : (d x y : List ℕ) → length d < length x → overlay (overlay d 0 x) (length x) y ≡ overlay d 0 (x ++ y)
-unfolding overlay
-append-past d x y h =
-    past (overlay d 0 x) (length x) y (omega (arith, same-length d 0 x))
-    ∙ ap₂ (λ u v. u ++ v) (sym (take-append-le (length d - 0) x y (omega arith)))
-    (drop-of-length-le d {i = 0 + length x} (omega arith) ∙ sym (drop-of-length-le d {i = 0 + length (x ++ y)} (omega (arith, length-append x y))))
-
-overlay-append : (d x y : List ℕ) → overlay (overlay d 0 x) (length x) y ≡ overlay d 0 (x ++ y)
-overlay-append d x y = go (leb (length x) (length d)) refl
-  where
-    go : (b : Bool) → leb (length x) (length d) ≡ b → overlay (overlay d 0 x) (length x) y ≡ overlay d 0 (x ++ y)
-    go true e = append-fits d x y (leb-true _ _ e)
-    go false e = append-past d x y (leb-false _ _ e)
 
 -- the merged records of the keys below k
 abbrev pub front : List ℕ → List ℕ → ℕ → List ℕ
@@ -96,7 +56,7 @@ pub record Written (s t old out : List ℕ) (a b n k : ℕ) : Type 0 where
 
 pub unwritten : (s t old : List ℕ) → Written s t old old 0 0 0 0
 unfolding records
-unwritten s t old = record { few = omega arith; first = start s; second = start t; long = refl; is = overlay-nil old }
+unwritten s t old = record { few = omega arith; first = start s; second = start t; long = refl; is = sym (no-bytes old) }
 
 -- a turn: the record of key k is put, and both cursors go on
 module _ (s t old out : List ℕ) (a b n k : ℕ) (w : Written s t old out a b n k) (h : k < 19) where
@@ -115,7 +75,7 @@ module _ (s t old out : List ℕ) (a b n k : ℕ) (w : Written s t old out a b n
     first = next s a k (w .first);
     second = next t b k (w .second);
     long = omega (arith, w .long, ap length front-taken, length-append (front s t k) taken);
-    is = ap₂ (λ o m. overlay o m taken) (w .is) (w .long) ∙ overlay-append old (front s t k) taken ∙ ap (overlay old 0) (sym front-taken);
+    is = ap₂ (λ o m. overlay o m taken) (w .is) (w .long) ∙ append old (front s t k) taken ∙ ap (overlay old 0) (sym front-taken);
   }
 
   -- the same from what the calls ensure

@@ -5,10 +5,10 @@ use native.Mathlib.Omega.{arith}
 use lib.ListN.{length}
 use borrow.Author.Needs.{needs}
 use borrow.Author.Tests.{not-true, not-false}
+use Rattle.wire.proofs.Laws.Overlay.{fits-start}
 use Rattle.snapshot.specs.Form.{wellFormed}
 use Rattle.snapshot.specs.Merge.{merged}
 use Rattle.snapshot.proofs.Laws.Answers.{first-malformed, second-malformed, short, accepted}
-use Rattle.snapshot.proofs.Laws.Writing.{overlay-fits}
 use Rattle.snapshot.proofs.merging.merge.Statement.{statement}
 use Rattle.snapshot.proofs.merging.merge.Tie as tie
 
@@ -78,7 +78,7 @@ returns-4 c =
     let h : length all ≤ length (a .out .now) = omega (arith, v .before .before .if3 .left, m .write-merged .ensures .0) in
     let r = accepted (a .first .now) (a .second .now) (a .out .now) (first-formed (w .before .before)) (second-formed w) h in
     let u = v .write-merged2 .ensures in
-    (r .0, (u .0 ∙ r .1 .0, u .1 ∙ overlay-fits (a .out .now) all h ∙ r .1 .1))
+    (r .0, (u .0 ∙ r .1 .0, u .1 ∙ fits-start (a .out .now) all h ∙ r .1 .1))
 
 pub merge-spec : {M : Type 1} → statement M
 merge-spec =
