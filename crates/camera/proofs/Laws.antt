@@ -7,3 +7,5 @@ pub mod Lists
 pub mod Records
 pub mod Loads
 pub mod Record
+pub mod Loading
+pub mod Writing
