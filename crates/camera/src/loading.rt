@@ -1,5 +1,4 @@
 // Loading a snapshot: its form, then each record as a SET; all or nothing.
-use controls::Item;
 use crate::calls::Outcome;
 use crate::profile::EV;
 use crate::profile::FACE;
@@ -11,6 +10,7 @@ use crate::record::Camera;
 use crate::setting::code_of;
 use crate::setting::control_refusal;
 use crate::setting::item_at;
+use controls::Item;
 use snapshot::KEYS;
 ghost use mathlib.Core.Path.{_≡_};
 ghost use Rattle.camera.specs.Items.{firstRefusal, puts};
@@ -111,6 +111,10 @@ impl Camera {
             return self.refuse(code);
         }
         let camera = self.load_all(s);
-        Outcome { code: 0, count: 0, camera }
+        Outcome {
+            code: 0,
+            count: 0,
+            camera,
+        }
     }
 }

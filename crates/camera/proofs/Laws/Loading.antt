@@ -7,18 +7,17 @@ use Prim.Native.Nat.{ℕ, _+_, _≤_, _<_}
 use native.Mathlib.Nat.{add-zero}
 use native.Mathlib.Omega.{arith}
 use lib.Dec.{eqb}
-use lib.ListN.{length, take, drop}
+use lib.ListN.{take, drop}
 use borrow.Author.Tests.{eq-eqb, ne-eqb}
 use borrow.Author.Count.{below-more}
 use Rattle.snapshot.specs.Form as form
 use Rattle.snapshot.specs.Records.{stands, passed, recordAt, decode, Cursor}
 use Rattle.snapshot.proofs.Laws.Sound.{stands-some}
-use Rattle.snapshot.proofs.Laws.Cursor.{start, next, cursor-within}
+use Rattle.snapshot.proofs.Laws.Cursor.{start, next}
 use Rattle.controls.specs.declared.settings.Item.{Item}
 use Rattle.controls.specs.declared.settings.Item.the-variants.{Absent, Refused}
 use Rattle.camera.specs.declared.profile.Profile.{Profile}
 use Rattle.camera.specs.declared.record.Camera.{Camera}
-use Rattle.camera.specs.declared.calls.Outcome.{Outcome}
 use Rattle.camera.specs.Record.{controlRefusal, wellFormed}
 use Rattle.camera.specs.Requests.{refused}
 use Rattle.camera.specs.Items.{codeOf, givenOf, firstRefusal, allGiven, puts, itemAt}
@@ -55,10 +54,16 @@ item-passed p streaming s at k c =
 
 -- what stands before key k: the cursor, and of the keys below it no record is refused
 module _ (p : Profile) (streaming : Bool) (s : List ℕ) where
+  abbrev code-at : ℕ → ℕ
+  code-at k = codeOf (loadItem p streaming s k)
+
+  from-zero : (k : ℕ) → code-at (k + 0) ≡ code-at k
+  from-zero k = ap code-at (add-zero k)
+
   pub record Passed (at k : ℕ) : Type 0 where
     pub few : k ≤ 19
     pub here : Cursor s at k
-    pub taken : (j : ℕ) → j < k → codeOf (loadItem p streaming s j) ≡ 0
+    pub taken : (j : ℕ) → j < k → code-at j ≡ 0
 
   pub none-passed : Passed 0 0
   none-passed = record { few = omega arith; here = start s; taken = λ j h. absurd (omega arith) }
@@ -66,32 +71,23 @@ module _ (p : Profile) (streaming : Bool) (s : List ℕ) where
   -- the record of key k, by what the calls ensure
   module _ {at k n code : ℕ} {item : Item} (w : Passed at k) (h : k < 19) (is-passed : n ≡ passed k (drop at s))
       (is-item : item ≡ itemIn p streaming k s at n) (is-code : code ≡ codeOf item) where
-    code-here : code ≡ codeOf (loadItem p streaming s k)
+    code-here : code ≡ code-at k
     code-here = is-code ∙ ap codeOf (is-item ∙ ap (itemIn p streaming k s at) is-passed ∙ item-passed p streaming s at k (w .here))
-
-    pub pass-within : at + n ≤ length s
-    pass-within = omega (arith, is-passed, cursor-within s at k (w .here))
 
     pub pass-next : code ≡ 0 → Passed (at + n) (k + 1)
     pass-next e = record {
       few = omega arith;
       here = rw is-passed (next s at k (w .here));
-      taken = below-more (λ j. codeOf (loadItem p streaming s j) ≡ 0) k (w .taken) (sym code-here ∙ e);
+      taken = below-more (λ j. code-at j ≡ 0) k (w .taken) (sym code-here ∙ e);
     }
 
     pub pass-refused : (code ≡ 0 → ⊥) → code ≡ firstRefusal 19 0 (loadItem p streaming s)
     pass-refused bad =
-        let e : k + 0 ≡ k = add-zero k in
-        code-here
-        ∙ ap (λ (j : ℕ). codeOf (loadItem p streaming s j)) (sym e)
-        ∙ sym (refusal-at 19 0 k (loadItem p streaming s)
-        (λ j l. ap (λ (i : ℕ). codeOf (loadItem p streaming s i)) (add-zero j) ∙ w .taken j l) h
-        (λ z. bad (code-here ∙ ap (λ (j : ℕ). codeOf (loadItem p streaming s j)) (sym e) ∙ z)))
+        let e = code-here ∙ sym (from-zero k) in
+        e ∙ sym (refusal-at 19 0 k (loadItem p streaming s) (λ j l. from-zero j ∙ w .taken j l) h (λ z. bad (e ∙ z)))
 
   pub pass-end : {at k : ℕ} → Passed at k → 19 ≤ k → 0 ≡ firstRefusal 19 0 (loadItem p streaming s)
-  pass-end {at} {k} w h =
-      sym (refusal-none 19 0 (loadItem p streaming s)
-      (λ j l. ap (λ (i : ℕ). codeOf (loadItem p streaming s i)) (add-zero j) ∙ w .taken j (omega arith)))
+  pass-end w h = sym (refusal-none 19 0 (loadItem p streaming s) (λ j l. from-zero j ∙ w .taken j (omega arith)))
 
 -- the same for taking them: the cursor, and the record with the settings of the keys below k
 module _ (c : Camera) (s : List ℕ) where
@@ -110,7 +106,8 @@ module _ (c : Camera) (s : List ℕ) where
   pub take-next : {camera after : Camera} {at k n : ℕ} {i : Item} → Taken camera at k → k < 19 → n ≡ passed k (drop at s)
       → i ≡ itemIn (c .profile) (c .streaming) k s at n → after ≡ puts camera (givenOf i) → Taken after (at + n) (k + 1)
   take-next {camera} {after} {at} {k} {n} {i} w h is-passed is-item is-put =
-      let e : i ≡ item k = is-item ∙ ap (itemIn (c .profile) (c .streaming) k s at) is-passed ∙ item-passed (c .profile) (c .streaming) s at k (w .here) in
+      let e : i ≡ item k =
+      is-item ∙ ap (itemIn (c .profile) (c .streaming) k s at) is-passed ∙ item-passed (c .profile) (c .streaming) s at k (w .here) in
       record {
         few = omega arith;
         here = rw is-passed (next s at k (w .here));
@@ -119,45 +116,45 @@ module _ (c : Camera) (s : List ℕ) where
 
   pub take-end : {camera : Camera} {at k : ℕ} → Taken camera at k → 19 ≤ k → camera ≡ puts c (loadGives (c .profile) (c .streaming) s)
   unfolding loadGives
-  take-end {camera} {at} {k} w h = let e : k ≡ 19 = omega (arith, w .few) in w .is ∙ ap (λ (n : ℕ). puts c (allGiven n 0 item)) e
+  take-end {k = k} w h = let e : k ≡ 19 = omega (arith, w .few) in w .is ∙ ap (λ (n : ℕ). puts c (allGiven n 0 item)) e
 
--- what a load answers: each of its faults, and none
+-- the number of the form: 0, or 0x22
+form-good : (s : List ℕ) → form.formCode s ≡ 0 → form.wellFormed s ≡ true
+unfolding form.formCode
+form-good s e = go (form.wellFormed s) e
+  where
+    go : (b : Bool) → cond {A = ℕ} b 0 0x22 ≡ 0 → b ≡ true
+    go true q = refl
+    go false q = absurd (omega arith)
+
+form-bad : (s : List ℕ) → (form.formCode s ≡ 0 → ⊥) → (form.wellFormed s ≡ false) × (form.formCode s ≡ 0x22)
+unfolding form.formCode
+form-bad s bad = go (form.wellFormed s) bad
+  where
+    go : (b : Bool) → (cond {A = ℕ} b 0 0x22 ≡ 0 → ⊥) → (b ≡ false) × (cond {A = ℕ} b 0 0x22 ≡ 0x22)
+    go true z = absurd (z refl)
+    go false z = (refl, refl)
+
+-- what a load answers: each of its faults, by what the calls ensure, and none
 module _ (c : Camera) (s : List ℕ) where
   pub load-unformed : wellFormed c ≡ false → refused 0x21 c ≡ loaded c s
   unfolding loaded loadCode
   load-unformed e = rw e
 
-  module _ (formed : wellFormed c ≡ true) where
-    pub load-malformed : form.wellFormed s ≡ false → refused 0x22 c ≡ loaded c s
+  module _ (formed : wellFormed c ≡ true) {n : ℕ} (is-form : n ≡ form.formCode s) where
+    pub load-malformed : (n ≡ 0 → ⊥) → refused n c ≡ loaded c s
     unfolding loaded loadCode loadTests
-    load-malformed e = rw (formed, e)
+    load-malformed bad = let f = form-bad s (λ z. bad (is-form ∙ z)) in rw (is-form ∙ f .1, formed, f .0)
 
-    module _ (whole : form.wellFormed s ≡ true) where
-      pub load-refused : {n : ℕ} → n ≡ firstRefusal 19 0 (loadItem (c .profile) (c .streaming) s) → (n ≡ 0 → ⊥) → refused n c ≡ loaded c s
+    module _ (whole : n ≡ 0) {code : ℕ} (is-code : code ≡ firstRefusal 19 0 (loadItem (c .profile) (c .streaming) s)) where
+      is-formed : form.wellFormed s ≡ true
+      is-formed = form-good s (sym is-form ∙ whole)
+
+      pub load-refused : (code ≡ 0 → ⊥) → refused code c ≡ loaded c s
       unfolding loaded loadCode loadTests
-      load-refused {n} e bad =
-          let z = ne-eqb n 0 bad in
-          rw (formed, whole, ← e, z, z)
+      load-refused bad = let z = ne-eqb code 0 bad in rw (formed, is-formed, ← is-code, z, z)
 
-      pub load-accepted : firstRefusal 19 0 (loadItem (c .profile) (c .streaming) s) ≡ 0
-          → record { code = 0; count = 0; camera = puts c (loadGives (c .profile) (c .streaming) s) } ≡ loaded c s
+      pub load-accepted : {camera : Camera} → code ≡ 0 → camera ≡ puts c (loadGives (c .profile) (c .streaming) s)
+          → record { code = 0; count = 0; camera = camera } ≡ loaded c s
       unfolding loaded loadCode loadTests
-      load-accepted e = rw (formed, whole, e)
-
--- the form's number: 0, or 0x22
-module _ {n : ℕ} (s : List ℕ) (e : n ≡ form.formCode s) where
-  pub form-good : n ≡ 0 → form.wellFormed s ≡ true
-  unfolding form.formCode
-  form-good z = go (form.wellFormed s) e
-    where
-      go : (b : Bool) → n ≡ cond b 0 0x22 → b ≡ true
-      go true q = refl
-      go false q = absurd (omega arith)
-
-  pub form-bad : (n ≡ 0 → ⊥) → (form.wellFormed s ≡ false) × (n ≡ 0x22)
-  unfolding form.formCode
-  form-bad z = go (form.wellFormed s) refl e
-    where
-      go : (b : Bool) → form.wellFormed s ≡ b → n ≡ cond b 0 0x22 → (form.wellFormed s ≡ false) × (n ≡ 0x22)
-      go true q r = absurd (z r)
-      go false q r = (q, r)
+      load-accepted e f = rw (formed, is-formed, sym is-code ∙ e, f)

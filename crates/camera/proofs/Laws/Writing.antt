@@ -1,14 +1,14 @@
 -- Writing a snapshot key by key, as far as the lent buffer reaches, and what writing answers. Assumes nothing.
 use mathlib.Core.Path.{_≡_, refl, ap, ap₂, sym, _∙_}
-use mathlib.Core.List.{List, [], _∷_, _++_, append-nil}
+use mathlib.Core.List.{List, _++_, append-nil}
 use mathlib.Core.Option.{Option, none, some, Option·map}
-use mathlib.Core.Bool.{Bool, true, false, cond}
+use mathlib.Core.Bool.{true, false}
 use Prim.Native.Nat.{ℕ, min, _+_, _*_, _≤_, _<_}
 use native.Mathlib.Nat.{add-zero}
 use native.Mathlib.Omega.{arith}
-use lib.Dec.{eqb, ltb, lit≤}
-use lib.ListN.{length, take, drop, replicate, length-append}
-use borrow.Author.Tests.{eq-eqb, ne-eqb, lt-ltb, le-ltb}
+use lib.Dec.{lit≤}
+use lib.ListN.{length, take, replicate, length-append}
+use borrow.Author.Tests.{lt-ltb, le-ltb}
 use Rattle.wire.specs.Number.{bytesOf}
 use Rattle.wire.specs.Overlay.{overlay}
 use Rattle.wire.proofs.Laws.Overlay.{no-bytes, front, append, same-length, fits-start}
@@ -20,7 +20,6 @@ use Rattle.controls.specs.declared.settings.Item.{Item}
 use Rattle.controls.specs.Ev.{evBytes}
 use Rattle.controls.specs.Throttle.{throttleBytes}
 use Rattle.camera.specs.declared.record.Camera.{Camera}
-use Rattle.camera.specs.declared.calls.Outcome.{Outcome}
 use Rattle.camera.specs.declared.writing.Record.{Record}
 use Rattle.camera.specs.Record.{held, wellFormed}
 use Rattle.camera.specs.Items.{settingOf, itemHeld}
@@ -165,7 +164,7 @@ module _ (c : Camera) (out : List ℕ) where
     unfolding written writtenOut writeCode
     write-no-room h = let e = lt-ltb (length out) (length (snapshot c)) h in (rw (formed, e), rw (formed, e))
 
-    pub write-done : length (snapshot c) ≤ length out
-        → (record { code = 0; count = length (snapshot c); camera = c } ≡ written c (length out)) × (overlay out 0 (snapshot c) ≡ writtenOut c out)
+    pub write-done : {n : ℕ} {after : List ℕ} → length (snapshot c) ≤ length out → n ≡ length (snapshot c) → after ≡ overlay out 0 (snapshot c)
+        → (record { code = 0; count = n; camera = c } ≡ written c (length out)) × (after ≡ writtenOut c out)
     unfolding written writtenOut writeCode
-    write-done h = let e = le-ltb (length out) (length (snapshot c)) h in (rw (formed, e), rw (formed, e) (fits-start out (snapshot c) h))
+    write-done h e f = let z = le-ltb (length out) (length (snapshot c)) h in (rw (formed, z, e), f ∙ rw (formed, z) (fits-start out (snapshot c) h))

@@ -6,7 +6,7 @@ use Prim.Native.Nat.{ℕ, _+_, _-_, _≤_, _<_}
 use native.Mathlib.Omega.{arith}
 use native.Mathlib.Nat.{zero-add}
 use lib.Dec.{leb}
-use lib.ListN.{length, take, drop, length-append, length-take, length-drop, drop-of-length-le, take-append-drop}
+use lib.ListN.{length, take, drop, length-append, length-take, length-drop, drop-of-length-le}
 use lib.Seq.{take-all, take-length, take-at, take-append-le, take-append-add, take-append-seam, drop-append-add, drop-drop, paste}
 use borrow.Author.Tests.{leb-true, leb-false}
 use Rattle.wire.specs.Overlay.{overlay}

@@ -1,35 +1,23 @@
-use Rattle.camera.proofs.Laws.Loading.{record-refused, record-tested}
 use borrow.Author.Needs.{needs}
+use Rattle.camera.proofs.Laws.Loading.{record-refused, record-tested}
 use Rattle.camera.proofs.loading.record_item.Statement.{statement}
 use Rattle.camera.proofs.loading.record_item.Tie as tie
-use Rattle.camera.proofs.loading.record_item.Reads as reads
-use Rattle.camera.proofs.loading.record_item.Lts as lts
-use Rattle.camera.proofs.loading.selector_at.Reads as selector-at-reads
-use Rattle.camera.proofs.setting.control_refusal.Reads as control-refusal-reads
-use Rattle.camera.proofs.setting.item_at.Reads as item-at-reads
-use Rattle.wire.proofs.tail.Reads as tail-reads
 
--- src/loading.rt:42:9
 selector-at-requires : tie.Need-selector-at-requires
 selector-at-requires c κs = search needs
 
--- src/loading.rt:43:9
 control-refusal-requires : tie.Need-control-refusal-requires
 control-refusal-requires c κs = search needs
 
--- src/loading.rt:45:9
 returns : tie.Need-returns
 returns c = record-refused _ _ _ _ (c .before .before .selector-at .ensures) (c .before .control-refusal .ensures) (c .if1 .taken)
 
--- src/loading.rt:47:26
 tail-requires : tie.Need-tail-requires
 tail-requires c κs = search needs
 
--- src/loading.rt:47:5
 item-at-requires : tie.Need-item-at-requires
 item-at-requires c κs = search needs
 
--- src/loading.rt:39:1
 returns-2 : tie.Need-returns-2
 returns-2 c =
     let d = c .before .before in

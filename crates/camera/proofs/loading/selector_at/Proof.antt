@@ -1,26 +1,19 @@
 use borrow.Author.Tests.{ne-eqb, le-leb, lt-leb}
 use Rattle.camera.proofs.loading.selector_at.Statement.{statement}
 use Rattle.camera.proofs.loading.selector_at.Tie as tie
-use Rattle.camera.proofs.loading.selector_at.Reads as reads
-use Rattle.camera.proofs.loading.selector_at.Lts as lts
 
--- src/loading.rt:24:9
 returns : tie.Need-returns
 returns c = rw (c .if1 .taken)
 
--- src/loading.rt:27:9
 returns-2 : tie.Need-returns-2
 returns-2 c = simp (ne-eqb _ 0 (c .before .if1 .left), le-leb _ 15 (c .if2 .taken))
 
--- src/loading.rt:30:9
 returns-3 : tie.Need-returns-3
 returns-3 c = rw (c .if3 .taken)
 
--- src/loading.rt:33:9
 returns-4 : tie.Need-returns-4
 returns-4 c = rw (c .if4 .taken)
 
--- src/loading.rt:20:1
 returns-5 : tie.Need-returns-5
 returns-5 c =
     simp (

@@ -2,61 +2,45 @@ use mathlib.Core.Path.{ap, _∙_}
 use mathlib.Core.List.{List, [], _∷_}
 use Prim.Native.Nat.{ℕ}
 use lib.ListN.{getD}
+use borrow.Author.Needs.{needs}
 use Rattle.wire.specs.Number.{bytesOf}
 use Rattle.camera.specs.Snapshots.{framed, row, recordOf}
-use borrow.Author.Needs.{needs}
 use Rattle.camera.proofs.writing.face_record.Statement.{statement}
 use Rattle.camera.proofs.writing.face_record.Tie as tie
-use Rattle.camera.proofs.writing.face_record.Reads as reads
-use Rattle.camera.proofs.writing.face_record.Lts as lts
-use Rattle.camera.proofs.writing.frame.Reads as frame-reads
-use Rattle.controls.proofs.face.entry.Reads as entry-reads
 
--- src/writing.rt:38:13
 entry-requires : tie.Need-entry-requires
 entry-requires c κs = search needs
 
--- src/writing.rt:39:17
 array-read-t8 : tie.Need-array-read-t8
 array-read-t8 c = search needs
 
--- src/writing.rt:39:23
 array-read-t11 : tie.Need-array-read-t11
 array-read-t11 c = search needs
 
--- src/writing.rt:39:29
 array-read-t14 : tie.Need-array-read-t14
 array-read-t14 c = search needs
 
--- src/writing.rt:39:35
 array-read-t17 : tie.Need-array-read-t17
 array-read-t17 c = search needs
 
--- src/writing.rt:39:41
 array-read-t20 : tie.Need-array-read-t20
 array-read-t20 c = search needs
 
--- src/writing.rt:39:47
 array-read-t23 : tie.Need-array-read-t23
 array-read-t23 c = search needs
 
--- src/writing.rt:39:53
 array-read-t26 : tie.Need-array-read-t26
 array-read-t26 c = search needs
 
--- src/writing.rt:39:59
 array-read-t29 : tie.Need-array-read-t29
 array-read-t29 c = search needs
 
--- src/writing.rt:40:17
 slice-aggregate-frame : tie.Need-slice-aggregate-frame
 slice-aggregate-frame c = search needs
 
--- src/writing.rt:40:5
 frame-requires : tie.Need-frame-requires
 frame-requires c κs = search needs
 
--- src/writing.rt:35:1
 returns : tie.Need-returns
 unfolding row bytesOf
 returns c =

@@ -1,44 +1,32 @@
 use mathlib.Core.Path.{ap, _∙_}
+use borrow.Author.Needs.{needs}
 use Rattle.wire.specs.Number.{bytesOf}
 use Rattle.wire.specs.Overlay.{overlay}
 use Rattle.camera.proofs.Laws.Writing.{frame-record}
-use borrow.Author.Needs.{needs}
 use Rattle.camera.proofs.writing.frame.Statement.{statement}
 use Rattle.camera.proofs.writing.frame.Tie as tie
-use Rattle.camera.proofs.writing.frame.Reads as reads
-use Rattle.camera.proofs.writing.frame.Lts as lts
-use Rattle.wire.proofs.copy.Reads as copy-reads
-use Rattle.wire.proofs.put16.Reads as put16-reads
 
--- src/writing.rt:27:15
 add-len : tie.Need-add-len
 add-len c = search needs
 
--- src/writing.rt:28:17
 slice-aggregate-put16 : tie.Need-slice-aggregate-put16
 slice-aggregate-put16 c = search needs
 
--- src/writing.rt:28:5
 put16-requires : tie.Need-put16-requires
 put16-requires c κs = search needs
 
--- src/writing.rt:29:17
 slice-aggregate-put16-2 : tie.Need-slice-aggregate-put16-2
 slice-aggregate-put16-2 c = search needs
 
--- src/writing.rt:29:5
 put16-requires-2 : tie.Need-put16-requires-2
 put16-requires-2 c κs = search needs
 
--- src/writing.rt:30:16
 slice-aggregate-copy : tie.Need-slice-aggregate-copy
 slice-aggregate-copy c = search needs
 
--- src/writing.rt:30:5
 copy-requires : tie.Need-copy-requires
 copy-requires c κs = search needs
 
--- src/writing.rt:22:1
 returns : tie.Need-returns
 returns c =
     let p3 = c .before in

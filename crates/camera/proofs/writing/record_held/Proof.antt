@@ -1,46 +1,36 @@
 use mathlib.Core.Path.{ap, sym, _∙_}
+use borrow.Author.Needs.{needs}
 use Rattle.controls.specs.declared.settings.Item.{Item}
 use Rattle.wire.specs.Overlay.{overlay}
 use Rattle.camera.specs.declared.writing.Record.{Record}
 use Rattle.camera.specs.Items.{settingOf}
 use Rattle.camera.specs.Snapshots.{rowHeld, recordOf}
-use borrow.Author.Needs.{needs}
 use Rattle.camera.proofs.writing.record_held.Statement.{statement}
 use Rattle.camera.proofs.writing.record_held.Tie as tie
-use Rattle.camera.proofs.writing.record_held.Reads as reads
-use Rattle.camera.proofs.writing.record_held.Lts as lts
-use Rattle.camera.proofs.writing.record_of.Reads as record-of-reads
 
 abbrev of : Item → Record
 of i = recordOf (rowHeld 0 (settingOf i))
 
--- src/writing.rt:79:20
 enum-told : tie.Need-enum-told
 enum-told c = search needs
 
--- src/writing.rt:83:20
 enum-told-2 : tie.Need-enum-told-2
 enum-told-2 c = search needs
 
--- src/writing.rt:86:21
 enum-known-held : tie.Need-enum-known-held
 enum-known-held c = search needs
 
--- src/writing.rt:86:27
 record-of-requires : tie.Need-record-of-requires
 record-of-requires c κs = search needs
 
--- src/writing.rt:74:1
 returns : tie.Need-returns
 unfolding recordOf overlay
 returns c = sym (ap of (c .enum-told .given .1))
 
--- src/writing.rt:74:1
 returns-2 : tie.Need-returns-2
 unfolding recordOf overlay
 returns-2 c = sym (ap of (c .enum-told2 .given .1))
 
--- src/writing.rt:74:1
 returns-3 : tie.Need-returns-3
 returns-3 c = c .record-of .ensures ∙ sym (ap of (c .before .before .held .given .1))
 

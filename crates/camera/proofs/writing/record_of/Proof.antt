@@ -1,116 +1,86 @@
 use mathlib.Core.Path.{ap, sym, _∙_}
+use borrow.Author.Needs.{needs}
 use Rattle.controls.specs.declared.settings.Setting.{Setting}
 use Rattle.camera.specs.declared.writing.Record.{Record}
 use Rattle.camera.specs.Snapshots.{framed, row, recordOf}
-use borrow.Author.Needs.{needs}
 use Rattle.camera.proofs.writing.record_of.Statement.{statement}
 use Rattle.camera.proofs.writing.record_of.Tie as tie
-use Rattle.camera.proofs.writing.record_of.Reads as reads
-use Rattle.camera.proofs.writing.record_of.Lts as lts
-use Rattle.camera.proofs.writing.face_record.Reads as face-record-reads
-use Rattle.camera.proofs.writing.frame.Reads as frame-reads
-use Rattle.controls.proofs.ev.bytes.Reads as ev-bytes-reads
-use Rattle.controls.proofs.throttle.bytes.Reads as throttle-bytes-reads
-use Rattle.wire.proofs.bytes32.Reads as bytes32-reads
 
 abbrev of : Setting → Record
 of s = recordOf (row 0 s)
 
--- src/writing.rt:48:21
 enum-known-s : tie.Need-enum-known-s
 enum-known-s c = search needs
 
--- src/writing.rt:49:21
 bytes-requires : tie.Need-bytes-requires
 bytes-requires c κs = search needs
 
--- src/writing.rt:50:25
 slice-aggregate-frame : tie.Need-slice-aggregate-frame
 slice-aggregate-frame c = search needs
 
--- src/writing.rt:50:13
 frame-requires : tie.Need-frame-requires
 frame-requires c κs = search needs
 
--- src/writing.rt:52:25
 enum-known-s-2 : tie.Need-enum-known-s-2
 enum-known-s-2 c = search needs
 
--- src/writing.rt:52:45
 face-record-requires : tie.Need-face-record-requires
 face-record-requires c κs = search needs
 
--- src/writing.rt:53:27
 enum-known-s-3 : tie.Need-enum-known-s-3
 enum-known-s-3 c = search needs
 
--- src/writing.rt:54:21
 bytes32-requires : tie.Need-bytes32-requires
 bytes32-requires c κs = search needs
 
--- src/writing.rt:55:25
 slice-aggregate-frame-2 : tie.Need-slice-aggregate-frame-2
 slice-aggregate-frame-2 c = search needs
 
--- src/writing.rt:55:13
 frame-requires-2 : tie.Need-frame-requires-2
 frame-requires-2 c κs = search needs
 
--- src/writing.rt:57:22
 enum-known-s-4 : tie.Need-enum-known-s-4
 enum-known-s-4 c = search needs
 
--- src/writing.rt:58:21
 bytes32-requires-2 : tie.Need-bytes32-requires-2
 bytes32-requires-2 c κs = search needs
 
--- src/writing.rt:59:25
 slice-aggregate-frame-3 : tie.Need-slice-aggregate-frame-3
 slice-aggregate-frame-3 c = search needs
 
--- src/writing.rt:59:13
 frame-requires-3 : tie.Need-frame-requires-3
 frame-requires-3 c κs = search needs
 
--- src/writing.rt:61:27
 enum-known-s-5 : tie.Need-enum-known-s-5
 enum-known-s-5 c = search needs
 
--- src/writing.rt:67:21
 bytes-requires-2 : tie.Need-bytes-requires-2
 bytes-requires-2 c κs = search needs
 
--- src/writing.rt:68:25
 slice-aggregate-frame-4 : tie.Need-slice-aggregate-frame-4
 slice-aggregate-frame-4 c = search needs
 
--- src/writing.rt:68:13
 frame-requires-4 : tie.Need-frame-requires-4
 frame-requires-4 c κs = search needs
 
--- src/writing.rt:44:1
 returns : tie.Need-returns
 unfolding row
 returns c =
     c .frame .ensures ∙ ap (λ l. recordOf (framed 0x03 l)) (c .before .before .bytes .ensures) ∙ sym (ap of (c .before .before .before .before .s .given .1))
 
--- src/writing.rt:44:1
 returns-2 : tie.Need-returns-2
 returns-2 c = c .face-record .ensures ∙ sym (ap of (c .before .before .s2 .given .1))
 
--- src/writing.rt:44:1
 returns-3 : tie.Need-returns-3
 unfolding row
 returns-3 c =
     c .frame2 .ensures ∙ ap (λ l. recordOf (framed 0x09 l)) (c .before .before .bytes32 .ensures) ∙ sym (ap of (c .before .before .before .before .s3 .given .1))
 
--- src/writing.rt:44:1
 returns-4 : tie.Need-returns-4
 unfolding row
 returns-4 c =
     c .frame3 .ensures ∙ ap (λ l. recordOf (framed 0x0D l)) (c .before .before .bytes322 .ensures) ∙ sym (ap of (c .before .before .before .before .s4 .given .1))
 
--- src/writing.rt:44:1
 returns-5 : tie.Need-returns-5
 unfolding row
 returns-5 c =

@@ -1,0 +1,69 @@
+use mathlib.Core.Path.{_≡_, sym, _∙_}
+use mathlib.Core.Bool.{true}
+use native.Mathlib.Omega.{arith}
+use borrow.Author.Tests.{not-true, not-false}
+use borrow.Author.Needs.{needs}
+use Rattle.camera.specs.Record.{wellFormed}
+use Rattle.camera.proofs.Laws.Writing.{write-unformed, write-no-room, write-done}
+use Rattle.camera.proofs.record.Camera.write.Statement.{statement}
+use Rattle.camera.proofs.record.Camera.write.Tie as tie
+
+formed : (d : tie.Else1) → wellFormed (d .before .before .before .args .self) ≡ true
+formed d = sym (d .before .well-formed .ensures) ∙ not-false _ (d .if1 .left)
+
+well-formed-requires : tie.Need-well-formed-requires
+well-formed-requires c κs = search needs
+
+refuse-requires : tie.Need-refuse-requires
+refuse-requires c κs = search needs
+
+returns : tie.Need-returns
+returns c =
+    let d = c .before in
+    let r = write-unformed _ _ (sym (d .before .well-formed .ensures) ∙ not-true _ (d .if1 .taken)) in
+    (c .refuse .ensures ∙ r .0, r .1)
+
+slice-aggregate-write-all : tie.Need-slice-aggregate-write-all
+slice-aggregate-write-all c = search needs
+
+write-all-requires : tie.Need-write-all-requires
+write-all-requires c κs = search needs
+
+refuse-requires-2 : tie.Need-refuse-requires-2
+refuse-requires-2 c κs = search needs
+
+returns-2 : tie.Need-returns-2
+returns-2 c =
+    let d = c .before in
+    let m = d .before .before in
+    let e = m .before .before in
+    let r = write-no-room _ (e .before .before .before .args .out .now) (formed e) (omega (arith, d .if2 .taken, m .write-all .ensures .0)) in
+    (c .refuse2 .ensures ∙ r .0, r .1)
+
+write-all-requires-2 : tie.Need-write-all-requires-2
+write-all-requires-2 c κs = search needs
+
+same-length : tie.Need-same-length
+same-length c = search needs
+
+returns-3 : tie.Need-returns-3
+returns-3 c =
+    let v = c .before .before in
+    let f = v .before .before in
+    let m = f .before .before in
+    write-done _ _ (formed (m .before .before)) (omega (arith, f .if2 .left, m .write-all .ensures .0)) (v .write-all2 .ensures .0) (v .write-all2 .ensures .1)
+
+pub write-spec : {M : Type 1} → statement M
+write-spec =
+    tie.close
+    (tie.spec
+    well-formed-requires
+    refuse-requires
+    returns
+    slice-aggregate-write-all
+    write-all-requires
+    refuse-requires-2
+    returns-2
+    write-all-requires-2
+    same-length
+    returns-3)
