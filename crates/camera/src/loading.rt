@@ -106,9 +106,9 @@ impl Camera {
             return self.refuse(form);
         }
         let p = self.profile;
-        let code = load_refusal(p, self.streaming, s);
-        if code != 0 {
-            return self.refuse(code);
+        let refusal = load_refusal(p, self.streaming, s);
+        if refusal != 0 {
+            return self.refuse(refusal);
         }
         let camera = self.load_all(s);
         Outcome {

@@ -25,7 +25,8 @@ use Rattle.camera.specs.Snapshots.{selectorAt, recordItem, itemFor, item
 use Rattle.camera.proofs.Laws.Items.{refusal-at, refusal-none, puts-next}
 
 -- a record of key k as a SET, by what the calls ensure
-module _ (p : Profile) (streaming : Bool) (k : ℕ) (r : List ℕ) {selector code : ℕ} (is-selector : selector ≡ selectorAt k) (is-code : code ≡ controlRefusal p streaming selector) where
+module _ (p : Profile) (streaming : Bool) (k : ℕ) (r : List ℕ) {selector code : ℕ} (is-selector : selector ≡ selectorAt k)
+    (is-code : code ≡ controlRefusal p streaming selector) where
   code-is : code ≡ controlRefusal p streaming (selectorAt k)
   code-is = is-code ∙ ap (controlRefusal p streaming) is-selector
 
@@ -41,7 +42,8 @@ module _ (p : Profile) (streaming : Bool) (k : ℕ) (r : List ℕ) {selector cod
       ∙ rw (eq-eqb (controlRefusal p streaming (selectorAt k)) 0 (sym code-is ∙ z))
 
 -- the record that is passed
-item-passed : (p : Profile) (streaming : Bool) (s : List ℕ) (at k : ℕ) → Cursor s at k → itemIn p streaming k s at (passed k (drop at s)) ≡ loadItem p streaming s k
+item-passed : (p : Profile) (streaming : Bool) (s : List ℕ) (at k : ℕ) → Cursor s at k
+    → itemIn p streaming k s at (passed k (drop at s)) ≡ loadItem p streaming s k
 unfolding itemFor decode recordAt passed
 item-passed p streaming s at k c =
     go (drop at s) (stands k (drop at s)) refl ∙ ap (λ l. itemFor p streaming k (recordAt k l)) (c .here)

@@ -30,20 +30,22 @@ use Rattle.camera.specs.Snapshots.{framed, row, rowHeld, recordOf, snaps
 abbrev pub blank : List ℕ
 blank = replicate 24 0
 
--- a record's length and kind, and its payload behind them
-pub frame-bytes : (kind : ℕ) (payload : List ℕ) → overlay (overlay (overlay blank 0 (bytesOf 2 (4 + length payload))) 2 (bytesOf 2 kind)) 4 payload ≡ overlay blank 0 (framed kind payload)
+-- a record's length and kind, and its payload behind them, laid over it one after the other
+abbrev laid : ℕ → List ℕ → List ℕ
+laid kind payload = overlay (overlay (overlay blank 0 (bytesOf 2 (4 + length payload))) 2 (bytesOf 2 kind)) 4 payload
+
+laid-bytes : (kind : ℕ) (payload : List ℕ) → laid kind payload ≡ overlay blank 0 (framed kind payload)
 unfolding bytesOf
-frame-bytes kind payload =
+laid-bytes kind payload =
     let head = bytesOf 2 (4 + length payload) in
     ap (λ d. overlay d 4 payload) (append blank head (bytesOf 2 kind)) ∙ append blank (head ++ bytesOf 2 kind) payload
 
-pub frame-record : (kind : ℕ) (payload b : List ℕ) → length payload ≤ 20
-    → b ≡ overlay (overlay (overlay blank 0 (bytesOf 2 (4 + length payload))) 2 (bytesOf 2 kind)) 4 payload
+pub laid-record : (kind : ℕ) (payload b : List ℕ) → length payload ≤ 20 → b ≡ laid kind payload
     → _≡_ {A = Record} (record { bytes = b; len = 4 + length payload }) (recordOf (framed kind payload))
 unfolding recordOf bytesOf
-frame-record kind payload b h e =
+laid-record kind payload b h e =
     let n : 4 + length payload ≡ min (length (framed kind payload)) 24 = omega arith in
-    ap₂ (λ (x : List ℕ) (y : ℕ). record { bytes = x; len = y }) (e ∙ frame-bytes kind payload) n
+    ap₂ (λ (x : List ℕ) (y : ℕ). record { bytes = x; len = y }) (e ∙ laid-bytes kind payload) n
 
 -- the bytes of a record as it is handed on
 module _ (l : List ℕ) (h : length l ≤ 24) where

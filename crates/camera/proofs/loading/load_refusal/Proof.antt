@@ -28,7 +28,8 @@ returns : tie.Need-returns Inv-loop μ-loop
 returns c =
     let d = c .before in
     let n = d .before .before in
-    pass-refused _ _ _ (n .before .before .loop .inv) (n .before .loop-test .taken) (n .passed-at .ensures) (d .before .item-of .ensures) (d .code-of .ensures) (c .if1 .taken)
+    pass-refused _ _ _ (n .before .before .loop .inv) (n .before .loop-test .taken) (n .passed-at .ensures)
+    (d .before .item-of .ensures) (d .code-of .ensures) (c .if1 .taken)
 
 add-at : tie.Need-add-at Inv-loop μ-loop
 add-at c =
@@ -45,7 +46,8 @@ loop-again : tie.Need-loop-again Inv-loop μ-loop
 loop-again c =
     let d = c .before in
     let n = d .before .before in
-    pass-next _ _ _ (n .before .before .loop .inv) (n .before .loop-test .taken) (n .passed-at .ensures) (d .before .item-of .ensures) (d .code-of .ensures) (c .if1 .left)
+    pass-next _ _ _ (n .before .before .loop .inv) (n .before .loop-test .taken) (n .passed-at .ensures)
+    (d .before .item-of .ensures) (d .code-of .ensures) (c .if1 .left)
 
 returns-2 : tie.Need-returns-2 Inv-loop μ-loop
 returns-2 c = pass-end _ _ _ (c .before .loop .inv) (c .loop-test .left)

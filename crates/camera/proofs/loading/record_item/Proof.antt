@@ -21,7 +21,8 @@ item-at-requires c κs = search needs
 returns-2 : tie.Need-returns-2
 returns-2 c =
     let d = c .before .before in
-    record-tested _ _ _ _ (d .before .before .selector-at .ensures) (d .before .control-refusal .ensures) (d .if1 .left) (c .before .tail .ensures) (c .item-at .ensures)
+    record-tested _ _ _ _ (d .before .before .selector-at .ensures) (d .before .control-refusal .ensures) (d .if1 .left)
+    (c .before .tail .ensures) (c .item-at .ensures)
 
 pub record-item-spec : {M : Type 1} → statement M
 record-item-spec =

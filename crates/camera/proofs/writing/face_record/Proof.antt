@@ -8,6 +8,10 @@ use Rattle.camera.specs.Snapshots.{framed, row, recordOf}
 use Rattle.camera.proofs.writing.face_record.Statement.{statement}
 use Rattle.camera.proofs.writing.face_record.Tie as tie
 
+-- an entry, byte by byte, behind the count of entries
+abbrev payload : List ℕ → List ℕ
+payload e = 1 ∷ getD e 0 0 ∷ getD e 1 0 ∷ getD e 2 0 ∷ getD e 3 0 ∷ getD e 4 0 ∷ getD e 5 0 ∷ getD e 6 0 ∷ getD e 7 0 ∷ []
+
 entry-requires : tie.Need-entry-requires
 entry-requires c κs = search needs
 
@@ -45,7 +49,7 @@ returns : tie.Need-returns
 unfolding row bytesOf
 returns c =
     c .frame .ensures
-    ∙ ap (λ (l : List ℕ). recordOf (framed 0x06 (1 ∷ getD l 0 0 ∷ getD l 1 0 ∷ getD l 2 0 ∷ getD l 3 0 ∷ getD l 4 0 ∷ getD l 5 0 ∷ getD l 6 0 ∷ getD l 7 0 ∷ [])))
+    ∙ ap (λ e. recordOf (framed 0x06 (payload e)))
     (c .before .before .entry .ensures)
 
 pub face-record-spec : {M : Type 1} → statement M

@@ -2,7 +2,7 @@ use mathlib.Core.Path.{ap, _∙_}
 use borrow.Author.Needs.{needs}
 use Rattle.wire.specs.Number.{bytesOf}
 use Rattle.wire.specs.Overlay.{overlay}
-use Rattle.camera.proofs.Laws.Writing.{frame-record}
+use Rattle.camera.proofs.Laws.Writing.{laid-record}
 use Rattle.camera.proofs.writing.frame.Statement.{statement}
 use Rattle.camera.proofs.writing.frame.Tie as tie
 
@@ -34,8 +34,10 @@ returns c =
     let p1 = p2 .before .before .before in
     let s = p1 .before .before .before in
     let payload = s .args .payload .now in
-    frame-record (s .args .kind) payload _ (s .pre)
-    (p3 .copy .ensures ∙ ap (λ d. overlay d 4 payload) (p2 .put162 .ensures ∙ ap (λ d. overlay d 2 (bytesOf 2 (s .args .kind))) (p1 .put16 .ensures)))
+    laid-record (s .args .kind) payload _ (s .pre)
+    (p3 .copy .ensures
+    ∙ ap (λ d. overlay d 4 payload) (p2 .put162 .ensures
+    ∙ ap (λ d. overlay d 2 (bytesOf 2 (s .args .kind))) (p1 .put16 .ensures)))
 
 pub frame-spec : {M : Type 1} → statement M
 frame-spec =

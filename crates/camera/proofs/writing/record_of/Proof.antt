@@ -66,7 +66,9 @@ frame-requires-4 c κs = search needs
 returns : tie.Need-returns
 unfolding row
 returns c =
-    c .frame .ensures ∙ ap (λ l. recordOf (framed 0x03 l)) (c .before .before .bytes .ensures) ∙ sym (ap of (c .before .before .before .before .s .given .1))
+    c .frame .ensures
+    ∙ ap (λ l. recordOf (framed 0x03 l)) (c .before .before .bytes .ensures)
+    ∙ sym (ap of (c .before .before .before .before .s .given .1))
 
 returns-2 : tie.Need-returns-2
 returns-2 c = c .face-record .ensures ∙ sym (ap of (c .before .before .s2 .given .1))
@@ -74,17 +76,23 @@ returns-2 c = c .face-record .ensures ∙ sym (ap of (c .before .before .s2 .giv
 returns-3 : tie.Need-returns-3
 unfolding row
 returns-3 c =
-    c .frame2 .ensures ∙ ap (λ l. recordOf (framed 0x09 l)) (c .before .before .bytes32 .ensures) ∙ sym (ap of (c .before .before .before .before .s3 .given .1))
+    c .frame2 .ensures
+    ∙ ap (λ l. recordOf (framed 0x09 l)) (c .before .before .bytes32 .ensures)
+    ∙ sym (ap of (c .before .before .before .before .s3 .given .1))
 
 returns-4 : tie.Need-returns-4
 unfolding row
 returns-4 c =
-    c .frame3 .ensures ∙ ap (λ l. recordOf (framed 0x0D l)) (c .before .before .bytes322 .ensures) ∙ sym (ap of (c .before .before .before .before .s4 .given .1))
+    c .frame3 .ensures
+    ∙ ap (λ l. recordOf (framed 0x0D l)) (c .before .before .bytes322 .ensures)
+    ∙ sym (ap of (c .before .before .before .before .s4 .given .1))
 
 returns-5 : tie.Need-returns-5
 unfolding row
 returns-5 c =
-    c .frame4 .ensures ∙ ap (λ l. recordOf (framed 0x0E l)) (c .before .before .bytes2 .ensures) ∙ sym (ap of (c .before .before .before .before .s5 .given .1))
+    c .frame4 .ensures
+    ∙ ap (λ l. recordOf (framed 0x0E l)) (c .before .before .bytes2 .ensures)
+    ∙ sym (ap of (c .before .before .before .before .s5 .given .1))
 
 pub record-of-spec : {M : Type 1} → statement M
 record-of-spec =

@@ -52,7 +52,8 @@ returns-4 : tie.Need-returns-4
 returns-4 c =
     let d = c .before in
     let f = d .before .before .before in
-    load-accepted _ _ (formed (f .before .before)) (f .before .check .ensures) (f .if2 .left) (d .before .load-refusal .ensures) (d .if3 .left) (c .load-all .ensures)
+    load-accepted _ _ (formed (f .before .before)) (f .before .check .ensures) (f .if2 .left) (d .before .load-refusal .ensures)
+    (d .if3 .left) (c .load-all .ensures)
 
 pub load-spec : {M : Type 1} → statement M
 load-spec =
