@@ -1,7 +1,6 @@
 pub mod Answers
 pub mod Ev
 pub mod Face
-pub mod Numbers
 pub mod Packed
 pub mod Plain
 pub mod Settings

@@ -6,6 +6,7 @@ use mathlib.Core.Bool.{Bool, true, not, _&&_, _||_, cond}
 use lib.ListN.{getD}
 use lib.Dec.{ltb, leb, eqb}
 use Rattle.wire.specs.Number.{leAt}
+use Rattle.wire.specs.Rows.{_⇒_, firstOf, allOf}
 use Rattle.descriptors.specs.declared.header.Interface.{Interface}
 use Rattle.descriptors.specs.declared.header.Interface.the-variants.{Nowhere, First}
 use Rattle.descriptors.specs.declared.header.Parent.{Parent}
@@ -61,15 +62,6 @@ allowed Set t = eqb t 1 || isFeature t
 allowed Configuration t = eqb t 2 || isFeature t
 allowed (Function i) t = isFeature t
 
--- refusals: the first row whose test holds answers, and 0 where none does
-infix 20 _⇒_
-pub data Row : Type 0 where
-  _⇒_ : Bool → ℕ → Row
-
-abbrev pub firstOf : List Row → ℕ
-firstOf [] = 0
-firstOf ((test ⇒ code) ∷ rows) = cond test code (firstOf rows)
-
 -- what a property's fields must be, one test for each: data type 1 to 7, a name of an even length of at least 2 that ends in a zero pair,
 -- a length that is 10 and name and data, and four data bytes where the data type is 4 or 5
 abbrev pub propertyTests : (len kind name ending value : ℕ) → List Bool
@@ -82,10 +74,6 @@ propertyTests len kind name ending value =
     ∷ eqb len (10 + name + value)
     ∷ (not (eqb kind 4 || eqb kind 5) || eqb value 4)
     ∷ []
-
-abbrev pub allOf : List Bool → Bool
-allOf [] = true
-allOf (test ∷ tests) = test && allOf tests
 
 unfoldable pub goodFields : (len kind name ending value : ℕ) → Bool
 goodFields len kind name ending value = allOf (propertyTests len kind name ending value)

@@ -11,7 +11,8 @@ use Rattle.descriptors.specs.declared.header.Descriptor.{Descriptor}
 use Rattle.descriptors.specs.declared.header.Descriptor.the-variants.{Refused, Opaque, Property, Subset}
 use Rattle.descriptors.specs.declared.set.Fault.{Fault}
 use Rattle.descriptors.specs.Codes.{badSetHeader}
-use Rattle.descriptors.specs.Header.{lengthAt, typeAt, allOf, interfaceOf, descriptorAt}
+use Rattle.wire.specs.Rows.{allOf}
+use Rattle.descriptors.specs.Header.{lengthAt, typeAt, interfaceOf, descriptorAt}
 use Rattle.wire.specs.Number.{leAt}
 
 -- a property: its descriptor's offset, and the first interface of the function that it stands in

@@ -8,7 +8,7 @@ use Rattle.wire.specs.Number.{leAt}
 use Rattle.frame.specs.declared.items.Head.{Head}
 use Rattle.frame.specs.declared.items.Head.the-variants.{Bad, Whole}
 use Rattle.frame.specs.Codes.{truncated, unknownId, shortSize, tooLong, longestBlock}
-use Rattle.frame.specs.Rows.{_⇒_, firstOf}
+use Rattle.wire.specs.Rows.{_⇒_, firstOf}
 use Rattle.frame.specs.Ids.{isKnown}
 
 -- an item: its id, and the bytes of its payload

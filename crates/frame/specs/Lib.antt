@@ -1,6 +1,5 @@
 -- What the calls of this crate answer: document 01, "Frame metadata (001) and packets".
 pub mod Codes
-pub mod Rows
 pub mod Ids
 pub mod Parts
 pub mod Items

@@ -7,7 +7,7 @@ use lib.Dec.{ltb, eqb}
 use Rattle.wire.specs.Flags.{isSet}
 use Rattle.frame.specs.declared.packet.PayloadHeader.{PayloadHeader}
 use Rattle.frame.specs.Codes.{cutHeader, shortHeader}
-use Rattle.frame.specs.Rows.{_⇒_, firstOf}
+use Rattle.wire.specs.Rows.{_⇒_, firstOf}
 use Rattle.frame.specs.Parts.{bytesAt, nowhere}
 
 abbrev pub lengthOf : List ℕ → ℕ

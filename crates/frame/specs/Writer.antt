@@ -9,7 +9,7 @@ use Rattle.wire.specs.Number.{bytesOf}
 use Rattle.wire.specs.Overlay.{overlay}
 use Rattle.frame.specs.declared.writer.Appended.{Appended}
 use Rattle.frame.specs.Codes.{unknownId, tooLong, noRoom, longestBlock}
-use Rattle.frame.specs.Rows.{_⇒_, firstOf}
+use Rattle.wire.specs.Rows.{_⇒_, firstOf}
 use Rattle.frame.specs.Ids.{isKnown}
 use Rattle.frame.specs.Items.{Item}
 

@@ -5,6 +5,7 @@ use mathlib.Core.List.{List, [], _∷_}
 use lib.ListN.{length, getD, take, drop}
 use lib.Dec.{leb, ltb, eqb}
 use Rattle.wire.specs.Number.{leAt}
+use Rattle.wire.specs.Rows.{allOf}
 
 -- 01's number for a form fault
 abbrev pub malformed : ℕ
@@ -37,11 +38,6 @@ keyFor kind address =
     (cond (eqb kind 0x0D) 17
     18)))
 
--- every test holds
-abbrev pub all : List Bool → Bool
-all [] = true
-all (t ∷ ts) = t && all ts
-
 -- all bytes are zero
 abbrev pub zeros : List ℕ → Bool
 zeros [] = true
@@ -57,7 +53,7 @@ tests left len kind n address tail =
     ∷ leb len left
     ∷ ltb 0 (lengthOf kind)
     ∷ eqb len (lengthOf kind)
-    ∷ cond (eqb kind 0x06) (all (eqb n 1 ∷ leb 0x81 address ∷ leb address 0x8F ∷ [])) true
+    ∷ cond (eqb kind 0x06) (allOf (eqb n 1 ∷ leb 0x81 address ∷ leb address 0x8F ∷ [])) true
     ∷ cond (eqb kind 0x0E) tail true
     ∷ []
 
@@ -74,7 +70,7 @@ tailAt s = take 12 (drop 12 s)
 
 -- the record at the start of s has no fault, its place in the order aside
 unfoldable pub sound : List ℕ → Bool
-sound s = all (tests (length s) (lengthAt s) (kindAt s) (getD s 4 0) (getD s 5 0) (zeros (tailAt s)))
+sound s = allOf (tests (length s) (lengthAt s) (kindAt s) (getD s 4 0) (getD s 5 0) (zeros (tailAt s)))
 
 -- the key of the record at the start of s
 unfoldable pub keyAt : List ℕ → ℕ

@@ -5,7 +5,8 @@ use crate::keys::length_of;
 use crate::keys::size_of;
 ghost use mathlib.Core.Path.{_≡_};
 ghost use lib.ListN.{drop};
-ghost use Rattle.snapshot.specs.Form.{all, tests, zeros};
+ghost use Rattle.wire.specs.Rows.{allOf};
+ghost use Rattle.snapshot.specs.Form.{tests, zeros};
 ghost use Rattle.snapshot.specs.Records.{keyOf, passed, decode, bytes, Cursor};
 
 // Whether all bytes are zero.
@@ -32,7 +33,7 @@ fn is_sound(
     address: usize,
     tail: bool,
 ) -> bool
-    ensures { λ r. ⌜ r ≡ all (tests left len kind entries address tail) ⌝ }
+    ensures { λ r. ⌜ r ≡ allOf (tests left len kind entries address tail) ⌝ }
 {
     let size = length_of(kind);
     let framed = (4 <= left) & (len <= left) & (0 < size) & (len == size);

@@ -24,7 +24,7 @@ use Rattle.controls.specs.declared.settings.Item.the-variants.{Given}
 use Rattle.controls.specs.declared.metadata.MetadataLimits.{MetadataLimits}
 use Rattle.controls.specs.declared.throttle.ThrottleLimits.{ThrottleLimits}
 use Rattle.controls.specs.declared.throttle.ThrottleSetting.{ThrottleSetting}
-use Rattle.controls.proofs.Laws.Numbers.{number-bytes}
+use Rattle.wire.proofs.Laws.Bytes.{number-bytes}
 use Rattle.controls.proofs.Laws.Ev.{ev-read}
 use Rattle.controls.proofs.Laws.Face.{one-entry}
 use Rattle.controls.proofs.Laws.Plain.{metadata-read, hdr-read, throttle-read}

@@ -25,7 +25,7 @@ use Rattle.controls.specs.declared.settings.Setting.the-variants as S
 use Rattle.controls.specs.Settings.{itemOf}
 use Rattle.controls.specs.Ev.{evValid, signed32, bits32, divisor, inRange, refusalAt, evRefusal, evFlags, evValue, evItem, evBytes, evAt, evAnswer, unitsPerStop, scaledAt, scaledOf}
 use Rattle.controls.proofs.Laws.Signed.{mag-mul, between, bits-below, signed-bits, bits-signed}
-use Rattle.controls.proofs.Laws.Numbers.{number-bytes, bytes-at, first-part, second-part}
+use Rattle.wire.proofs.Laws.Bytes.{number-bytes, bytes-at, first-part, second-part}
 use Rattle.controls.proofs.Laws.Answers.{answer-length}
 
 -- between 1 and 6 steps make a stop

@@ -24,7 +24,7 @@ use Rattle.controls.specs.declared.settings.Setting.the-variants as S
 use Rattle.controls.specs.Settings.{itemOf}
 use Rattle.controls.specs.Answers.{answerBy}
 use Rattle.controls.specs.Face.{endpointLimit, endpoints, addressAt, offersAt, allBelow, offersValid, addressBefore, endpointValid, faceValid, offersFrom, offersOf, takesFace, entryAddress, entryFlags, seenIn, seenBefore, isChoice, faceRefusal, entryRefusal, faceItem, entryOf, heldAt, flagsAt, entriesOf, faceValue, faceAnswer}
-use Rattle.controls.proofs.Laws.Numbers.{number-bytes, bytes-byte}
+use Rattle.wire.proofs.Laws.Bytes.{number-bytes, bytes-byte}
 use Rattle.controls.proofs.Laws.Settings.{given-is}
 use Rattle.controls.proofs.Laws.Answers.{answer-len, answer-length}
 use Rattle.controls.proofs.Laws.Packed.{blank}

@@ -19,7 +19,7 @@ use Rattle.controls.specs.Settings.{itemOf}
 use Rattle.controls.specs.Metadata.{metadataRefusal, metadataItem, metadataAt, metadataInfo, metadataAnswer}
 use Rattle.controls.specs.Hdr.{hdrRefusal, hdrItem, hdrAt, hdrAnswer}
 use Rattle.controls.specs.Throttle.{divides, throttleRefusal, throttleItem, throttleAt, throttleBytes, throttleAnswer}
-use Rattle.controls.proofs.Laws.Numbers.{number-bytes, bytes-at, length-bytes}
+use Rattle.wire.proofs.Laws.Bytes.{number-bytes, bytes-at, length-bytes}
 use Rattle.controls.proofs.Laws.Answers.{answer-length}
 use Rattle.controls.specs.declared.settings.Setting.the-variants as S
 

@@ -12,7 +12,8 @@ use Rattle.descriptors.specs.declared.header.Parent.{Parent}
 use Rattle.descriptors.specs.declared.header.Parent.the-variants.{Set, Configuration, Function}
 use Rattle.descriptors.specs.declared.header.Descriptor.the-variants.{Refused, Opaque, Property, Subset}
 use Rattle.descriptors.specs.Codes.{pastParent, badType, badLength, badField}
-use Rattle.descriptors.specs.Header.{lengthAt, typeAt, reservedAt, totalAt, kindAt, nameLengthAt, nameEndAt, dataLengthAt, isSubset, allowed, propertyTests, allOf, goodFields, goodProperty, propertyRefusal, subsetRefusal, refusal, inner, subsetAt, propertyAt, descriptorAt}
+use Rattle.wire.specs.Rows.{allOf}
+use Rattle.descriptors.specs.Header.{lengthAt, typeAt, reservedAt, totalAt, kindAt, nameLengthAt, nameEndAt, dataLengthAt, isSubset, allowed, propertyTests, goodFields, goodProperty, propertyRefusal, subsetRefusal, refusal, inner, subsetAt, propertyAt, descriptorAt}
 
 -- what may stand where
 module _ (t : ℕ) where

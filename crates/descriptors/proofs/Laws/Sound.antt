@@ -12,7 +12,8 @@ use Rattle.descriptors.specs.declared.header.Parent.the-variants.{Set, C
 use Rattle.descriptors.specs.declared.header.Descriptor.{Descriptor}
 use Rattle.descriptors.specs.declared.header.Descriptor.the-variants.{Refused, Opaque, Property, Subset}
 use Rattle.descriptors.specs.Codes.{pastParent, badType, badLength, badField}
-use Rattle.descriptors.specs.Header.{lengthAt, typeAt, reservedAt, totalAt, kindAt, nameLengthAt, nameEndAt, dataLengthAt, isSubset, isProperty, allowed, propertyTests, allOf, goodFields, goodProperty, propertyRefusal, subsetRefusal, refusal, inner, descriptorAt}
+use Rattle.wire.specs.Rows.{allOf}
+use Rattle.descriptors.specs.Header.{lengthAt, typeAt, reservedAt, totalAt, kindAt, nameLengthAt, nameEndAt, dataLengthAt, isSubset, isProperty, allowed, propertyTests, goodFields, goodProperty, propertyRefusal, subsetRefusal, refusal, inner, descriptorAt}
 use Rattle.descriptors.proofs.Laws.Rows.{in-set, in-configuration, in-function}
 
 -- a row that did not answer, and one that did

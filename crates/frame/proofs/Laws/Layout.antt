@@ -13,7 +13,8 @@ use Rattle.frame.specs.Items.{Item, Finding, sound, _before_, itemsFrom}
 use Rattle.frame.specs.Writer.{itemBytes, layout, Writable}
 use Rattle.frame.proofs.Laws.Heads.{Sound}
 use Rattle.frame.proofs.Laws.Fuel.{nothing-left}
-use Rattle.frame.proofs.Laws.Bytes.{length-bytes, at-front, behind, rewritten}
+use Rattle.wire.proofs.Laws.Bytes.{length-bytes, bytes-at}
+use Rattle.frame.proofs.Laws.Bytes.{at-front, behind}
 use Rattle.frame.proofs.Laws.Join.{Split, every, front}
 
 pub length-item : (id : ℕ) (payload : List ℕ) → length (itemBytes id payload) ≡ 8 + length payload
@@ -58,8 +59,8 @@ again s id size h b =
     let long : 8 ≤ size = h .long in
     let inside : size ≤ length s = h .inside in
     let whole : 8 + length (take (size - 8) (drop 8 s)) ≡ size = simp (length-take, length-drop) (omega arith) in
-    let first : bytesOf 4 id ≡ take 4 s = ap (bytesOf 4) (h .its-id) ∙ rewritten 4 s 0 b (omega arith) in
-    let second : bytesOf 4 (8 + length (take (size - 8) (drop 8 s))) ≡ take 4 (drop 4 s) = ap (bytesOf 4) (whole ∙ h .its-size) ∙ rewritten 4 s 4 b (omega arith) in
+    let first : bytesOf 4 id ≡ take 4 s = ap (bytesOf 4) (h .its-id) ∙ bytes-at 4 s 0 (omega arith) b in
+    let second : bytesOf 4 (8 + length (take (size - 8) (drop 8 s))) ≡ take 4 (drop 4 s) = ap (bytesOf 4) (whole ∙ h .its-size) ∙ bytes-at 4 s 4 (omega arith) b in
     let m : 8 + (size - 8) ≡ size = omega arith in
     rw (first, second) (ap (λ (t : List ℕ). t ++ take (size - 8) (drop 8 s)) (sym (take-add 4 4 s)) ∙ sym (take-add 8 (size - 8) s) ∙ ap (λ (n : ℕ). take n s) m)
 

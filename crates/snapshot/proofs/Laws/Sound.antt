@@ -10,7 +10,8 @@ use lib.Dec.{leb, eqb}
 use borrow.Author.Tests.{leb-true, ltb-true, eqb-true, le-leb, eq-eqb, ne-eqb, lt-ltb}
 use Rattle.wire.specs.Number.{leAt, number}
 use Rattle.wire.proofs.Laws.Numbers.{front}
-use Rattle.snapshot.specs.Form.{lengthOf, sizeOf, keyFor, lengthAt, kindAt, tailAt, zeros, all, tests, sound, keyAt}
+use Rattle.wire.specs.Rows.{allOf}
+use Rattle.snapshot.specs.Form.{lengthOf, sizeOf, keyFor, lengthAt, kindAt, tailAt, zeros, tests, sound, keyAt}
 use Rattle.snapshot.specs.Records.{stands, Record}
 
 pub and-left : (a b : Bool) → (a && b) ≡ true → a ≡ true
@@ -21,10 +22,10 @@ pub and-right : (a b : Bool) → (a && b) ≡ true → b ≡ true
 and-right true b e = e
 and-right false b e = absurd (false≢true e)
 
-each : (ts : List Bool) → all ts ≡ true → (i : ℕ) → getD ts i true ≡ true
+each : (ts : List Bool) → allOf ts ≡ true → (i : ℕ) → getD ts i true ≡ true
 each [] e i = refl
-each (t ∷ ts) e zero = and-left t (all ts) e
-each (t ∷ ts) e (suc i) = each ts (and-right t (all ts) e) i
+each (t ∷ ts) e zero = and-left t (allOf ts) e
+each (t ∷ ts) e (suc i) = each ts (and-right t (allOf ts) e) i
 
 -- the tests of a record, one by one
 pub record Sound (s : List ℕ) : Type 0 where
@@ -32,7 +33,7 @@ pub record Sound (s : List ℕ) : Type 0 where
   pub within : lengthAt s ≤ length s
   pub known : 0 < lengthOf (kindAt s)
   pub right : lengthAt s ≡ lengthOf (kindAt s)
-  pub face : cond (eqb (kindAt s) 0x06) (all (eqb (getD s 4 0) 1 ∷ leb 0x81 (getD s 5 0) ∷ leb (getD s 5 0) 0x8F ∷ [])) true ≡ true
+  pub face : cond (eqb (kindAt s) 0x06) (allOf (eqb (getD s 4 0) 1 ∷ leb 0x81 (getD s 5 0) ∷ leb (getD s 5 0) 0x8F ∷ [])) true ≡ true
   pub tail : cond (eqb (kindAt s) 0x0E) (zeros (tailAt s)) true ≡ true
 
 pub sound-parts : (s : List ℕ) → sound s ≡ true → Sound s

@@ -8,7 +8,7 @@ use mir.Facts.{toZ-ofZ}
 use borrow.Author.Needs.{needs}
 use Rattle.wire.specs.Number.{bytesOf}
 use Rattle.controls.specs.Ev.{bits32, evBytes}
-use Rattle.controls.proofs.Laws.Numbers.{bytes-byte}
+use Rattle.wire.proofs.Laws.Bytes.{bytes-byte}
 use Rattle.controls.proofs.ev.bytes.Statement.{statement}
 use Rattle.controls.proofs.ev.bytes.Tie as tie
 

@@ -2,13 +2,14 @@ use mathlib.Core.Path.{_≡_}
 use mathlib.Core.Bool.{Bool, true, false, cond, not, _&&_, _||_, and-assoc, and-true}
 use mathlib.Core.List.{[], _∷_}
 use borrow.Author.Needs.{needs}
-use Rattle.snapshot.specs.Form.{lengthOf, all}
+use Rattle.wire.specs.Rows.{allOf}
+use Rattle.snapshot.specs.Form.{lengthOf}
 use lib.Dec.{leb, ltb, eqb}
 use Rattle.snapshot.proofs.records.is_sound.Statement.{statement}
 use Rattle.snapshot.proofs.records.is_sound.Tie as tie
 
 listed : (a b c d f x y z g t : Bool) → (a && b && c && d && (not f || x && y && z) && (not g || t))
-    ≡ all (a ∷ b ∷ c ∷ d ∷ cond f (all (x ∷ y ∷ z ∷ [])) true ∷ cond g t true ∷ [])
+    ≡ allOf (a ∷ b ∷ c ∷ d ∷ cond f (allOf (x ∷ y ∷ z ∷ [])) true ∷ cond g t true ∷ [])
 listed a b c d true x y z true t = simp (and-assoc, and-true)
 listed a b c d true x y z false t = simp (and-assoc, and-true)
 listed a b c d false x y z true t = simp (and-assoc, and-true)

@@ -5,14 +5,15 @@ use mathlib.Core.List.{List}
 use lib.ListN.{length, getD, drop}
 use borrow.Author.Needs.{needs}
 use Rattle.wire.specs.Number.{leAt}
-use Rattle.snapshot.specs.Form.{keyFor, all, zeros, tests, tailAt, sound, keyAt}
+use Rattle.wire.specs.Rows.{allOf}
+use Rattle.snapshot.specs.Form.{keyFor, zeros, tests, tailAt, sound, keyAt}
 use Rattle.snapshot.specs.Records.{keyOf}
 use Rattle.snapshot.proofs.records.key_at.Statement.{statement}
 use Rattle.snapshot.proofs.records.key_at.Tie as tie
 
 -- the tests of what was read from r, which are the bytes t
 read : (t r : List ℕ) (len kind n address : ℕ) (tail : Bool) → r ≡ t → len ≡ leAt 2 r 0 → kind ≡ leAt 2 r 2 → n ≡ getD r 4 0 → address ≡ getD r 5 0
-    → tail ≡ zeros (tailAt r) → (all (tests (length r) len kind n address tail) ≡ sound t) × (keyFor kind address ≡ keyAt t)
+    → tail ≡ zeros (tailAt r) → (allOf (tests (length r) len kind n address tail) ≡ sound t) × (keyFor kind address ≡ keyAt t)
 unfolding sound keyAt
 read t r len kind n address tail e f g h i j = rw (f, g, h, i, j, e) (refl, refl)
 
