@@ -1,5 +1,6 @@
 // What a call hands back, and the calls that need nothing but the record.
 use crate::record::Camera;
+use wire::uvc::MALFORMED_RECORD;
 ghost use mathlib.Core.Path.{_≡_};
 ghost use Rattle.camera.specs.Requests.{refused};
 ghost use Rattle.camera.specs.Calls.{streamed, sensed};
@@ -35,7 +36,7 @@ impl Camera {
         ensures { λ r. ⌜ r ≡ streamed self on ⌝ }
     {
         if !self.well_formed() {
-            return self.refuse(0x21);
+            return self.refuse(MALFORMED_RECORD);
         }
         let camera = self.with_streaming(on);
         Outcome {
@@ -51,7 +52,7 @@ impl Camera {
     {
         if !self.well_formed() {
             return Sensed {
-                code: 0x21,
+                code: MALFORMED_RECORD,
                 value: 0,
                 camera: self,
             };

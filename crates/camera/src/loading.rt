@@ -12,6 +12,7 @@ use crate::setting::control_refusal;
 use crate::setting::item_at;
 use controls::Item;
 use snapshot::KEYS;
+use wire::uvc::MALFORMED_RECORD;
 ghost use mathlib.Core.Path.{_≡_};
 ghost use Rattle.camera.specs.Items.{firstRefusal, puts};
 ghost use Rattle.camera.specs.Snapshots.{selectorAt, recordItem, itemIn, loadItem, loadGives, loaded};
@@ -99,7 +100,7 @@ impl Camera {
         ensures { λ r. ⌜ r ≡ loaded self (now (s .entry)) ⌝ }
     {
         if !self.well_formed() {
-            return self.refuse(0x21);
+            return self.refuse(MALFORMED_RECORD);
         }
         let form = snapshot::check(s);
         if form != 0 {

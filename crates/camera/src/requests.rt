@@ -11,6 +11,8 @@ use crate::setting::code_of;
 use crate::setting::item_at;
 use crate::setting::takes_of;
 use controls::Answer;
+use wire::uvc::MALFORMED_RECORD;
+use wire::uvc::WRONG_STATE;
 ghost use mathlib.Core.Path.{_≡_};
 ghost use lib.ListN.{length};
 ghost use Rattle.request.specs.Setup.{wLengthOf};
@@ -66,7 +68,7 @@ impl Camera {
         ensures { λ r. ⌜ r ≡ setDone self selector (now (payload .entry)) ⌝ }
     {
         if (selector == THROTTLE) & !self.streaming {
-            return self.refuse(0x02);
+            return self.refuse(WRONG_STATE);
         }
         let p = self.profile;
         let code = set_refusal(p, selector, payload);
@@ -132,7 +134,7 @@ impl Camera {
         ensures { λ _. ⌜ now (reply .exit) ≡ replied self (now (setup .entry)) (now (payload .entry)) (now (reply .entry)) ⌝ }
     {
         if !self.well_formed() {
-            return self.refuse(0x21);
+            return self.refuse(MALFORMED_RECORD);
         }
         let p = self.profile;
         let selector = request::selector(setup);

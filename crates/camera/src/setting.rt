@@ -12,6 +12,10 @@ use controls::Number;
 use controls::Setting;
 use controls::ev::Ev;
 use controls::throttle::Throttle;
+use wire::uvc::INVALID_CONTROL;
+use wire::uvc::INVALID_REQUEST;
+use wire::uvc::OUT_OF_RANGE;
+use wire::uvc::WRONG_STATE;
 ghost use mathlib.Core.Path.{_≡_};
 ghost use Rattle.camera.specs.Profile.{takes};
 ghost use Rattle.camera.specs.Record.{selectorOf, controlRefusal, valueRefusal, putFace, put, withStreaming};
@@ -37,14 +41,14 @@ pub(crate) fn control_refusal(p: Profile, streaming: bool, selector: u8) -> u8
     ensures { λ r. ⌜ r ≡ controlRefusal p streaming selector ⌝ }
 {
     if !has_control(p, selector) {
-        return 0x06;
+        return INVALID_CONTROL;
     }
     let metadata = p.metadata;
     if (selector == METADATA) & !metadata.writable {
-        return 0x07;
+        return INVALID_REQUEST;
     }
     if (selector == THROTTLE) & !streaming {
-        return 0x02;
+        return WRONG_STATE;
     }
     0
 }
@@ -56,7 +60,7 @@ fn face_refusal(p: Profile, address: u8, flags: u8) -> u8
     let face = p.face;
     let offers = controls::face::offers_of(face, address);
     if offers == 0 {
-        return 0x04;
+        return OUT_OF_RANGE;
     }
     controls::face::refusal(offers, flags as u64)
 }

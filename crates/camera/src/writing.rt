@@ -5,6 +5,8 @@ use controls::Item;
 use controls::Setting;
 use controls::throttle::ThrottleLimits;
 use snapshot::KEYS;
+use wire::uvc::MALFORMED_RECORD;
+use wire::uvc::NO_ROOM;
 ghost use mathlib.Core.Path.{_≡_};
 ghost use Prim.Native.Nat.{_≤_};
 ghost use lib.ListN.{length};
@@ -112,12 +114,12 @@ impl Camera {
         ensures { λ _. ⌜ now (out .exit) ≡ writtenOut self (now (out .entry)) ⌝ }
     {
         if !self.well_formed() {
-            return self.refuse(0x21);
+            return self.refuse(MALFORMED_RECORD);
         }
         // Into no room nothing is written: this only measures.
         let mut none = [0u8; 0];
         if out.len() < self.write_all(&mut none) {
-            return self.refuse(0x20);
+            return self.refuse(NO_ROOM);
         }
         let count = self.write_all(out);
         Outcome {

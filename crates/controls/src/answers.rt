@@ -1,4 +1,6 @@
 // A GET's full answer, before it is cut to wLength.
+use wire::uvc::GET_INFO;
+use wire::uvc::GET_LEN;
 ghost use mathlib.Core.Path.{_≡_};
 ghost use Rattle.controls.specs.Answers.{packed, answerBy};
 
@@ -24,11 +26,11 @@ pub(crate) fn pack(answer: &[u8]) -> Answer
 pub(crate) fn answer_by(code: u8, len: usize, info: u8, value: &[u8]) -> Answer
     ensures { λ r. ⌜ r ≡ packed (answerBy code len info (now (value .entry))) ⌝ }
 {
-    if code == 0x85 {
+    if code == GET_LEN {
         let b = wire::bytes16(len);
         return pack(&b);
     }
-    if code == 0x86 {
+    if code == GET_INFO {
         let b = [info];
         return pack(&b);
     }

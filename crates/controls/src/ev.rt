@@ -4,6 +4,12 @@ use crate::answers::answer_by;
 use crate::settings::Item;
 use crate::settings::Setting;
 use wire::Choice;
+use wire::uvc::GET_CUR;
+use wire::uvc::GET_MAX;
+use wire::uvc::GET_MIN;
+use wire::uvc::GET_RES;
+use wire::uvc::INVALID_VALUE;
+use wire::uvc::OUT_OF_RANGE;
 ghost use mathlib.Core.Path.{_≡_};
 ghost use Rattle.controls.specs.Ev.{evValid, signed32, bits32, divisor, inRange, evRefusal, evItem, evBytes, evAt, evAnswer, scaledOf, compensation};
 ghost use Rattle.controls.specs.Answers.{packed};
@@ -86,12 +92,12 @@ pub fn refusal(l: EvLimits, flags: u64, value: i32) -> u8
     ensures { λ r. ⌜ r ≡ evRefusal l flags value ⌝ }
 {
     match wire::one_flag(flags, l.steps) {
-        Choice::Refused => 0x08,
+        Choice::Refused => INVALID_VALUE,
         Choice::At(place) => {
             if in_range(l, divisor_of(place), value) {
                 0
             } else {
-                0x04
+                OUT_OF_RANGE
             }
         }
     }
@@ -125,25 +131,25 @@ pub fn bytes(s: EvSetting) -> [u8; 11]
 fn at(l: EvLimits, held: Ev, code: u8) -> EvSetting
     ensures { λ r. ⌜ r ≡ evAt l held code ⌝ }
 {
-    if code == 0x82 {
+    if code == GET_MIN {
         return EvSetting {
             flags: 16,
             value: l.low,
         };
     }
-    if code == 0x83 {
+    if code == GET_MAX {
         return EvSetting {
             flags: 16,
             value: l.high,
         };
     }
-    if code == 0x84 {
+    if code == GET_RES {
         return EvSetting {
             flags: l.steps,
             value: 0,
         };
     }
-    if code == 0x81 {
+    if code == GET_CUR {
         return match held {
             Ev::Unset => EvSetting {
                 flags: 16,

@@ -5,6 +5,12 @@ use crate::answers::answer_by;
 use crate::settings::Item;
 use crate::settings::Setting;
 use wire::Choice;
+use wire::uvc::GET_CUR;
+use wire::uvc::GET_MAX;
+use wire::uvc::GET_MIN;
+use wire::uvc::GET_RES;
+use wire::uvc::INVALID_VALUE;
+use wire::uvc::OUT_OF_RANGE;
 ghost use mathlib.Core.Path.{_≡_};
 ghost use Prim.Native.Nat.{_<_, _≤_};
 ghost use Rattle.controls.specs.Answers.{packed};
@@ -100,7 +106,7 @@ pub fn refusal(offers: u8, flags: u64) -> u8
 {
     match wire::one_flag(flags, offers) {
         Choice::At(_) => 0,
-        Choice::Refused => 0x08,
+        Choice::Refused => INVALID_VALUE,
     }
 }
 
@@ -126,14 +132,14 @@ pub fn item(l: FaceLimits, payload: &[u8], i: u8) -> Item
     let address = wire::byte(payload, at);
     let offers = offers_of(l, address);
     if offers == 0 {
-        return Item::Refused(0x04);
+        return Item::Refused(OUT_OF_RANGE);
     }
     if seen_before(payload, i) {
-        return Item::Refused(0x08);
+        return Item::Refused(INVALID_VALUE);
     }
     let flags = wire::flag_word(payload, at + 1);
     match wire::one_flag(flags, offers) {
-        Choice::Refused => Item::Refused(0x08),
+        Choice::Refused => Item::Refused(INVALID_VALUE),
         Choice::At(_) => Item::Given(Setting::Face {
             address,
             flags: flags as u8,
@@ -174,10 +180,10 @@ fn flags_at(l: FaceLimits, held: [u8; 15], code: u8, i: usize) -> u8
     ensures { λ r. ⌜ r ≡ flagsAt l held code i ⌝ }
 {
     let offers = l.offers[i];
-    if code == 0x83 {
+    if code == GET_MAX {
         return offers;
     }
-    if code != 0x81 {
+    if code != GET_CUR {
         return default_of(offers);
     }
     let flags = held_at(held, l.addresses[i]);
@@ -192,7 +198,7 @@ fn value(l: FaceLimits, held: [u8; 15], code: u8) -> Answer
     ensures { λ r. ⌜ r ≡ packed (faceValue l held code) ⌝ }
 {
     let mut bytes = [0u8; LONGEST];
-    if (code == 0x82) | (code == 0x84) {
+    if (code == GET_MIN) | (code == GET_RES) {
         return Answer { bytes, len: 1 };
     }
     let n = endpoints_of(l);

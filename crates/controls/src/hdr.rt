@@ -6,6 +6,10 @@ use crate::settings::Number;
 use crate::settings::Setting;
 use crate::settings::item_of;
 use crate::settings::number_or;
+use wire::uvc::GET_CUR;
+use wire::uvc::GET_MAX;
+use wire::uvc::INVALID_VALUE;
+use wire::uvc::OUT_OF_RANGE;
 ghost use mathlib.Core.Path.{_≡_};
 ghost use Rattle.controls.specs.Answers.{packed};
 ghost use Rattle.controls.specs.Hdr.{hdrRefusal, hdrItem, hdrAt, hdrAnswer};
@@ -15,7 +19,7 @@ pub fn refusal(auto: bool, n: u32) -> u8
     ensures { λ r. ⌜ r ≡ hdrRefusal auto n ⌝ }
 {
     if 2 < n {
-        return 0x04;
+        return OUT_OF_RANGE;
     }
     if n != 2 {
         return 0;
@@ -23,7 +27,7 @@ pub fn refusal(auto: bool, n: u32) -> u8
     if auto {
         return 0;
     }
-    0x08
+    INVALID_VALUE
 }
 
 // What a SET's payload comes to.
@@ -38,13 +42,13 @@ pub fn item(auto: bool, payload: &[u8]) -> Item
 fn at(auto: bool, held: Number, code: u8) -> u32
     ensures { λ r. ⌜ r ≡ hdrAt auto held code ⌝ }
 {
-    if code == 0x83 {
+    if code == GET_MAX {
         if auto {
             return 3;
         }
         return 1;
     }
-    if code == 0x81 {
+    if code == GET_CUR {
         return number_or(0, held);
     }
     0

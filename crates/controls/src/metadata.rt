@@ -6,6 +6,11 @@ use crate::settings::Number;
 use crate::settings::Setting;
 use crate::settings::item_of;
 use crate::settings::number_or;
+use wire::uvc::GET_CUR;
+use wire::uvc::GET_MAX;
+use wire::uvc::GET_RES;
+use wire::uvc::INVALID_VALUE;
+use wire::uvc::OUT_OF_RANGE;
 ghost use mathlib.Core.Path.{_≡_};
 ghost use Rattle.controls.specs.Answers.{packed};
 ghost use Rattle.controls.specs.Metadata.{metadataValid, metadataRefusal, metadataItem, metadataAt, metadataInfo, metadataAnswer};
@@ -26,7 +31,7 @@ pub fn refusal(l: MetadataLimits, n: u32) -> u8
     ensures { λ r. ⌜ r ≡ metadataRefusal l n ⌝ }
 {
     if l.maximum < n {
-        return 0x04;
+        return OUT_OF_RANGE;
     }
     if n == 0 {
         return 0;
@@ -34,7 +39,7 @@ pub fn refusal(l: MetadataLimits, n: u32) -> u8
     if n == l.maximum {
         return 0;
     }
-    0x08
+    INVALID_VALUE
 }
 
 // What a SET's payload comes to.
@@ -50,15 +55,15 @@ fn at(l: MetadataLimits, held: Number, code: u8) -> u32
     ensures { λ r. ⌜ r ≡ metadataAt l held code ⌝ }
 {
     if !l.writable {
-        if code == 0x84 {
+        if code == GET_RES {
             return 0;
         }
         return l.maximum;
     }
-    if (code == 0x83) | (code == 0x84) {
+    if (code == GET_MAX) | (code == GET_RES) {
         return l.maximum;
     }
-    if code == 0x81 {
+    if code == GET_CUR {
         return number_or(0, held);
     }
     0

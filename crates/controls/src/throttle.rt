@@ -4,6 +4,12 @@ use crate::answers::answer_by;
 use crate::settings::Item;
 use crate::settings::Setting;
 use crate::settings::item_of;
+use wire::uvc::GET_CUR;
+use wire::uvc::GET_MAX;
+use wire::uvc::GET_MIN;
+use wire::uvc::GET_RES;
+use wire::uvc::INVALID_VALUE;
+use wire::uvc::OUT_OF_RANGE;
 ghost use mathlib.Core.Path.{_≡_};
 ghost use Rattle.controls.specs.Answers.{packed};
 ghost use Rattle.controls.specs.Throttle.{divides, throttleValid, throttleRefusal, throttleItem, throttleAt, throttleBytes, throttleAnswer};
@@ -50,18 +56,18 @@ pub fn refusal(l: ThrottleLimits, mode: u32, percent: u32) -> u8
     ensures { λ r. ⌜ r ≡ throttleRefusal l mode percent ⌝ }
 {
     if percent < l.minimum {
-        return 0x04;
+        return OUT_OF_RANGE;
     }
     if l.maximum < percent {
-        return 0x04;
+        return OUT_OF_RANGE;
     }
     if 1 < mode {
-        return 0x08;
+        return INVALID_VALUE;
     }
     if is_multiple(l.step, percent) {
         return 0;
     }
-    0x08
+    INVALID_VALUE
 }
 
 // What a SET's payload comes to.
@@ -80,25 +86,25 @@ pub fn item(l: ThrottleLimits, payload: &[u8]) -> Item
 fn at(l: ThrottleLimits, held: Throttle, code: u8) -> ThrottleSetting
     ensures { λ r. ⌜ r ≡ throttleAt l held code ⌝ }
 {
-    if code == 0x82 {
+    if code == GET_MIN {
         return ThrottleSetting {
             mode: 0,
             percent: l.minimum,
         };
     }
-    if code == 0x83 {
+    if code == GET_MAX {
         return ThrottleSetting {
             mode: 1,
             percent: l.maximum,
         };
     }
-    if code == 0x84 {
+    if code == GET_RES {
         return ThrottleSetting {
             mode: 0,
             percent: l.step,
         };
     }
-    if code == 0x81 {
+    if code == GET_CUR {
         return match held {
             Throttle::Unset => ThrottleSetting {
                 mode: 0,

@@ -1,4 +1,5 @@
 // A GET's answer goes to the start of the reply buffer, cut to wLength.
+use wire::uvc::NO_ROOM;
 ghost use mathlib.Core.Path.{_≡_};
 ghost use lib.ListN.{length};
 ghost use Rattle.request.specs.Reply.{sentOf, replyOf};
@@ -17,7 +18,7 @@ pub fn send(answer: &[u8], wlength: usize, reply: &mut [u8]) -> Sent
     let count = wire::least(wlength, answer.len());
     if reply.len() < count {
         return Sent {
-            code: 0x20,
+            code: NO_ROOM,
             count: 0,
         };
     }

@@ -1,24 +1,10 @@
 // The setup packet: bmRequestType, bRequest, wValue, wIndex and wLength. A byte past its end is 0.
+use wire::uvc::GET_CUR;
+use wire::uvc::GET_DEF;
+use wire::uvc::SET_CUR;
 ghost use mathlib.Core.Path.{_≡_};
 ghost use Prim.Native.Nat.{_<_};
 ghost use Rattle.request.specs.Setup.{typeOf, codeOf, selectorOf, wLengthOf, isSetRequest, isGetRequest};
-
-// UVC's request codes.
-pub const SET_CUR: u8 = 0x01;
-
-pub const GET_CUR: u8 = 0x81;
-
-pub const GET_MIN: u8 = 0x82;
-
-pub const GET_MAX: u8 = 0x83;
-
-pub const GET_RES: u8 = 0x84;
-
-pub const GET_LEN: u8 = 0x85;
-
-pub const GET_INFO: u8 = 0x86;
-
-pub const GET_DEF: u8 = 0x87;
 
 pub fn code(setup: &[u8]) -> u8
     ensures { λ r. ⌜ r ≡ codeOf (now (setup .entry)) ⌝ }

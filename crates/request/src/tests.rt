@@ -3,6 +3,10 @@ use crate::setup::is_get_request;
 use crate::setup::is_set_request;
 use crate::setup::selector;
 use crate::setup::wlength;
+use wire::uvc::INVALID_CONTROL;
+use wire::uvc::INVALID_REQUEST;
+use wire::uvc::INVALID_UNIT;
+use wire::uvc::UNKNOWN;
 ghost use mathlib.Core.Path.{_≡_};
 ghost use Rattle.wire.specs.Rows.{firstOf};
 ghost use Rattle.request.specs.Table.{hasControl, tableOf};
@@ -62,19 +66,19 @@ pub fn refusal(u: Unit, takes: usize, setup: &[u8], payload: &[u8]) -> u8
     ensures { λ r. ⌜ r ≡ firstOf (requestTests (tableOf u takes) (now (setup .entry)) (now (payload .entry))) ⌝ }
 {
     if setup.len() != 8 {
-        return 0xFF;
+        return UNKNOWN;
     }
     if !is_addressed(u, setup) {
-        return 0x05;
+        return INVALID_UNIT;
     }
     if !has_control(u.present, selector(setup)) {
-        return 0x06;
+        return INVALID_CONTROL;
     }
     if !is_understood(u, setup) {
-        return 0x07;
+        return INVALID_REQUEST;
     }
     if !is_sized(takes, setup, payload) {
-        return 0xFF;
+        return UNKNOWN;
     }
     0
 }

@@ -1,11 +1,9 @@
 // The form of a snapshot.
 use crate::keys::KEYS;
 use crate::records::start_of;
+use wire::uvc::MALFORMED_SNAPSHOT;
 ghost use mathlib.Core.Path.{_≡_};
 ghost use Rattle.snapshot.specs.Form.{wellFormed, formCode};
-
-// 01's number for a form fault.
-pub(crate) const MALFORMED: u8 = 0x22;
 
 // Whether there is no form fault: going through the keys passes all of it.
 pub(crate) fn well_formed(snapshot: &[u8]) -> bool
@@ -21,5 +19,5 @@ pub fn check(snapshot: &[u8]) -> u8
     if well_formed(snapshot) {
         return 0;
     }
-    MALFORMED
+    MALFORMED_SNAPSHOT
 }

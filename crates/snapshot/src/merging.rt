@@ -1,15 +1,13 @@
 // Merging two snapshots: one record for each key that is in either, the second's where both have it.
-use crate::form::MALFORMED;
 use crate::form::well_formed;
 use crate::keys::KEYS;
 use crate::records::passed_at;
+use wire::uvc::MALFORMED_SNAPSHOT;
+use wire::uvc::NO_ROOM;
 ghost use mathlib.Core.Path.{_≡_};
 ghost use lib.ListN.{length};
 ghost use Rattle.wire.specs.Overlay.{overlay};
 ghost use Rattle.snapshot.specs.Merge.{secondOr, merged, mergeCode, mergeLen, mergeOut};
-
-// 01's number for a lent buffer that is too short.
-const NO_ROOM: u8 = 0x20;
 
 // The verdict, and how many bytes the merged snapshot has; 0 where it is refused.
 pub struct Merged {
@@ -64,10 +62,10 @@ pub fn merge(first: &[u8], second: &[u8], out: &mut [u8]) -> Merged
     ensures { λ _. ⌜ now (out .exit) ≡ mergeOut (now (first .entry)) (now (second .entry)) (now (out .entry)) ⌝ }
 {
     if !well_formed(first) {
-        return refused(MALFORMED);
+        return refused(MALFORMED_SNAPSHOT);
     }
     if !well_formed(second) {
-        return refused(MALFORMED);
+        return refused(MALFORMED_SNAPSHOT);
     }
     // Into no room nothing is written: this only measures.
     let mut none = [0u8; 0];

@@ -4,6 +4,7 @@
 mod flags;
 mod numbers;
 mod parts;
+pub mod uvc;
 mod writes;
 
 pub use flags::Choice;
