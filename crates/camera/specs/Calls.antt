@@ -4,6 +4,7 @@ use mathlib.Core.List.{List, []}
 use mathlib.Core.Bool.{Bool, cond}
 use lib.IntN.{ℤ, pos}
 use lib.ListN.{length}
+use Rattle.wire.specs.Uvc.{malformedRecord}
 use Rattle.controls.specs.Ev.{compensation}
 use Rattle.camera.specs.declared.record.Camera.{Camera}
 use Rattle.camera.specs.declared.calls.Outcome.{Outcome}
@@ -14,7 +15,7 @@ use Rattle.camera.specs.Snapshots.{loaded, written, writtenOut}
 
 -- the test that every call begins with
 abbrev pub recordCode : Camera → ℕ
-recordCode c = cond (wellFormed c) 0 0x21
+recordCode c = cond (wellFormed c) 0 malformedRecord
 
 -- a streaming notice sets only the flag
 unfoldable pub streamed : Camera → Bool → Outcome

@@ -7,6 +7,7 @@ use lib.Dec.{leb, eqb}
 use lib.ListN.{getD, set, replicate}
 use Rattle.wire.specs.Rows.{Row, _⇒_, firstOf}
 use Rattle.wire.specs.Flags.{choiceOf}
+use Rattle.wire.specs.Uvc.{invalidControl, invalidRequest, invalidValue, outOfRange, wrongState}
 use Rattle.controls.specs.declared.ev.Ev.{Ev}
 use Rattle.controls.specs.declared.ev.Ev.the-variants as E
 use Rattle.controls.specs.declared.throttle.Throttle.{Throttle}
@@ -150,7 +151,7 @@ unfoldable pub valueRefusal : Profile → Setting → ℕ
 valueRefusal p (S.Ev s) = evRefusal (p .ev) (s .flags) (s .value)
 valueRefusal p (S.Face address flags) =
     let offers = offersOf (p .face) address in
-    firstOf ((eqb offers 0 ⇒ 0x04) ∷ (not (isChoice (choiceOf offers flags)) ⇒ 0x08) ∷ [])
+    firstOf ((eqb offers 0 ⇒ outOfRange) ∷ (not (isChoice (choiceOf offers flags)) ⇒ invalidValue) ∷ [])
 valueRefusal p (S.Metadata n) = metadataRefusal (p .metadata) n
 valueRefusal p (S.Hdr n) = hdrRefusal (p .auto) n
 valueRefusal p (S.Throttle s) = throttleRefusal (p .throttle) (s .mode) (s .percent)
@@ -159,9 +160,9 @@ valueRefusal p (S.Throttle s) = throttleRefusal (p .throttle) (s .mode) (s .perc
 unfoldable pub controlRefusal : Profile → Bool → ℕ → ℕ
 controlRefusal p streaming selector =
     firstOf
-    ((not (has p selector) ⇒ 0x06)
-    ∷ (not (settable p selector) ⇒ 0x07)
-    ∷ (eqb selector 0x0E && not streaming ⇒ 0x02)
+    ((not (has p selector) ⇒ invalidControl)
+    ∷ (not (settable p selector) ⇒ invalidRequest)
+    ∷ (eqb selector 0x0E && not streaming ⇒ wrongState)
     ∷ [])
 
 -- a setting that is held keeps its own SET's rules, if streaming

@@ -5,6 +5,7 @@ use mathlib.Core.Bool.{Bool, true, false, cond, not, _&&_}
 use lib.Dec.{ltb, eqb}
 use lib.ListN.{length, take, drop}
 use Rattle.wire.specs.Rows.{Row, _⇒_, firstOf}
+use Rattle.wire.specs.Uvc.{malformedRecord, noRoom, wrongState}
 use Rattle.request.specs.Setup.{isSetRequest, wLengthOf}
 use Rattle.request.specs.Setup as setup
 use Rattle.request.specs.Tests.{requestTests}
@@ -43,17 +44,17 @@ sentCount c s = countOf (asked c s) (wLengthOf s)
 unfoldable pub valueTests : Profile → Bool → List ℕ → List ℕ → List Row
 valueTests p streaming s payload =
     let code = setRefusal p (setup.selectorOf s) payload in
-    (isSetRequest s && eqb (setup.selectorOf s) 0x0E && not streaming ⇒ 0x02)
+    (isSetRequest s && eqb (setup.selectorOf s) 0x0E && not streaming ⇒ wrongState)
     ∷ (isSetRequest s && not (eqb code 0) ⇒ code)
     ∷ []
 
 -- the nine tests, in order; `room` is the length of the reply buffer
 unfoldable pub requestRows : Camera → List ℕ → List ℕ → ℕ → List Row
 requestRows c s payload room =
-    ((not (wellFormed c) ⇒ 0x21) ∷ [])
+    ((not (wellFormed c) ⇒ malformedRecord) ∷ [])
     ++ requestTests (table (c .profile)) s payload
     ++ valueTests (c .profile) (c .streaming) s payload
-    ++ ((not (isSetRequest s) && ltb room (sentCount c s) ⇒ 0x20) ∷ [])
+    ++ ((not (isSetRequest s) && ltb room (sentCount c s) ⇒ noRoom) ∷ [])
 
 unfoldable pub requestCode : Camera → List ℕ → List ℕ → ℕ → ℕ
 requestCode c s payload room = firstOf (requestRows c s payload room)
@@ -86,7 +87,7 @@ replied c s payload reply =
 -- past test 6: a SET of a selector, and a GET
 unfoldable pub setDone : Camera → ℕ → List ℕ → Outcome
 setDone c selector payload =
-    let code = firstOf ((eqb selector 0x0E && not (c .streaming) ⇒ 0x02) ∷ (not (eqb (setRefusal (c .profile) selector payload) 0) ⇒ setRefusal (c .profile) selector payload) ∷ []) in
+    let code = firstOf ((eqb selector 0x0E && not (c .streaming) ⇒ wrongState) ∷ (not (eqb (setRefusal (c .profile) selector payload) 0) ⇒ setRefusal (c .profile) selector payload) ∷ []) in
     outcomeBy code c (record { code = 0; count = 0; camera = puts c (setGives (c .profile) selector payload) })
 
 unfoldable pub getDone : Camera → List ℕ → ℕ → Outcome

@@ -8,6 +8,7 @@ use lib.ListN.{length, take, drop, replicate}
 use Rattle.wire.specs.Number.{bytesOf}
 use Rattle.wire.specs.Overlay.{overlay}
 use Rattle.wire.specs.Rows.{Row, _⇒_, firstOf}
+use Rattle.wire.specs.Uvc.{malformedRecord, malformedSnapshot, noRoom}
 use Rattle.snapshot.specs.Form as form
 use Rattle.snapshot.specs.Records.{decode}
 use Rattle.snapshot.specs.Settings.{snapshotOf}
@@ -53,12 +54,12 @@ loadItem p streaming s k = itemFor p streaming k (decode s k)
 unfoldable pub loadTests : Profile → Bool → List ℕ → List Row
 loadTests p streaming s =
     let code = firstRefusal 19 0 (loadItem p streaming s) in
-    (not (form.wellFormed s) ⇒ 0x22)
+    (not (form.wellFormed s) ⇒ malformedSnapshot)
     ∷ (not (eqb code 0) ⇒ code)
     ∷ []
 
 unfoldable pub loadCode : Camera → List ℕ → ℕ
-loadCode c s = firstOf (((not (wellFormed c) ⇒ 0x21) ∷ []) ++ loadTests (c .profile) (c .streaming) s)
+loadCode c s = firstOf (((not (wellFormed c) ⇒ malformedRecord) ∷ []) ++ loadTests (c .profile) (c .streaming) s)
 
 -- the settings that an accepted load gives: its records', in order
 unfoldable pub loadGives : Profile → Bool → List ℕ → List (ℕ × Setting)
@@ -89,7 +90,7 @@ unfoldable pub snapshot : Camera → List ℕ
 snapshot c = snapshotOf row (held c)
 
 unfoldable pub writeCode : Camera → ℕ → ℕ
-writeCode c room = firstOf ((not (wellFormed c) ⇒ 0x21) ∷ (ltb room (length (snapshot c)) ⇒ 0x20) ∷ [])
+writeCode c room = firstOf ((not (wellFormed c) ⇒ malformedRecord) ∷ (ltb room (length (snapshot c)) ⇒ noRoom) ∷ [])
 
 unfoldable pub written : Camera → ℕ → Outcome
 written c room = outcomeBy (writeCode c room) c (record { code = 0; count = length (snapshot c); camera = c })

@@ -6,11 +6,12 @@ use lib.Dec.{eqb}
 use lib.ListN.{length, replicate}
 use Rattle.wire.specs.Number.{bytesOf}
 use Rattle.wire.specs.Overlay.{overlay}
+use Rattle.wire.specs.Uvc.{getInfo, getLen}
 use Rattle.controls.specs.declared.answers.Answer.{Answer}
 
 -- the answer of a control to a GET's code, where `value` answers CUR, MIN, MAX, RES and DEF
 unfoldable pub answerBy : (code len info : ℕ) → List ℕ → List ℕ
-answerBy code len info value = cond (eqb code 0x85) (bytesOf 2 len) (cond (eqb code 0x86) (info ∷ []) value)
+answerBy code len info value = cond (eqb code getLen) (bytesOf 2 len) (cond (eqb code getInfo) (info ∷ []) value)
 
 -- an answer as the code hands it on: its bytes with zeros behind them, and its length
 unfoldable pub packed : List ℕ → Answer

@@ -10,6 +10,7 @@ use Rattle.wire.specs.Number.{leAt, bytesOf}
 use Rattle.wire.specs.Flags.{choiceOf}
 use Rattle.wire.specs.declared.flags.Choice.{Choice}
 use Rattle.wire.specs.declared.flags.Choice.the-variants.{At, Refused}
+use Rattle.wire.specs.Uvc.{getCur, getMax, getMin, getRes, invalidValue, outOfRange}
 use Rattle.controls.specs.declared.ev.EvLimits.{EvLimits}
 use Rattle.controls.specs.declared.ev.EvSetting.{EvSetting}
 use Rattle.controls.specs.declared.ev.Ev.{Ev}
@@ -44,8 +45,8 @@ inRange l d v = leZ (l .low *ℤ pos d) v && leZ v (l .high *ℤ pos d)
 
 -- SET's value tests: exactly one flag and that one offered, then the value at that flag's step
 unfoldable pub refusalAt : EvLimits → ℤ → Choice → ℕ
-refusalAt l v Refused = 0x08
-refusalAt l v (At place) = cond (inRange l (divisor place) v) 0 0x04
+refusalAt l v Refused = invalidValue
+refusalAt l v (At place) = cond (inRange l (divisor place) v) 0 outOfRange
 
 unfoldable pub evRefusal : EvLimits → ℕ → ℤ → ℕ
 evRefusal l flags v = refusalAt l v (choiceOf (l .steps) flags)
@@ -77,10 +78,10 @@ evHeld (E.Held s) = s
 -- the flags and the value of an answer: MIN, MAX, RES, CUR, else DEF
 unfoldable pub evAt : EvLimits → Ev → ℕ → EvSetting
 evAt l held code =
-    cond (eqb code 0x82) (record { flags = 16; value = l .low })
-    (cond (eqb code 0x83) (record { flags = 16; value = l .high })
-    (cond (eqb code 0x84) (record { flags = l .steps; value = pos 0 })
-    (cond (eqb code 0x81) (evHeld held)
+    cond (eqb code getMin) (record { flags = 16; value = l .low })
+    (cond (eqb code getMax) (record { flags = 16; value = l .high })
+    (cond (eqb code getRes) (record { flags = l .steps; value = pos 0 })
+    (cond (eqb code getCur) (evHeld held)
     evDefault)))
 
 unfoldable pub evAnswer : EvLimits → Ev → ℕ → List ℕ

@@ -9,6 +9,7 @@ use Rattle.wire.specs.Flags.{choiceOf}
 use Rattle.wire.specs.Rows.{Row, _⇒_, firstOf}
 use Rattle.wire.specs.declared.flags.Choice.{Choice}
 use Rattle.wire.specs.declared.flags.Choice.the-variants.{At, Refused}
+use Rattle.wire.specs.Uvc.{getCur, getMax, getMin, getRes, invalidValue, outOfRange}
 use Rattle.controls.specs.declared.face.FaceLimits.{FaceLimits}
 use Rattle.controls.specs.declared.settings.Item.{Item}
 use Rattle.controls.specs.declared.settings.Setting.the-variants as S
@@ -89,16 +90,16 @@ isChoice Refused = false
 
 -- a setting's own test, and the last of an entry's
 unfoldable pub faceRefusal : ℕ → ℕ → ℕ
-faceRefusal offers flags = cond (isChoice (choiceOf offers flags)) 0 0x08
+faceRefusal offers flags = cond (isChoice (choiceOf offers flags)) 0 invalidValue
 
 -- the tests of entry i
 unfoldable pub entryRefusal : FaceLimits → List ℕ → ℕ → ℕ
 entryRefusal l payload i =
     let offers = offersOf l (entryAddress payload i) in
     firstOf
-    ((eqb offers 0 ⇒ 0x04)
-    ∷ (seenBefore payload i ⇒ 0x08)
-    ∷ (not (isChoice (choiceOf offers (entryFlags payload i))) ⇒ 0x08)
+    ((eqb offers 0 ⇒ outOfRange)
+    ∷ (seenBefore payload i ⇒ invalidValue)
+    ∷ (not (isChoice (choiceOf offers (entryFlags payload i))) ⇒ invalidValue)
     ∷ [])
 
 unfoldable pub faceItem : FaceLimits → List ℕ → ℕ → Item
@@ -121,8 +122,8 @@ heldAt held address = getD held (address - 0x81) 0
 unfoldable pub flagsAt : FaceLimits → List ℕ → ℕ → ℕ → ℕ
 flagsAt l held code i =
     let flags = heldAt held (addressAt l i) in
-    cond (eqb code 0x83) (offersAt l i)
-    (cond (eqb code 0x81) (cond (eqb flags 0) (defaultOf (offersAt l i)) flags)
+    cond (eqb code getMax) (offersAt l i)
+    (cond (eqb code getCur) (cond (eqb flags 0) (defaultOf (offersAt l i)) flags)
     (defaultOf (offersAt l i)))
 
 -- the entries of the first n places
@@ -132,7 +133,7 @@ entriesOf l held code (suc n) = entriesOf l held code n ++ entryOf (addressAt l 
 
 -- MIN and RES are one byte 0; MAX, CUR and DEF list every endpoint
 unfoldable pub faceValue : FaceLimits → List ℕ → ℕ → List ℕ
-faceValue l held code = cond (eqb code 0x82 || eqb code 0x84) (0 ∷ []) (endpoints l ∷ entriesOf l held code (endpoints l))
+faceValue l held code = cond (eqb code getMin || eqb code getRes) (0 ∷ []) (endpoints l ∷ entriesOf l held code (endpoints l))
 
 unfoldable pub faceAnswer : FaceLimits → List ℕ → ℕ → List ℕ
 faceAnswer l held code = answerBy code (1 + 8 * endpoints l) 0x03 (faceValue l held code)

@@ -5,6 +5,7 @@ use mathlib.Core.Bool.{Bool, cond, not, _&&_}
 use lib.Dec.{ltb, eqb}
 use Rattle.wire.specs.Number.{leAt, bytesOf}
 use Rattle.wire.specs.Rows.{Row, _⇒_, firstOf}
+use Rattle.wire.specs.Uvc.{getCur, getMax, invalidValue, outOfRange}
 use Rattle.controls.specs.declared.settings.Number.{Number}
 use Rattle.controls.specs.declared.settings.Item.{Item}
 use Rattle.controls.specs.declared.settings.Setting.the-variants as S
@@ -15,8 +16,8 @@ use Rattle.controls.specs.Settings.{itemOf, numberOr}
 unfoldable pub hdrRefusal : Bool → ℕ → ℕ
 hdrRefusal auto n =
     firstOf
-    ((ltb 2 n ⇒ 0x04)
-    ∷ (eqb n 2 && not auto ⇒ 0x08)
+    ((ltb 2 n ⇒ outOfRange)
+    ∷ (eqb n 2 && not auto ⇒ invalidValue)
     ∷ [])
 
 unfoldable pub hdrItem : Bool → List ℕ → Item
@@ -26,7 +27,7 @@ hdrItem auto payload =
 
 -- MAX is 1, or 3 with Auto; CUR the setting held; MIN, RES and DEF 0
 unfoldable pub hdrAt : Bool → Number → ℕ → ℕ
-hdrAt auto held code = cond (eqb code 0x83) (cond auto 3 1) (cond (eqb code 0x81) (numberOr 0 held) 0)
+hdrAt auto held code = cond (eqb code getMax) (cond auto 3 1) (cond (eqb code getCur) (numberOr 0 held) 0)
 
 unfoldable pub hdrAnswer : Bool → Number → ℕ → List ℕ
 hdrAnswer auto held code = answerBy code 4 0x03 (bytesOf 4 (hdrAt auto held code))

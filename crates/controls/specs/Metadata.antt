@@ -5,6 +5,7 @@ use mathlib.Core.Bool.{Bool, cond, not, _&&_, _||_}
 use lib.Dec.{leb, ltb, eqb}
 use Rattle.wire.specs.Number.{leAt, bytesOf}
 use Rattle.wire.specs.Rows.{Row, _⇒_, firstOf}
+use Rattle.wire.specs.Uvc.{getCur, getMax, getRes, invalidValue, outOfRange}
 use Rattle.controls.specs.declared.metadata.MetadataLimits.{MetadataLimits}
 use Rattle.controls.specs.declared.settings.Number.{Number}
 use Rattle.controls.specs.declared.settings.Item.{Item}
@@ -19,8 +20,8 @@ metadataValid l = leb 1 (l .maximum)
 unfoldable pub metadataRefusal : MetadataLimits → ℕ → ℕ
 metadataRefusal l n =
     firstOf
-    ((ltb (l .maximum) n ⇒ 0x04)
-    ∷ (not (eqb n 0 || eqb n (l .maximum)) ⇒ 0x08)
+    ((ltb (l .maximum) n ⇒ outOfRange)
+    ∷ (not (eqb n 0 || eqb n (l .maximum)) ⇒ invalidValue)
     ∷ [])
 
 unfoldable pub metadataItem : MetadataLimits → List ℕ → Item
@@ -32,8 +33,8 @@ metadataItem l payload =
 unfoldable pub metadataAt : MetadataLimits → Number → ℕ → ℕ
 metadataAt l held code =
     cond (l .writable)
-    (cond (eqb code 0x83 || eqb code 0x84) (l .maximum) (cond (eqb code 0x81) (numberOr 0 held) 0))
-    (cond (eqb code 0x84) 0 (l .maximum))
+    (cond (eqb code getMax || eqb code getRes) (l .maximum) (cond (eqb code getCur) (numberOr 0 held) 0))
+    (cond (eqb code getRes) 0 (l .maximum))
 
 unfoldable pub metadataInfo : MetadataLimits → ℕ
 metadataInfo l = cond (l .writable) 0x03 0x01

@@ -5,6 +5,7 @@ use mathlib.Core.Bool.{Bool, cond, not, _&&_, _||_}
 use lib.Dec.{leb, ltb, eqb}
 use Rattle.wire.specs.Number.{leAt, bytesOf}
 use Rattle.wire.specs.Rows.{Row, _⇒_, firstOf}
+use Rattle.wire.specs.Uvc.{getCur, getMax, getMin, getRes, invalidValue, outOfRange}
 use Rattle.controls.specs.declared.throttle.ThrottleLimits.{ThrottleLimits}
 use Rattle.controls.specs.declared.throttle.ThrottleSetting.{ThrottleSetting}
 use Rattle.controls.specs.declared.throttle.Throttle.{Throttle}
@@ -28,8 +29,8 @@ throttleValid l =
 unfoldable pub throttleRefusal : ThrottleLimits → ℕ → ℕ → ℕ
 throttleRefusal l mode percent =
     firstOf
-    ((ltb percent (l .minimum) || ltb (l .maximum) percent ⇒ 0x04)
-    ∷ (ltb 1 mode || not (divides (l .step) percent) ⇒ 0x08)
+    ((ltb percent (l .minimum) || ltb (l .maximum) percent ⇒ outOfRange)
+    ∷ (ltb 1 mode || not (divides (l .step) percent) ⇒ invalidValue)
     ∷ [])
 
 -- bytes 8 to 19 of the payload are not looked at
@@ -49,10 +50,10 @@ throttleHeld l (T.Held s) = s
 -- MIN, MAX, RES, CUR, else DEF
 unfoldable pub throttleAt : ThrottleLimits → Throttle → ℕ → ThrottleSetting
 throttleAt l held code =
-    cond (eqb code 0x82) (record { mode = 0; percent = l .minimum })
-    (cond (eqb code 0x83) (record { mode = 1; percent = l .maximum })
-    (cond (eqb code 0x84) (record { mode = 0; percent = l .step })
-    (cond (eqb code 0x81) (throttleHeld l held)
+    cond (eqb code getMin) (record { mode = 0; percent = l .minimum })
+    (cond (eqb code getMax) (record { mode = 1; percent = l .maximum })
+    (cond (eqb code getRes) (record { mode = 0; percent = l .step })
+    (cond (eqb code getCur) (throttleHeld l held)
     (throttleDefault l))))
 
 -- mode and percent, with three numbers behind them

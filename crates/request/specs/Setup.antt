@@ -5,6 +5,7 @@ use mathlib.Core.Bool.{Bool, _&&_}
 use lib.Dec.{leb, eqb}
 use lib.ListN.{getD}
 use Rattle.wire.specs.Number.{leAt}
+use Rattle.wire.specs.Uvc.{getCur, getDef, setCur}
 
 abbrev pub typeOf : List ℕ → ℕ
 typeOf setup = getD setup 0 0
@@ -31,8 +32,8 @@ wLengthOf setup = leAt 2 setup 6
 
 -- type 0x21 with SET_CUR
 abbrev pub isSetRequest : List ℕ → Bool
-isSetRequest setup = eqb (typeOf setup) 0x21 && eqb (codeOf setup) 0x01
+isSetRequest setup = eqb (typeOf setup) 0x21 && eqb (codeOf setup) setCur
 
 -- type 0xA1 with GET_CUR 0x81, MIN, MAX, RES, LEN, INFO, or DEF 0x87
 abbrev pub isGetRequest : List ℕ → Bool
-isGetRequest setup = eqb (typeOf setup) 0xA1 && leb 0x81 (codeOf setup) && leb (codeOf setup) 0x87
+isGetRequest setup = eqb (typeOf setup) 0xA1 && leb getCur (codeOf setup) && leb (codeOf setup) getDef

@@ -5,6 +5,7 @@ use mathlib.Core.Bool.{Bool, cond, not, _&&_}
 use lib.Dec.{eqb}
 use lib.ListN.{length}
 use Rattle.wire.specs.Rows.{Row, _⇒_}
+use Rattle.wire.specs.Uvc.{invalidControl, invalidRequest, invalidUnit, unknown}
 use Rattle.request.specs.Setup.{valueLow, selectorOf, interfaceOf, unitOf, wLengthOf, isSetRequest, isGetRequest}
 use Rattle.request.specs.Table.{Table}
 
@@ -23,9 +24,9 @@ sized takes setup payload =
 
 unfoldable pub requestTests : Table → List ℕ → List ℕ → List Row
 requestTests t setup payload =
-    (not (eqb (length setup) 8) ⇒ 0xFF)
-    ∷ (not (addressed t setup) ⇒ 0x05)
-    ∷ (not (t .present (selectorOf setup)) ⇒ 0x06)
-    ∷ (not (understood t setup) ⇒ 0x07)
-    ∷ (not (sized (t .takes (selectorOf setup) payload) setup payload) ⇒ 0xFF)
+    (not (eqb (length setup) 8) ⇒ unknown)
+    ∷ (not (addressed t setup) ⇒ invalidUnit)
+    ∷ (not (t .present (selectorOf setup)) ⇒ invalidControl)
+    ∷ (not (understood t setup) ⇒ invalidRequest)
+    ∷ (not (sized (t .takes (selectorOf setup) payload) setup payload) ⇒ unknown)
     ∷ []

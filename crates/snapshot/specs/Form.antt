@@ -6,10 +6,7 @@ use lib.ListN.{length, getD, take, drop}
 use lib.Dec.{leb, ltb, eqb}
 use Rattle.wire.specs.Number.{leAt}
 use Rattle.wire.specs.Rows.{allOf}
-
--- 01's number for a form fault
-abbrev pub malformed : ℕ
-malformed = 0x22
+use Rattle.wire.specs.Uvc.{malformedSnapshot}
 
 -- The kinds: 0x03 exposure compensation (EV), 0x06 face authentication, 0x09 metadata, 0x0D HDR, 0x0E throttle.
 -- A key is a kind, of face authentication with an address. The 19 keys are numbered by kind, then address: 0 is EV, 1 to 15 are face
@@ -98,4 +95,4 @@ wellFormed s = formed (length s) 0 s
 
 -- the verdict on the form: accepted, or a form fault
 unfoldable pub formCode : List ℕ → ℕ
-formCode s = cond (wellFormed s) 0 malformed
+formCode s = cond (wellFormed s) 0 malformedSnapshot

@@ -7,12 +7,9 @@ use mathlib.Core.List.{List, _++_}
 use mathlib.Core.Option.{Option, none, some}
 use lib.ListN.{length, take, drop}
 use lib.Dec.{leb, eqb}
-use Rattle.snapshot.specs.Form.{malformed, isEmpty, wellFormed}
+use Rattle.wire.specs.Uvc.{malformedSnapshot, noRoom}
+use Rattle.snapshot.specs.Form.{isEmpty, wellFormed}
 use Rattle.snapshot.specs.Records.{decode, encode}
-
--- 01's number for a lent buffer that is too short
-abbrev pub noRoom : ℕ
-noRoom = 0x20
 
 -- the second, or where there is none the first
 abbrev pub over : {A : Type 0} → Option A → Option A → Option A
@@ -34,7 +31,7 @@ Apart a b = (k : ℕ) → (decode a k ≡ none) ⊎ (decode b k ≡ none)
 -- what merging answers: a form fault of either, then a room that is short of the merged snapshot
 unfoldable pub mergeCode : List ℕ → List ℕ → List ℕ → ℕ
 mergeCode first second out =
-    cond (wellFormed first && wellFormed second) (cond (leb (length (merged first second)) (length out)) 0 noRoom) malformed
+    cond (wellFormed first && wellFormed second) (cond (leb (length (merged first second)) (length out)) 0 noRoom) malformedSnapshot
 
 -- how many bytes it reports
 unfoldable pub mergeLen : List ℕ → List ℕ → List ℕ → ℕ

@@ -1,5 +1,6 @@
--- What the leaves compute: numbers in bytes, flags, bytes laid over others; and ordered tables of refusals.
+-- What the leaves compute: numbers in bytes, flags, bytes laid over others; ordered tables of refusals, and UVC's codes.
 pub mod Number
 pub mod Flags
 pub mod Overlay
 pub mod Rows
+pub mod Uvc

@@ -7,20 +7,21 @@ use lib.ListN.{length, drop}
 use lib.Seq.{take-at}
 use lib.Dec.{eqb}
 use borrow.Author.Tests.{le-leb, lt-leb, eqb-true}
-use Rattle.snapshot.specs.Form.{malformed, wellFormed}
-use Rattle.snapshot.specs.Merge.{noRoom, merged, mergeCode, mergeLen, mergeOut, handed, Alike}
+use Rattle.wire.specs.Uvc.{malformedSnapshot, noRoom}
+use Rattle.snapshot.specs.Form.{wellFormed}
+use Rattle.snapshot.specs.Merge.{merged, mergeCode, mergeLen, mergeOut, handed, Alike}
 
 -- the verdict, the length reported and the buffer afterwards
 abbrev pub Answer : List ℕ → List ℕ → List ℕ → ℕ → ℕ → List ℕ → Type 0
 Answer s t out code len after = (code ≡ mergeCode s t out) × ((len ≡ mergeLen s t out) × (after ≡ mergeOut s t out))
 
 module _ (s t out : List ℕ) where
-  pub first-malformed : wellFormed s ≡ false → Answer s t out malformed 0 out
+  pub first-malformed : wellFormed s ≡ false → Answer s t out malformedSnapshot 0 out
   unfolding mergeCode mergeLen mergeOut
   first-malformed e = simp e (refl, (refl, refl))
 
   module _ (e : wellFormed s ≡ true) where
-    pub second-malformed : wellFormed t ≡ false → Answer s t out malformed 0 out
+    pub second-malformed : wellFormed t ≡ false → Answer s t out malformedSnapshot 0 out
     unfolding mergeCode mergeLen mergeOut
     second-malformed f = simp (e, f) (refl, (refl, refl))
 
