@@ -28,7 +28,7 @@ use Rattle.camera.specs.Record.{withStreaming, held, controlRefusal, wel
 use Rattle.camera.specs.Items.{puts, itemCount, itemAt, setGives}
 use Rattle.camera.specs.Requests.{sentCount, valueTests, requestRows, requestCode, refused, outcomeBy, requestDone, requested}
 use Rattle.camera.specs.Snapshots.{selectorAt, snapshot, recordItem, itemFor, loadItem, loadTests, loadCode, loadGives, loaded, written, writeCode}
-use Rattle.camera.specs.Calls.{streamed, sensed, Call, request, stream, load, write, sense, next}
+use Rattle.camera.specs.Calls.{streamed, sensed, Call, request, stream, load, write, sense, outcome, next}
 use Rattle.camera.specs.Demand.{setAccepted, gives, leaves}
 use Rattle.camera.proofs.Laws.Selectors.{Control, ev, face, metadata, hdr, throttle, control-known}
 use Rattle.camera.proofs.Laws.Held.{Each, puts-held, puts-length, puts-profile, puts-streaming}
@@ -50,6 +50,41 @@ unfolding requestCode requestRows
 set-code c s payload room w e =
     let last : firstOf ((not (isSetRequest s) && ltb room (sentCount c s) ⇒ 0x20) ∷ []) ≡ 0 = rw e in
     rw w (first-quiet (requestTests (table (c .profile)) s payload ++ valueTests (c .profile) (c .streaming) s payload) _ last)
+
+-- a call's number is that of its tests
+outcome-code : (code : ℕ) (c : Camera) (done : Outcome) → done .code ≡ 0 → outcomeBy code c done .code ≡ code
+outcome-code code c done z = go (eqb code 0) refl
+  where
+    go : (b : Bool) → eqb code 0 ≡ b → cond b done (refused code c) .code ≡ code
+    go true e = z ∙ sym (eqb-true code 0 e)
+    go false e = refl
+
+-- a SET is accepted where the request answers 0
+pub set-answer : (c : Camera) (s payload : List ℕ) (room : ℕ) → wellFormed c ≡ true → isSetRequest s ≡ true
+    → setAccepted (c .profile) (c .streaming) s payload ≡ eqb (requested c s payload room .code) 0
+unfolding requested requestDone
+set-answer c s payload room w e =
+    let done : Outcome = record { code = 0; count = 0; camera = puts c (setGives (c .profile) (setup.selectorOf s) payload) } in
+    rw e (ap (λ (n : ℕ). eqb n 0) (sym (outcome-code (requestCode c s payload room) c done refl ∙ set-code c s payload room w e)))
+
+pub load-answer : (c : Camera) (s : List ℕ) → wellFormed c ≡ true → loaded c s .code ≡ firstOf (loadTests (c .profile) (c .streaming) s)
+unfolding loaded loadCode
+load-answer c s w =
+    let code = firstOf (loadTests (c .profile) (c .streaming) s) in
+    rw w (outcome-code code c (record { code = 0; count = 0; camera = puts c (loadGives (c .profile) (c .streaming) s) }) refl)
+
+-- a refused call gives no setting
+pub refused-none : (c : Camera) → wellFormed c ≡ true → (call : Call) → (outcome c call .code ≡ 0 → ⊥) → gives (c .profile) (c .streaming) call ≡ []
+unfolding gives
+refused-none c w (request s payload reply) n = go (isSetRequest s) refl
+  where
+    go : (b : Bool) → isSetRequest s ≡ b → gives (c .profile) (c .streaming) (request s payload reply) ≡ []
+    go true e = rw (set-answer c s payload (length reply) w e, ne-eqb _ 0 n)
+    go false e = rw e
+refused-none c w (stream on) n = refl
+refused-none c w (load s) n = rw (ne-eqb (firstOf (loadTests (c .profile) (c .streaming) s)) 0 (λ z. n (load-answer c s w ∙ z)))
+refused-none c w (write out) n = refl
+refused-none c w sense n = refl
 
 -- what a request leaves of the record
 request-next : (c : Camera) (s payload reply : List ℕ) → wellFormed c ≡ true
