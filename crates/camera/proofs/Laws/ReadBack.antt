@@ -1,0 +1,158 @@
+-- What an accepted SET leaves of the record, control by control. Assumes nothing.
+use mathlib.Core.Path.{_≡_, refl, ap, ap₂, sym, _∙_}
+use mathlib.Core.List.{List, [], _∷_, _++_}
+use mathlib.Core.Bool.{Bool, true, false, cond, _||_, true≢false}
+use Prim.Native.Nat.{ℕ, zero, suc, _+_, _-_, _*_, _≤_, _<_}
+use native.Mathlib.Nat.{add-zero}
+use native.Mathlib.Numerals.{add-one}
+use native.Mathlib.Omega.{arith}
+use lib.Dec.{eqb, lit<}
+use lib.ListN.{length, getD, take}
+use lib.Seq.{take-add}
+use borrow.Author.Tests.{eq-eqb, ne-eqb, eqb-true, eqb-false}
+use Rattle.wire.specs.Number.{leAt, bytesOf}
+use Rattle.wire.proofs.Laws.Numbers.{Bytes}
+use Rattle.controls.specs.declared.settings.Item.{Item}
+use Rattle.controls.specs.declared.settings.Item.the-variants.{Given}
+use Rattle.controls.specs.declared.settings.Setting.{Setting}
+use Rattle.controls.specs.declared.settings.Setting.the-variants as S
+use Rattle.controls.specs.declared.throttle.ThrottleLimits.{ThrottleLimits}
+use Rattle.controls.specs.Answers.{answerBy}
+use Rattle.controls.specs.Settings.{itemOf, numberOr}
+use Rattle.controls.specs.Ev.{evFlags, evValue, evRefusal, evItem, evHeld, evAt, evAnswer}
+use Rattle.controls.specs.Face.{entryAddress, entryFlags, seenIn, seenBefore, faceItem, heldAt}
+use Rattle.controls.specs.Metadata.{metadataItem, metadataAt, metadataAnswer}
+use Rattle.controls.specs.Hdr.{hdrItem, hdrAt, hdrAnswer}
+use Rattle.controls.specs.Throttle.{throttleItem, throttleHeld, throttleAt, throttleBytes, throttleAnswer}
+use Rattle.controls.proofs.Laws.Numbers.{bytes-at}
+use Rattle.controls.proofs.Laws.Ev.{ev-bytes}
+use Rattle.controls.proofs.Laws.Face.{accepted}
+use Rattle.controls.proofs.Laws.Plain.{word-bytes}
+use Rattle.camera.specs.declared.profile.Profile.{Profile}
+use Rattle.camera.specs.declared.record.Camera.{Camera}
+use Rattle.camera.specs.Profile.{profileValid}
+use Rattle.camera.specs.Record.{putFace, put, controlRefusal}
+use Rattle.camera.specs.Items.{codeOf, givenOf, firstRefusal, allGiven, puts, itemAt, setRefusal, setGives}
+use Rattle.camera.specs.Requests.{answerOf}
+use Rattle.camera.proofs.Laws.Held.{put-face-same, put-face-other, put-face-length}
+use Rattle.camera.proofs.Laws.Items.{none-refused, puts-next}
+use Rattle.camera.proofs.Laws.Kept.{item-good}
+use Rattle.camera.proofs.Laws.Loads.{taken}
+use Rattle.camera.proofs.Laws.Selectors.{face}
+
+-- one item that no test refuses is put in
+one-put : (c : Camera) (item : ℕ → Item) (code : ℕ) (s : Setting) → item 0 ≡ itemOf code s → firstRefusal 1 0 item ≡ 0 → puts c (allGiven 1 0 item) ≡ put c s
+unfolding allGiven givenOf puts
+one-put c item code s e z =
+    let g : item 0 ≡ Given s = e ∙ taken code s (ap codeOf (sym e) ∙ none-refused 1 0 item z 0 (lit< tt)) in
+    rw g
+
+-- the four controls of one setting: the full answer to GET_CUR after the SET
+module _ (c : Camera) (payload : List ℕ) (b : Bytes payload) where
+  pub ev-back : setRefusal (c .profile) 0x03 payload ≡ 0 → length payload ≡ 11 → answerOf (puts c (setGives (c .profile) 0x03 payload)) 0x03 0x81 ≡ payload
+  unfolding setRefusal setGives itemAt evItem answerOf put evAnswer evAt evHeld answerBy
+  ev-back z n =
+      ap (λ d. answerOf d 0x03 0x81) (one-put c (itemAt (c .profile) 0x03 payload) _ (S.Ev (record { flags = evFlags payload; value = evValue payload })) refl z)
+      ∙ ev-bytes payload n b
+
+  pub metadata-back : setRefusal (c .profile) 0x09 payload ≡ 0 → length payload ≡ 4 → c .profile .metadata .writable ≡ true
+      → answerOf (puts c (setGives (c .profile) 0x09 payload)) 0x09 0x81 ≡ payload
+  unfolding setRefusal setGives itemAt metadataItem answerOf put metadataAnswer metadataAt numberOr answerBy
+  metadata-back z n w =
+      ap (λ d. answerOf d 0x09 0x81) (one-put c (itemAt (c .profile) 0x09 payload) _ (S.Metadata (leAt 4 payload 0)) refl z)
+      ∙ rw w (word-bytes payload n b)
+
+  pub hdr-back : setRefusal (c .profile) 0x0D payload ≡ 0 → length payload ≡ 4 → answerOf (puts c (setGives (c .profile) 0x0D payload)) 0x0D 0x81 ≡ payload
+  unfolding setRefusal setGives itemAt hdrItem answerOf put hdrAnswer hdrAt numberOr answerBy
+  hdr-back z n =
+      ap (λ d. answerOf d 0x0D 0x81) (one-put c (itemAt (c .profile) 0x0D payload) _ (S.Hdr (leAt 4 payload 0)) refl z)
+      ∙ word-bytes payload n b
+
+  pub throttle-back : setRefusal (c .profile) 0x0E payload ≡ 0 → length payload ≡ 20
+      → let l = c .profile .throttle in
+        answerOf (puts c (setGives (c .profile) 0x0E payload)) 0x0E 0x81 ≡ take 8 payload ++ bytesOf 4 (l .minimum) ++ bytesOf 4 (l .maximum) ++ bytesOf 4 (l .step)
+  unfolding setRefusal setGives itemAt throttleItem answerOf put throttleAnswer throttleAt throttleHeld throttleBytes bytesOf answerBy
+  throttle-back z n =
+      let l = c .profile .throttle in
+      let front : bytesOf 4 (leAt 4 payload 0) ++ bytesOf 4 (leAt 4 payload 4) ≡ take 8 payload =
+          ap₂ _++_ (bytes-at 4 payload 0 (omega arith) b) (bytes-at 4 payload 4 (omega arith) b) ∙ sym (take-add 4 4 payload) in
+      ap (λ d. answerOf d 0x0E 0x81) (one-put c (itemAt (c .profile) 0x0E payload) _ (S.Throttle (record { mode = leAt 4 payload 0; percent = leAt 4 payload 4 })) refl z)
+      ∙ ap (λ f. f ++ bytesOf 4 (l .minimum) ++ bytesOf 4 (l .maximum) ++ bytesOf 4 (l .step)) front
+
+-- an entry that is not seen before has an address of its own
+unseen : (payload : List ℕ) (i n : ℕ) → seenIn payload i n ≡ false → (j : ℕ) → j < n → entryAddress payload j ≡ entryAddress payload i → ⊥
+unfolding seenIn
+unseen payload i zero e j h q = absurd (omega arith)
+unseen payload i (suc n) e j h q = go (seenIn payload i n) (eqb (entryAddress payload n) (entryAddress payload i)) refl refl e (λ z l. unseen payload i n z j l q)
+  where
+    go : (a b : Bool) → seenIn payload i n ≡ a → eqb (entryAddress payload n) (entryAddress payload i) ≡ b → a || b ≡ false
+        → (seenIn payload i n ≡ false → j < n → ⊥) → ⊥
+    go true b f g z ih = true≢false z
+    go false true f g z ih = true≢false z
+    go false false f g z ih = last (eqb j n) refl
+      where
+        last : (x : Bool) → eqb j n ≡ x → ⊥
+        last true k = eqb-false _ _ g (ap (entryAddress payload) (sym (eqb-true j n k)) ∙ q)
+        last false k = ih f (let m = eqb-false j n k in omega arith)
+
+-- an entry that is taken
+pub record Taken (p : Profile) (payload : List ℕ) (i : ℕ) : Type 0 where
+  pub given : itemAt p 0x06 payload i ≡ Given (S.Face (entryAddress payload i) (entryFlags payload i))
+  pub first : 0x81 ≤ entryAddress payload i
+  pub last : entryAddress payload i ≤ 0x8F
+  pub some : 0 < entryFlags payload i
+  pub new : seenBefore payload i ≡ false
+
+pub entry-taken : (p : Profile) (payload : List ℕ) → profileValid p ≡ true → controlRefusal p true 0x06 ≡ 0 → setRefusal p 0x06 payload ≡ 0
+    → (i : ℕ) → i < getD payload 0 0 → Taken p payload i
+unfolding setRefusal itemAt faceItem
+entry-taken p payload v r z i h =
+    let s = S.Face (entryAddress payload i) (entryFlags payload i) in
+    let g : itemAt p 0x06 payload i ≡ Given s =
+        taken _ s (ap (λ (j : ℕ). codeOf (itemAt p 0x06 payload j)) (sym (add-zero i)) ∙ none-refused (getD payload 0 0) 0 (itemAt p 0x06 payload) z i h) in
+    let proper = item-good p v payload i s 0x06 face r g .proper in
+    record { given = g; first = proper .0; last = proper .1; some = proper .2; new = accepted (p .face) payload i _ _ g .new }
+
+-- entries taken one after the other: each is held at its address, and every other address keeps its setting
+module _ (c : Camera) (l : length (c .face) ≡ 15) (payload : List ℕ) where
+  abbrev faceAfter : ℕ → List ℕ
+  faceAfter n = puts c (allGiven n 0 (itemAt (c .profile) 0x06 payload)) .face
+
+  pub record After (n : ℕ) : Type 0 where
+    pub places : length (faceAfter n) ≡ 15
+    pub named : (i : ℕ) → i < n → heldAt (faceAfter n) (entryAddress payload i) ≡ entryFlags payload i
+    pub other : (address : ℕ) → 0x81 ≤ address → ((i : ℕ) → i < n → entryAddress payload i ≡ address → ⊥) → heldAt (faceAfter n) address ≡ heldAt (c .face) address
+
+  face-next : (n : ℕ) → Taken (c .profile) payload n → faceAfter (suc n) ≡ putFace (faceAfter n) (entryAddress payload n) (entryFlags payload n)
+  unfolding givenOf puts put
+  face-next n t =
+      ap faceAfter (sym (add-one n))
+      ∙ ap (λ d. d .face) (puts-next c n (itemAt (c .profile) 0x06 payload) ∙ ap (λ i. puts (puts c (allGiven n 0 (itemAt (c .profile) 0x06 payload))) (givenOf i)) (t .given))
+
+  pub after : (n : ℕ) → ((i : ℕ) → i < n → Taken (c .profile) payload i) → After n
+  unfolding allGiven puts
+  after zero t = record { places = l; named = λ i h. absurd (omega arith); other = λ a h no. refl }
+  after (suc n) t =
+      let b = after n (λ i h. t i (omega arith)) in
+      let x = t n (omega arith) in
+      let e = face-next n x in
+      record {
+        places = ap length e ∙ put-face-length (faceAfter n) _ _ (x .first) ∙ b .places;
+        named = λ i h. ap (λ f. heldAt f (entryAddress payload i)) e ∙ go b x i h (eqb i n) refl;
+        other = λ a h no.
+            ap (λ f. heldAt f a) e
+            ∙ put-face-other (faceAfter n) _ _ (x .first) (a - 0x81) (λ q. no n (omega arith) (let f = x .first in omega arith))
+            ∙ b .other a h (λ i q. no i (omega arith));
+      }
+    where
+      go : After n → Taken (c .profile) payload n → (i : ℕ) → i < suc n → (x : Bool) → eqb i n ≡ x
+          → heldAt (putFace (faceAfter n) (entryAddress payload n) (entryFlags payload n)) (entryAddress payload i) ≡ entryFlags payload i
+      go b x i h true q =
+          let j : i ≡ n = eqb-true i n q in
+          rw j (put-face-same (faceAfter n) _ _ (x .first) (omega (arith, b .places, x .last)))
+      go b x i h false q =
+          let j = eqb-false i n q in
+          let y = t i h in
+          put-face-other (faceAfter n) _ _ (x .first) (entryAddress payload i - 0x81)
+          (λ k. unseen payload n n (x .new) i (omega arith) (omega (arith, x .first, y .first)))
+          ∙ b .named i (omega arith)
