@@ -1,20 +1,21 @@
 -- The owner's demand 2 on the camera: new settings, GET_CUR, LEN, and what is written reads back. Assumes nothing.
-use mathlib.Core.Path.{_≡_, refl, ap, sym, _∙_}
+use mathlib.Core.Path.{_≡_, refl, ap, ap₂, sym, _∙_, subst}
 use mathlib.Core.List.{List, [], _∷_, _++_}
 use mathlib.Core.Option.{Option, none, some}
 use mathlib.Core.Bool.{Bool, true, false, cond, not, _&&_}
 use Prim.Native.Nat.{ℕ, _+_, _-_, _*_, _≤_, _<_}
 use native.Mathlib.Omega.{arith}
 use lib.Dec.{eqb, ltb, leb}
-use lib.ListN.{length, getD, List·getD-eq-default}
+use lib.ListN.{length, getD, take, List·getD-eq-default}
 use borrow.Author.Tests.{eq-eqb, ne-eqb, eqb-true, eqb-false, ltb-true, ltb-false, le-leb}
 use Rattle.wire.specs.Number.{bytesOf}
-use Rattle.wire.specs.Rows.{firstOf}
+use Rattle.wire.proofs.Laws.Numbers.{Bytes}
 use Rattle.request.specs.Setup.{isSetRequest, selectorOf}
 use Rattle.snapshot.specs.Merge.{over}
 use Rattle.snapshot.specs.Settings.{lastOf}
 use Rattle.controls.specs.declared.ev.Ev.{Ev}
 use Rattle.controls.specs.declared.ev.Ev.the-variants as E
+use Rattle.controls.specs.declared.face.FaceLimits.{FaceLimits}
 use Rattle.controls.specs.declared.throttle.Throttle.{Throttle}
 use Rattle.controls.specs.declared.throttle.Throttle.the-variants as T
 use Rattle.controls.specs.declared.settings.Number.{Number}
@@ -23,25 +24,26 @@ use Rattle.controls.specs.declared.settings.Setting.the-variants as S
 use Rattle.controls.specs.Answers.{answerBy}
 use Rattle.controls.specs.Settings.{numberOr}
 use Rattle.controls.specs.Ev as ev
-use Rattle.controls.specs.Face.{endpoints, heldAt, takesFace, faceValid}
+use Rattle.controls.specs.Face.{endpoints, addressAt, entryAddress, entryFlags, entryOf, heldAt, flagsAt, entriesOf, faceValue, faceAnswer}
 use Rattle.controls.specs.Metadata.{metadataAt, metadataAnswer}
 use Rattle.controls.specs.Hdr.{hdrAt, hdrAnswer}
 use Rattle.controls.specs.Throttle as throttle
-use Rattle.controls.proofs.Laws.Face.{fresh-answer, len-answer, len-taken, len-longest}
+use Rattle.controls.proofs.Laws.Face.{place-listed, fresh-answer, len-answer, len-taken, len-longest}
 use Rattle.camera.specs.declared.profile.Profile.{Profile}
 use Rattle.camera.specs.declared.record.Camera.{Camera}
 use Rattle.camera.specs.Profile.{has, takes}
-use Rattle.camera.specs.Record.{fresh, evHeld, faceHeld, numberHeld, throttleHeld, held, wellFormed}
-use Rattle.camera.specs.Items.{setGives}
-use Rattle.camera.specs.Requests.{answerOf}
+use Rattle.camera.specs.Record.{fresh, evHeld, faceHeld, numberHeld, throttleHeld, held, controlRefusal, wellFormed}
+use Rattle.camera.specs.Items.{puts, setRefusal, setGives}
+use Rattle.camera.specs.Requests.{answerOf, requested}
 use Rattle.camera.specs.Snapshots.{selectorAt, loadGives}
 use Rattle.camera.specs.Calls.{Call, request, stream, load, write, sense, outcome, next}
-use Rattle.camera.specs.Demand.{gives, leaves}
-use Rattle.camera.proofs.Laws.Held.{held-face, fresh-held}
-use Rattle.camera.proofs.Laws.Kept.{formed-profile, valid-face}
-use Rattle.camera.proofs.Laws.Selectors.{Control}
+use Rattle.camera.specs.Demand.{setAccepted, gives, leaves}
+use Rattle.camera.proofs.Laws.Held.{held-face, fresh-held, puts-profile}
+use Rattle.camera.proofs.Laws.Kept.{formed-profile, valid-presence, valid-face, control-there}
+use Rattle.camera.proofs.Laws.ReadBack.{entryBytes, ev-back, metadata-back, hdr-back, throttle-back, entry-taken, after, payload-entry, answer-entry, place-at, face-sized}
+use Rattle.camera.proofs.Laws.Selectors.{Control, control-known}
 use Rattle.camera.proofs.Laws.Selectors as selectors
-use Rattle.camera.proofs.Laws.Steps.{Ok, step, set-answer, load-answer, refused-none}
+use Rattle.camera.proofs.Laws.Steps.{Ok, step, set-answer, load-answer, refused-none, request-next, accepted-control, accepted-length, accepted-values, set-control}
 
 -- New settings. What any call leaves of a record that is not refused 0x21: of each key the last setting that the call gives, else the one
 -- held, and the streaming flag of a notice. An accepted SET gives its payload's settings, an accepted load its records', a refused call none.
@@ -147,3 +149,107 @@ unfolding answerOf
 face-length c w h =
     let v = valid-face (c .profile) (formed-profile c w) h in
     record { answer = len-answer (c .profile .face) (c .face); longest = len-longest (c .profile .face) v; reached = len-taken (c .profile .face) v }
+
+-- Reads back: a SET's verdict is 0 where 01's tests accept it with the record's profile and flag.
+pub set-verdict : (c : Camera) → wellFormed c ≡ true → (s payload : List ℕ) (room : ℕ) → isSetRequest s ≡ true
+    → setAccepted (c .profile) (c .streaming) s payload ≡ eqb (requested c s payload room .code) 0
+set-verdict c w s payload room i = set-answer c s payload room w i
+
+-- What an accepted SET of face authentication makes of the record c: d.
+pub record FaceReadsBack (c d : Camera) (payload : List ℕ) : Type 0 where
+  -- the setting held of each entry's address is the entry's
+  pub entries : (i : ℕ) → i < getD payload 0 0 → heldAt (d .face) (entryAddress payload i) ≡ entryFlags payload i
+  -- an endpoint has that address
+  pub place : (i : ℕ) → i < getD payload 0 0 → (j : ℕ) × ((j < endpoints (c .profile .face)) × (addressAt (c .profile .face) j ≡ entryAddress payload i))
+  -- and GET_CUR lists it with the entry's flags: the eight bytes that were set
+  pub listed : (i j : ℕ) → i < getD payload 0 0 → addressAt (c .profile .face) j ≡ entryAddress payload i → flagsAt (c .profile .face) (d .face) 0x81 j ≡ entryFlags payload i
+  pub bytes : (i j : ℕ) → i < getD payload 0 0 → j < endpoints (c .profile .face) → addressAt (c .profile .face) j ≡ entryAddress payload i
+      → entryBytes (answerOf d 0x06 0x81) j ≡ entryBytes payload i
+  -- an address that no entry names keeps its setting, and its endpoint's entry in GET_CUR's answer is as it was
+  pub others : (address : ℕ) → 0x81 ≤ address → ((i : ℕ) → i < getD payload 0 0 → entryAddress payload i ≡ address → ⊥) → heldAt (d .face) address ≡ heldAt (c .face) address
+  pub unnamed : (j : ℕ) → j < endpoints (c .profile .face) → ((i : ℕ) → i < getD payload 0 0 → entryAddress payload i ≡ addressAt (c .profile .face) j → ⊥)
+      → entryBytes (answerOf d 0x06 0x81) j ≡ entryBytes (answerOf c 0x06 0x81) j
+
+module _ (c : Camera) (o : Ok (c .profile) c) (payload : List ℕ) (b : Bytes payload) where
+  abbrev faceSet : Camera
+  faceSet = puts c (setGives (c .profile) 0x06 payload)
+
+  abbrev limits : FaceLimits
+  limits = c .profile .face
+
+  cur-answer : answerOf faceSet 0x06 0x81 ≡ endpoints limits ∷ entriesOf limits (faceSet .face) 0x81 (endpoints limits)
+  unfolding answerOf faceAnswer answerBy faceValue
+  cur-answer = ap (λ p. faceAnswer (p .face) (faceSet .face) 0x81) (puts-profile c (setGives (c .profile) 0x06 payload))
+
+  cur-entry : (j : ℕ) → j < endpoints limits → entryBytes (answerOf faceSet 0x06 0x81) j ≡ entryOf (addressAt limits j) (flagsAt limits (faceSet .face) 0x81 j)
+  cur-entry j h = ap (λ l. entryBytes l j) cur-answer ∙ answer-entry limits (faceSet .face) 0x81 (endpoints limits) (endpoints limits) j h
+
+  old-entry : (j : ℕ) → j < endpoints limits → entryBytes (answerOf c 0x06 0x81) j ≡ entryOf (addressAt limits j) (flagsAt limits (c .face) 0x81 j)
+  unfolding answerOf faceAnswer answerBy faceValue
+  old-entry j h = answer-entry limits (c .face) 0x81 (endpoints limits) (endpoints limits) j h
+
+  flags-held : (face : List ℕ) (j flags : ℕ) → heldAt face (addressAt limits j) ≡ flags → 0 < flags → flagsAt limits face 0x81 j ≡ flags
+  unfolding flagsAt
+  flags-held face j flags e h = rw (e, ne-eqb flags 0 (omega arith))
+
+  same-flags : (j : ℕ) → heldAt (faceSet .face) (addressAt limits j) ≡ heldAt (c .face) (addressAt limits j) → flagsAt limits (faceSet .face) 0x81 j ≡ flagsAt limits (c .face) 0x81 j
+  unfolding flagsAt
+  same-flags j e = rw e
+
+  face-back : controlRefusal (c .profile) true 0x06 ≡ 0 → setRefusal (c .profile) 0x06 payload ≡ 0 → length payload ≡ takes (c .profile) 0x06 payload → FaceReadsBack c faceSet payload
+  unfolding setGives
+  face-back r z n =
+      let v = formed-profile c (o .formed) in
+      let f = valid-face (c .profile) v (control-there (c .profile) true 0x06 r) in
+      let t = entry-taken (c .profile) payload v r z in
+      let a = after c (o .places) payload (getD payload 0 0) t in
+      let m = face-sized limits payload n in
+      let listed : (i j : ℕ) → i < getD payload 0 0 → addressAt limits j ≡ entryAddress payload i → flagsAt limits (faceSet .face) 0x81 j ≡ entryFlags payload i =
+          λ i j h q. flags-held (faceSet .face) j _ (ap (heldAt (faceSet .face)) q ∙ a .named i h) (t i h .some) in
+      record {
+        entries = a .named;
+        place = λ i h. place-at limits (entryAddress payload i) (t i h .known);
+        listed = listed;
+        bytes = λ i j h k q. cur-entry j k ∙ ap₂ entryOf q (listed i j h q) ∙ sym (payload-entry payload i b (omega arith));
+        others = a .other;
+        unnamed = λ j h no.
+            cur-entry j h
+            ∙ ap (entryOf (addressAt limits j)) (same-flags j (a .other (addressAt limits j) (place-listed limits f j (omega arith) .first) no))
+            ∙ sym (old-entry j h);
+      }
+
+-- GET_CUR after an accepted SET of a selector's control answers in full the bytes that were set; throttle's last twelve are the profile's limits.
+pub record ReadsBack (c d : Camera) (selector : ℕ) (payload : List ℕ) : Type 0 where
+  pub known : Control selector
+  pub of-ev : selector ≡ 0x03 → answerOf d 0x03 0x81 ≡ payload
+  pub of-face : selector ≡ 0x06 → FaceReadsBack c d payload
+  pub of-metadata : selector ≡ 0x09 → answerOf d 0x09 0x81 ≡ payload
+  pub of-hdr : selector ≡ 0x0D → answerOf d 0x0D 0x81 ≡ payload
+  pub of-throttle : selector ≡ 0x0E
+      → answerOf d 0x0E 0x81 ≡ take 8 payload ++ bytesOf 4 (c .profile .throttle .minimum) ++ bytesOf 4 (c .profile .throttle .maximum) ++ bytesOf 4 (c .profile .throttle .step)
+
+set-next : (c : Camera) → Ok (c .profile) c → (s payload reply : List ℕ) → setAccepted (c .profile) (c .streaming) s payload ≡ true
+    → next c (request s payload reply) ≡ puts c (setGives (c .profile) (selectorOf s) payload)
+unfolding gives
+set-next c o s payload reply a = request-next c s payload reply (o .formed) ∙ rw a
+
+pub set-then-get : (c : Camera) → Ok (c .profile) c → (s payload reply : List ℕ) → Bytes payload → isSetRequest s ≡ true → outcome c (request s payload reply) .code ≡ 0
+    → ReadsBack c (next c (request s payload reply)) (selectorOf s) payload
+set-then-get c o s payload reply b i e =
+    let p = c .profile in
+    let a : setAccepted p (c .streaming) s payload ≡ true = set-answer c s payload (length reply) (o .formed) i ∙ eq-eqb _ 0 e in
+    let n = accepted-length p (c .streaming) s payload a in
+    let z = accepted-values p (c .streaming) s payload a in
+    let k = accepted-control p (c .streaming) s payload a in
+    let r = set-control p (c .streaming) s payload a in
+    let d = next c (request s payload reply) in
+    let left : (selector : ℕ) → selectorOf s ≡ selector → puts c (setGives p selector payload) ≡ d =
+        λ selector q. ap (λ (m : ℕ). puts c (setGives p m payload)) (sym q) ∙ sym (set-next c o s payload reply a) in
+    record {
+      known = control-known (p .controls) (selectorOf s) (valid-presence p (formed-profile c (o .formed))) (k .0);
+      of-ev = λ q. subst (λ d. answerOf d 0x03 0x81 ≡ payload) (left 0x03 q) (ev-back c payload b (rw q at z) (rw q at n));
+      of-face = λ q. subst (λ d. FaceReadsBack c d payload) (left 0x06 q) (face-back c o payload b (rw q at r) (rw q at z) (rw q at n));
+      of-metadata = λ q. subst (λ d. answerOf d 0x09 0x81 ≡ payload) (left 0x09 q) (metadata-back c payload b (rw q at z) (rw q at n) (rw q at (k .1)));
+      of-hdr = λ q. subst (λ d. answerOf d 0x0D 0x81 ≡ payload) (left 0x0D q) (hdr-back c payload b (rw q at z) (rw q at n));
+      of-throttle = λ q. ap (λ d. answerOf d 0x0E 0x81) (sym (left 0x0E q)) ∙ throttle-back c payload b (rw q at z) (rw q at n);
+    }

@@ -6,9 +6,9 @@ use Prim.Native.Nat.{ℕ, zero, suc, _+_, _-_, _*_, _≤_, _<_}
 use native.Mathlib.Nat.{add-zero}
 use native.Mathlib.Numerals.{add-one}
 use native.Mathlib.Omega.{arith}
-use lib.Dec.{eqb, lit<}
-use lib.ListN.{length, getD, take}
-use lib.Seq.{take-add}
+use lib.Dec.{eqb, leb, lit<}
+use lib.ListN.{length, getD, take, drop, length-drop}
+use lib.Seq.{drop-cons, drop-drop, drop-at, drop-append-le, take-add, take-append-le}
 use borrow.Author.Tests.{eq-eqb, ne-eqb, eqb-true, eqb-false}
 use Rattle.wire.specs.Number.{leAt, bytesOf}
 use Rattle.wire.proofs.Laws.Numbers.{Bytes}
@@ -16,17 +16,17 @@ use Rattle.controls.specs.declared.settings.Item.{Item}
 use Rattle.controls.specs.declared.settings.Item.the-variants.{Given}
 use Rattle.controls.specs.declared.settings.Setting.{Setting}
 use Rattle.controls.specs.declared.settings.Setting.the-variants as S
-use Rattle.controls.specs.declared.throttle.ThrottleLimits.{ThrottleLimits}
+use Rattle.controls.specs.declared.face.FaceLimits.{FaceLimits}
 use Rattle.controls.specs.Answers.{answerBy}
 use Rattle.controls.specs.Settings.{itemOf, numberOr}
 use Rattle.controls.specs.Ev.{evFlags, evValue, evRefusal, evItem, evHeld, evAt, evAnswer}
-use Rattle.controls.specs.Face.{entryAddress, entryFlags, seenIn, seenBefore, faceItem, heldAt}
+use Rattle.controls.specs.Face.{endpoints, addressAt, offersAt, offersFrom, offersOf, takesFace, entryAddress, entryFlags, seenIn, seenBefore, faceItem, entryOf, heldAt, flagsAt, entriesOf}
 use Rattle.controls.specs.Metadata.{metadataItem, metadataAt, metadataAnswer}
 use Rattle.controls.specs.Hdr.{hdrItem, hdrAt, hdrAnswer}
 use Rattle.controls.specs.Throttle.{throttleItem, throttleHeld, throttleAt, throttleBytes, throttleAnswer}
 use Rattle.controls.proofs.Laws.Numbers.{bytes-at}
 use Rattle.controls.proofs.Laws.Ev.{ev-bytes}
-use Rattle.controls.proofs.Laws.Face.{accepted}
+use Rattle.controls.proofs.Laws.Face.{accepted, length-entries}
 use Rattle.controls.proofs.Laws.Plain.{word-bytes}
 use Rattle.camera.specs.declared.profile.Profile.{Profile}
 use Rattle.camera.specs.declared.record.Camera.{Camera}
@@ -102,6 +102,7 @@ pub record Taken (p : Profile) (payload : List ℕ) (i : ℕ) : Type 0 where
   pub last : entryAddress payload i ≤ 0x8F
   pub some : 0 < entryFlags payload i
   pub new : seenBefore payload i ≡ false
+  pub known : offersOf (p .face) (entryAddress payload i) ≡ 0 → ⊥
 
 pub entry-taken : (p : Profile) (payload : List ℕ) → profileValid p ≡ true → controlRefusal p true 0x06 ≡ 0 → setRefusal p 0x06 payload ≡ 0
     → (i : ℕ) → i < getD payload 0 0 → Taken p payload i
@@ -111,7 +112,8 @@ entry-taken p payload v r z i h =
     let g : itemAt p 0x06 payload i ≡ Given s =
         taken _ s (ap (λ (j : ℕ). codeOf (itemAt p 0x06 payload j)) (sym (add-zero i)) ∙ none-refused (getD payload 0 0) 0 (itemAt p 0x06 payload) z i h) in
     let proper = item-good p v payload i s 0x06 face r g .proper in
-    record { given = g; first = proper .0; last = proper .1; some = proper .2; new = accepted (p .face) payload i _ _ g .new }
+    let x = accepted (p .face) payload i _ _ g in
+    record { given = g; first = proper .0; last = proper .1; some = proper .2; new = x .new; known = x .known }
 
 -- entries taken one after the other: each is held at its address, and every other address keeps its setting
 module _ (c : Camera) (l : length (c .face) ≡ 15) (payload : List ℕ) where
@@ -156,3 +158,61 @@ module _ (c : Camera) (l : length (c .face) ≡ 15) (payload : List ℕ) where
           put-face-other (faceAfter n) _ _ (x .first) (entryAddress payload i - 0x81)
           (λ k. unseen payload n n (x .new) i (omega arith) (omega (arith, x .first, y .first)))
           ∙ b .named i (omega arith)
+
+-- the eight bytes of entry i, in a payload as in an answer that lists every endpoint
+abbrev pub entryBytes : List ℕ → ℕ → List ℕ
+entryBytes s i = take 8 (drop (1 + 8 * i) s)
+
+-- of a payload: its address and its flags
+pub payload-entry : (payload : List ℕ) (i : ℕ) → Bytes payload → 9 + 8 * i ≤ length payload → entryBytes payload i ≡ entryOf (entryAddress payload i) (entryFlags payload i)
+payload-entry payload i b h =
+    let e : suc (1 + 8 * i) ≡ 2 + 8 * i = omega arith in
+    ap (take 8) (drop-cons payload (1 + 8 * i) 0 (omega arith) ∙ ap (λ (n : ℕ). entryAddress payload i ∷ drop n payload) e)
+    ∙ ap (λ r. entryAddress payload i ∷ r) (sym (bytes-at 7 payload (2 + 8 * i) (omega arith) b))
+
+-- of an answer: its place's
+module _ (l : FaceLimits) (held : List ℕ) (code : ℕ) where
+  place-entry : (n j : ℕ) → j < n → take 8 (drop (8 * j) (entriesOf l held code n)) ≡ entryOf (addressAt l j) (flagsAt l held code j)
+  unfolding entriesOf bytesOf
+  place-entry zero j h = absurd (omega arith)
+  place-entry (suc n) j h = go (eqb j n) refl (place-entry n j)
+    where
+      go : (b : Bool) → eqb j n ≡ b → (j < n → take 8 (drop (8 * j) (entriesOf l held code n)) ≡ entryOf (addressAt l j) (flagsAt l held code j))
+          → take 8 (drop (8 * j) (entriesOf l held code (suc n))) ≡ entryOf (addressAt l j) (flagsAt l held code j)
+      go true e ih =
+          let q : j ≡ n = eqb-true j n e in
+          rw q (ap (take 8) (drop-at (entriesOf l held code n) (entryOf (addressAt l n) (flagsAt l held code n)) (8 * n) (length-entries l held code n)))
+      go false e ih =
+          let q = eqb-false j n e in
+          let m = length-entries l held code n in
+          ap (take 8) (drop-append-le (8 * j) (entriesOf l held code n) _ (omega arith))
+          ∙ take-append-le 8 (drop (8 * j) (entriesOf l held code n)) _ (simp length-drop (omega arith))
+          ∙ ih (omega arith)
+
+  pub answer-entry : (m n j : ℕ) → j < n → entryBytes (m ∷ entriesOf l held code n) j ≡ entryOf (addressAt l j) (flagsAt l held code j)
+  answer-entry m n j h = ap (take 8) (sym (drop-drop (8 * j) 1 (m ∷ entriesOf l held code n))) ∙ place-entry n j h
+
+-- an address that offers flags is an endpoint's
+place-of : (l : FaceLimits) (address n i : ℕ) → (offersFrom l address n i ≡ 0 → ⊥) → (j : ℕ) × ((j < i + n) × (addressAt l j ≡ address))
+unfolding offersFrom
+place-of l address zero i h = absurd (h refl)
+place-of l address (suc n) i h = go (eqb (addressAt l i) address) refl h (place-of l address n (suc i))
+  where
+    go : (b : Bool) → eqb (addressAt l i) address ≡ b → (cond b (offersAt l i) (offersFrom l address n (suc i)) ≡ 0 → ⊥)
+        → ((offersFrom l address n (suc i) ≡ 0 → ⊥) → (j : ℕ) × ((j < suc i + n) × (addressAt l j ≡ address))) → (j : ℕ) × ((j < i + suc n) × (addressAt l j ≡ address))
+    go true e q ih = (i, (omega arith, eqb-true (addressAt l i) address e))
+    go false e q ih = let r = ih q in (r .0, (let b = r .1 .0 in omega arith, r .1 .1))
+
+pub place-at : (l : FaceLimits) (address : ℕ) → (offersOf l address ≡ 0 → ⊥) → (j : ℕ) × ((j < endpoints l) × (addressAt l j ≡ address))
+unfolding offersOf
+place-at l address h = let r = place-of l address (endpoints l) 0 h in (r .0, (let b = r .1 .0 in omega arith, r .1 .1))
+
+-- an accepted payload has as many bytes as its first byte says
+pub face-sized : (l : FaceLimits) (payload : List ℕ) → length payload ≡ takesFace l payload → length payload ≡ 1 + 8 * getD payload 0 0
+unfolding takesFace
+face-sized l [] e = absurd (omega arith)
+face-sized l (n ∷ rest) e = go (leb n (l .count)) e
+  where
+    go : (b : Bool) → length (n ∷ rest) ≡ cond b (1 + 8 * n) 0 → length (n ∷ rest) ≡ 1 + 8 * n
+    go true q = q
+    go false q = absurd (omega arith)
