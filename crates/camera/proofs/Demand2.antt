@@ -1,16 +1,19 @@
 -- The owner's demand 2 on the camera: new settings, GET_CUR, LEN, and what is written reads back. Assumes nothing.
 use mathlib.Core.Path.{_≡_, refl, ap, ap₂, sym, _∙_, subst}
 use mathlib.Core.List.{List, [], _∷_, _++_}
-use mathlib.Core.Option.{Option, none, some}
+use mathlib.Core.Option.{Option, none, some, Option·map}
 use mathlib.Core.Bool.{Bool, true, false, cond, not, _&&_}
-use Prim.Native.Nat.{ℕ, _+_, _-_, _*_, _≤_, _<_}
+use Prim.Native.Nat.{ℕ, _+_, _-_, _*_, _≤_, _<_, min}
 use native.Mathlib.Omega.{arith}
 use lib.Dec.{eqb, ltb, leb}
-use lib.ListN.{length, getD, take, List·getD-eq-default}
+use lib.ListN.{length, getD, take, drop, List·getD-eq-default}
 use borrow.Author.Tests.{eq-eqb, ne-eqb, eqb-true, eqb-false, ltb-true, ltb-false, le-leb}
 use Rattle.wire.specs.Number.{bytesOf}
 use Rattle.wire.proofs.Laws.Numbers.{Bytes}
-use Rattle.request.specs.Setup.{isSetRequest, selectorOf}
+use Rattle.request.specs.Setup.{isSetRequest, selectorOf, wLengthOf}
+use Rattle.snapshot.specs.Form as form
+use Rattle.snapshot.specs.Records.{decode}
+use Rattle.snapshot.specs.Records as records
 use Rattle.snapshot.specs.Merge.{over}
 use Rattle.snapshot.specs.Settings.{lastOf}
 use Rattle.controls.specs.declared.ev.Ev.{Ev}
@@ -33,17 +36,18 @@ use Rattle.camera.specs.declared.profile.Profile.{Profile}
 use Rattle.camera.specs.declared.record.Camera.{Camera}
 use Rattle.camera.specs.Profile.{has, takes}
 use Rattle.camera.specs.Record.{fresh, evHeld, faceHeld, numberHeld, throttleHeld, held, controlRefusal, wellFormed}
-use Rattle.camera.specs.Items.{puts, setRefusal, setGives}
-use Rattle.camera.specs.Requests.{answerOf, requested}
-use Rattle.camera.specs.Snapshots.{selectorAt, loadGives}
-use Rattle.camera.specs.Calls.{Call, request, stream, load, write, sense, outcome, next}
-use Rattle.camera.specs.Demand.{setAccepted, gives, leaves}
+use Rattle.camera.specs.Items.{settingOf, puts, setRefusal, setGives}
+use Rattle.camera.specs.Requests.{answerOf, asked, sentCount, requestCode, requestDone, requested, replied}
+use Rattle.camera.specs.Snapshots.{selectorAt, itemFor, loadItem, loadGives, row, snapshot}
+use Rattle.camera.specs.Calls.{Call, request, stream, load, write, sense, outcome, left, next}
+use Rattle.camera.specs.Demand.{setAccepted, gives, leaves, Typed, Written}
 use Rattle.camera.proofs.Laws.Held.{held-face, fresh-held, puts-profile}
 use Rattle.camera.proofs.Laws.Kept.{formed-profile, valid-presence, valid-face, control-there}
 use Rattle.camera.proofs.Laws.ReadBack.{entryBytes, ev-back, metadata-back, hdr-back, throttle-back, entry-taken, after, payload-entry, answer-entry, place-at, face-sized}
 use Rattle.camera.proofs.Laws.Selectors.{Control, control-known}
 use Rattle.camera.proofs.Laws.Selectors as selectors
-use Rattle.camera.proofs.Laws.Steps.{Ok, step, set-answer, load-answer, refused-none, request-next, accepted-control, accepted-length, accepted-values, set-control}
+use Rattle.camera.proofs.Laws.Steps.{Ok, step, outcome-code, set-answer, load-answer, refused-none, request-next, accepted-control, accepted-length, accepted-values, set-control}
+use Rattle.camera.proofs.Demand3.{writes, snapshot-decodes, snapshot-formed, written-item, good-at}
 
 -- New settings. What any call leaves of a record that is not refused 0x21: of each key the last setting that the call gives, else the one
 -- held, and the streaming flag of a notice. An accepted SET gives its payload's settings, an accepted load its records', a refused call none.
@@ -252,4 +256,37 @@ set-then-get c o s payload reply b i e =
       of-metadata = λ q. subst (λ d. answerOf d 0x09 0x81 ≡ payload) (left 0x09 q) (metadata-back c payload b (rw q at z) (rw q at n) (rw q at (k .1)));
       of-hdr = λ q. subst (λ d. answerOf d 0x0D 0x81 ≡ payload) (left 0x0D q) (hdr-back c payload b (rw q at z) (rw q at n));
       of-throttle = λ q. ap (λ d. answerOf d 0x0E 0x81) (sym (left 0x0E q)) ∙ throttle-back c payload b (rw q at z) (rw q at n);
+    }
+
+-- What is sent of an answer: an accepted GET reports and writes the first min(wLength, full length) bytes, and leaves the rest of the buffer and the record.
+pub record Answers (c : Camera) (s payload reply : List ℕ) : Type 0 where
+  pub count : outcome c (request s payload reply) .count ≡ min (wLengthOf s) (length (asked c s))
+  pub buffer : left c (request s payload reply) ≡ take (min (wLengthOf s) (length (asked c s))) (asked c s) ++ drop (min (wLengthOf s) (length (asked c s))) reply
+  pub camera : next c (request s payload reply) ≡ c
+
+pub get-answers : (c : Camera) (s payload reply : List ℕ) → isSetRequest s ≡ false → outcome c (request s payload reply) .code ≡ 0 → Answers c s payload reply
+unfolding requested requestDone replied
+get-answers c s payload reply i e =
+    let z : requestDone c s payload .code ≡ 0 = rw i in
+    let n = eq-eqb _ 0 (sym (outcome-code (requestCode c s payload (length reply)) c (requestDone c s payload) z) ∙ e) in
+    let done : outcome c (request s payload reply) ≡ record { code = 0; count = sentCount c s; camera = c } = rw (n, i) in
+    record { count = ap (λ o. o .count) done; buffer = rw (n, i); camera = ap (λ o. o .camera) done }
+
+-- A written snapshot reads back: it is well formed, has the record of every setting held and no other, and each record read as a SET is that
+-- setting again. With room for it, writing leaves these bytes.
+pub record SnapshotReadsBack (c : Camera) : Type 0 where
+  pub formed : form.wellFormed (snapshot c) ≡ true
+  pub records : (k : ℕ) → decode (snapshot c) k ≡ Option·map (row k) (held c k)
+  pub settings : (k : ℕ) → settingOf (loadItem (c .profile) true (snapshot c) k) ≡ held c k
+  pub written : (out : List ℕ) → length (snapshot c) ≤ length out → Written c (snapshot c) out
+
+pub snapshot-read-back : (c : Camera) → wellFormed c ≡ true → Typed c → SnapshotReadsBack c
+snapshot-read-back c w t =
+    let g : records.Good (λ k. Option·map (row k) (held c k)) = λ k. good-at c w t k (held c k) refl in
+    let d = snapshot-decodes c g in
+    record {
+      formed = snapshot-formed c g;
+      records = λ k. ap (λ m. m k) d;
+      settings = λ k. ap (λ m. settingOf (itemFor (c .profile) true k (m k))) d ∙ written-item c w t k (held c k) refl;
+      written = λ out h. writes c out w h;
     }

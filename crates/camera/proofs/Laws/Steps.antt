@@ -52,7 +52,7 @@ set-code c s payload room w e =
     rw w (first-quiet (requestTests (table (c .profile)) s payload ++ valueTests (c .profile) (c .streaming) s payload) _ last)
 
 -- a call's number is that of its tests
-outcome-code : (code : ℕ) (c : Camera) (done : Outcome) → done .code ≡ 0 → outcomeBy code c done .code ≡ code
+pub outcome-code : (code : ℕ) (c : Camera) (done : Outcome) → done .code ≡ 0 → outcomeBy code c done .code ≡ code
 outcome-code code c done z = go (eqb code 0) refl
   where
     go : (b : Bool) → eqb code 0 ≡ b → cond b done (refused code c) .code ≡ code
