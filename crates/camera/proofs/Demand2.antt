@@ -2,15 +2,16 @@
 use mathlib.Core.Path.{_≡_, refl, ap, ap₂, sym, _∙_, subst}
 use mathlib.Core.List.{List, [], _∷_, _++_}
 use mathlib.Core.Option.{Option, none, some, Option·map}
-use mathlib.Core.Bool.{Bool, true, false, cond, not, _&&_}
+use mathlib.Core.Bool.{Bool, true, false, cond, not, _&&_, and-eq-true-iff}
 use Prim.Native.Nat.{ℕ, _+_, _-_, _*_, _≤_, _<_, min}
 use native.Mathlib.Omega.{arith}
 use lib.Dec.{eqb, ltb, leb}
 use lib.ListN.{length, getD, take, drop, List·getD-eq-default}
-use borrow.Author.Tests.{eq-eqb, ne-eqb, eqb-true, eqb-false, ltb-true, ltb-false, le-leb}
+use borrow.Author.Tests.{eq-eqb, ne-eqb, eqb-true, eqb-false, ltb-true, ltb-false, le-leb, le-ltb}
 use Rattle.wire.specs.Number.{bytesOf}
 use Rattle.wire.proofs.Laws.Numbers.{Bytes}
-use Rattle.request.specs.Setup.{isSetRequest, selectorOf, wLengthOf}
+use Rattle.request.specs.Setup.{typeOf, codeOf, valueLow, selectorOf, wLengthOf, isSetRequest, isGetRequest}
+use Rattle.request.specs.Tests.{requestTests, addressed}
 use Rattle.snapshot.specs.Form as form
 use Rattle.snapshot.specs.Records.{decode}
 use Rattle.snapshot.specs.Records as records
@@ -34,10 +35,10 @@ use Rattle.controls.specs.Throttle as throttle
 use Rattle.controls.proofs.Laws.Face.{place-listed, fresh-answer, len-answer, len-taken, len-longest}
 use Rattle.camera.specs.declared.profile.Profile.{Profile}
 use Rattle.camera.specs.declared.record.Camera.{Camera}
-use Rattle.camera.specs.Profile.{has, takes}
+use Rattle.camera.specs.Profile.{has, takes, table}
 use Rattle.camera.specs.Record.{fresh, evHeld, faceHeld, numberHeld, throttleHeld, held, controlRefusal, wellFormed}
 use Rattle.camera.specs.Items.{settingOf, puts, setRefusal, setGives}
-use Rattle.camera.specs.Requests.{answerOf, asked, sentCount, requestCode, requestDone, requested, replied}
+use Rattle.camera.specs.Requests.{answerOf, asked, sentCount, valueTests, requestRows, requestCode, requestDone, requested, replied}
 use Rattle.camera.specs.Snapshots.{selectorAt, itemFor, loadItem, loadGives, row, snapshot}
 use Rattle.camera.specs.Calls.{Call, request, stream, load, write, sense, outcome, left, next}
 use Rattle.camera.specs.Demand.{setAccepted, gives, leaves, Typed, Written}
@@ -258,19 +259,45 @@ set-then-get c o s payload reply b i e =
       of-throttle = λ q. ap (λ d. answerOf d 0x0E 0x81) (sym (left 0x0E q)) ∙ throttle-back c payload b (rw q at z) (rw q at n);
     }
 
--- What is sent of an answer: an accepted GET reports and writes the first min(wLength, full length) bytes, and leaves the rest of the buffer and the record.
-pub record Answers (c : Camera) (s payload reply : List ℕ) : Type 0 where
-  pub count : outcome c (request s payload reply) .count ≡ min (wLengthOf s) (length (asked c s))
-  pub buffer : left c (request s payload reply) ≡ take (min (wLengthOf s) (length (asked c s))) (asked c s) ++ drop (min (wLengthOf s) (length (asked c s))) reply
+-- What is sent of a full answer: the first min(wLength, full length) bytes, reported and at the buffer's start; the rest of the buffer and the
+-- record are as they were.
+pub record Sends (c : Camera) (s payload reply full : List ℕ) : Type 0 where
+  pub count : outcome c (request s payload reply) .count ≡ min (wLengthOf s) (length full)
+  pub buffer : left c (request s payload reply) ≡ take (min (wLengthOf s) (length full)) full ++ drop (min (wLengthOf s) (length full)) reply
   pub camera : next c (request s payload reply) ≡ c
 
-pub get-answers : (c : Camera) (s payload reply : List ℕ) → isSetRequest s ≡ false → outcome c (request s payload reply) .code ≡ 0 → Answers c s payload reply
+-- every accepted GET sends its full answer so
+pub get-sends : (c : Camera) (s payload reply : List ℕ) → isSetRequest s ≡ false → outcome c (request s payload reply) .code ≡ 0 → Sends c s payload reply (asked c s)
 unfolding requested requestDone replied
-get-answers c s payload reply i e =
+get-sends c s payload reply i e =
     let z : requestDone c s payload .code ≡ 0 = rw i in
     let n = eq-eqb _ 0 (sym (outcome-code (requestCode c s payload (length reply)) c (requestDone c s payload) z) ∙ e) in
     let done : outcome c (request s payload reply) ≡ record { code = 0; count = sentCount c s; camera = c } = rw (n, i) in
     record { count = ap (λ o. o .count) done; buffer = rw (n, i); camera = ap (λ o. o .camera) done }
+
+-- A GET's setup for a control of the profile; with no payload and room it is accepted.
+pub record Gets (p : Profile) (s : List ℕ) : Type 0 where
+  pub eight : length s ≡ 8
+  pub addresses : addressed (table p) s ≡ true
+  pub present : has p (selectorOf s) ≡ true
+  pub low : valueLow s ≡ 0
+  pub get : isGetRequest s ≡ true
+
+get-no-set : (s : List ℕ) → isGetRequest s ≡ true → isSetRequest s ≡ false
+get-no-set s h =
+    let q = simp and-eq-true-iff at h in
+    let t : typeOf s ≡ 0xA1 = eqb-true (typeOf s) 0xA1 (q .0 .0) in
+    rw t
+
+pub get-accepted : (c : Camera) → wellFormed c ≡ true → (s reply : List ℕ) → Gets (c .profile) s → min (wLengthOf s) (length (asked c s)) ≤ length reply
+    → outcome c (request s [] reply) .code ≡ 0
+unfolding requested requestDone requestCode requestRows requestTests valueTests
+get-accepted c w s reply g h =
+    let i = get-no-set s (g .get) in
+    let z : requestDone c s [] .code ≡ 0 = rw i in
+    let n : requestCode c s [] (length reply) ≡ 0 =
+        rw (w, eq-eqb (length s) 8 (g .eight), g .addresses, g .present, eq-eqb (valueLow s) 0 (g .low), i, g .get, le-ltb (length reply) (sentCount c s) h) in
+    outcome-code (requestCode c s [] (length reply)) c (requestDone c s []) z ∙ n
 
 -- A written snapshot reads back: it is well formed, has the record of every setting held and no other, and each record read as a SET is that
 -- setting again. With room for it, writing leaves these bytes.
