@@ -44,7 +44,7 @@ use Rattle.camera.specs.Calls.{Call, request, stream, load, write, sense
 use Rattle.camera.specs.Demand.{setAccepted, gives, leaves, Typed, Written}
 use Rattle.camera.proofs.Laws.Held.{held-face, fresh-held, puts-profile}
 use Rattle.camera.proofs.Laws.Kept.{formed-profile, valid-presence, valid-face, control-there}
-use Rattle.camera.proofs.Laws.ReadBack.{entryBytes, ev-back, metadata-back, hdr-back, throttle-back, entry-taken, after, payload-entry, answer-entry, place-at, face-sized}
+use Rattle.camera.proofs.Laws.ReadBack.{bytesBack, answer-back, entryBytes, entry-taken, after, payload-entry, answer-entry, place-at, face-sized}
 use Rattle.camera.proofs.Laws.Selectors.{Control, control-known}
 use Rattle.camera.proofs.Laws.Selectors as selectors
 use Rattle.camera.proofs.Laws.Steps.{Ok, step, outcome-code, set-answer, load-answer, refused-none, request-next, accepted-control, accepted-length, accepted-values, set-control}
@@ -223,15 +223,12 @@ module _ (c : Camera) (o : Ok (c .profile) c) (payload : List ℕ) (b : Bytes pa
             ∙ sym (old-entry j h);
       }
 
--- GET_CUR after an accepted SET of a selector's control answers in full the bytes that were set; throttle's last twelve are the profile's limits.
+-- What an accepted SET of a control makes of the record c: d, whose full answer to GET_CUR is the bytes that were set; a throttle's last twelve
+-- are the profile's limits.
 pub record ReadsBack (c d : Camera) (selector : ℕ) (payload : List ℕ) : Type 0 where
   pub known : Control selector
-  pub of-ev : selector ≡ 0x03 → answerOf d 0x03 0x81 ≡ payload
+  pub answer : (selector ≡ 0x06 → ⊥) → answerOf d selector 0x81 ≡ bytesBack (c .profile) selector payload
   pub of-face : selector ≡ 0x06 → FaceReadsBack c d payload
-  pub of-metadata : selector ≡ 0x09 → answerOf d 0x09 0x81 ≡ payload
-  pub of-hdr : selector ≡ 0x0D → answerOf d 0x0D 0x81 ≡ payload
-  pub of-throttle : selector ≡ 0x0E
-      → answerOf d 0x0E 0x81 ≡ take 8 payload ++ bytesOf 4 (c .profile .throttle .minimum) ++ bytesOf 4 (c .profile .throttle .maximum) ++ bytesOf 4 (c .profile .throttle .step)
 
 set-next : (c : Camera) → Ok (c .profile) c → (s payload reply : List ℕ) → setAccepted (c .profile) (c .streaming) s payload ≡ true
     → next c (request s payload reply) ≡ puts c (setGives (c .profile) (selectorOf s) payload)
@@ -245,18 +242,14 @@ set-then-get c o s payload reply b i e =
     let a : setAccepted p (c .streaming) s payload ≡ true = set-answer c s payload (length reply) (o .formed) i ∙ eq-eqb _ 0 e in
     let n = accepted-length p (c .streaming) s payload a in
     let z = accepted-values p (c .streaming) s payload a in
-    let k = accepted-control p (c .streaming) s payload a in
+    let h = accepted-control p (c .streaming) s payload a in
     let r = set-control p (c .streaming) s payload a in
-    let d = next c (request s payload reply) in
-    let left : (selector : ℕ) → selectorOf s ≡ selector → puts c (setGives p selector payload) ≡ d =
-        λ selector q. ap (λ (m : ℕ). puts c (setGives p m payload)) (sym q) ∙ sym (set-next c o s payload reply a) in
+    let k = control-known (p .controls) (selectorOf s) (valid-presence p (formed-profile c (o .formed))) (h .0) in
+    let d : next c (request s payload reply) ≡ puts c (setGives p (selectorOf s) payload) = set-next c o s payload reply a in
     record {
-      known = control-known (p .controls) (selectorOf s) (valid-presence p (formed-profile c (o .formed))) (k .0);
-      of-ev = λ q. subst (λ d. answerOf d 0x03 0x81 ≡ payload) (left 0x03 q) (ev-back c payload b (rw q at z) (rw q at n));
-      of-face = λ q. subst (λ d. FaceReadsBack c d payload) (left 0x06 q) (face-back c o payload b (rw q at r) (rw q at z) (rw q at n));
-      of-metadata = λ q. subst (λ d. answerOf d 0x09 0x81 ≡ payload) (left 0x09 q) (metadata-back c payload b (rw q at z) (rw q at n) (rw q at (k .1)));
-      of-hdr = λ q. subst (λ d. answerOf d 0x0D 0x81 ≡ payload) (left 0x0D q) (hdr-back c payload b (rw q at z) (rw q at n));
-      of-throttle = λ q. ap (λ d. answerOf d 0x0E 0x81) (sym (left 0x0E q)) ∙ throttle-back c payload b (rw q at z) (rw q at n);
+      known = k;
+      answer = λ m. ap (λ d. answerOf d (selectorOf s) 0x81) d ∙ answer-back c payload b (selectorOf s) k m (h .1) z n;
+      of-face = λ q. subst (λ d. FaceReadsBack c d payload) (sym (d ∙ ap (λ (m : ℕ). puts c (setGives p m payload)) q)) (face-back c o payload b (rw q at r) (rw q at z) (rw q at n));
     }
 
 -- What is sent of a full answer: the first min(wLength, full length) bytes, reported and at the buffer's start; the rest of the buffer and the
@@ -298,6 +291,19 @@ get-accepted c w s reply g h =
     let n : requestCode c s [] (length reply) ≡ 0 =
         rw (w, eq-eqb (length s) 8 (g .eight), g .addresses, g .present, eq-eqb (valueLow s) 0 (g .low), i, g .get, le-ltb (length reply) (sentCount c s) h) in
     outcome-code (requestCode c s [] (length reply)) c (requestDone c s []) z ∙ n
+
+-- Call by call: after an accepted SET, GET_CUR of its control is accepted, given room, and sends the bytes that were set.
+pub round-trip : (c : Camera) → Ok (c .profile) c → (s payload reply : List ℕ) → Bytes payload → isSetRequest s ≡ true → outcome c (request s payload reply) .code ≡ 0
+    → (selectorOf s ≡ 0x06 → ⊥) → (g buffer : List ℕ) → Gets (c .profile) g → codeOf g ≡ 0x81 → selectorOf g ≡ selectorOf s
+    → min (wLengthOf g) (length (bytesBack (c .profile) (selectorOf s) payload)) ≤ length buffer
+    → let d = next c (request s payload reply) in
+      (outcome d (request g [] buffer) .code ≡ 0) × Sends d g [] buffer (bytesBack (c .profile) (selectorOf s) payload)
+round-trip c o s payload reply b i e m g buffer x q f h =
+    let d = next c (request s payload reply) in
+    let t = step (c .profile) c o (request s payload reply) .ok in
+    let full : asked d g ≡ bytesBack (c .profile) (selectorOf s) payload = ap₂ (answerOf d) f q ∙ set-then-get c o s payload reply b i e .answer m in
+    let z = get-accepted d (t .formed) g buffer (subst (λ p. Gets p g) (sym (t .profile)) x) (rw full h) in
+    (z, subst (λ l. Sends d g [] buffer l) full (get-sends d g [] buffer (get-no-set g (x .get)) z))
 
 -- A written snapshot reads back: it is well formed, has the record of every setting held and no other, and each record read as a SET is that
 -- setting again. With room for it, writing leaves these bytes.

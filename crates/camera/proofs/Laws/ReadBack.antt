@@ -30,7 +30,7 @@ use Rattle.controls.proofs.Laws.Face.{accepted, length-entries}
 use Rattle.controls.proofs.Laws.Plain.{word-bytes}
 use Rattle.camera.specs.declared.profile.Profile.{Profile}
 use Rattle.camera.specs.declared.record.Camera.{Camera}
-use Rattle.camera.specs.Profile.{profileValid}
+use Rattle.camera.specs.Profile.{settable, takes, profileValid}
 use Rattle.camera.specs.Record.{putFace, put, controlRefusal}
 use Rattle.camera.specs.Items.{codeOf, givenOf, firstRefusal, allGiven, puts, itemAt, setRefusal, setGives}
 use Rattle.camera.specs.Requests.{answerOf}
@@ -38,7 +38,7 @@ use Rattle.camera.proofs.Laws.Held.{put-face-same, put-face-other, put-
 use Rattle.camera.proofs.Laws.Items.{none-refused, puts-next}
 use Rattle.camera.proofs.Laws.Kept.{item-good}
 use Rattle.camera.proofs.Laws.Loads.{taken}
-use Rattle.camera.proofs.Laws.Selectors.{face}
+use Rattle.camera.proofs.Laws.Selectors.{Control, ev, face, metadata, hdr, throttle}
 
 -- one item that no test refuses is put in
 one-put : (c : Camera) (item : ℕ → Item) (code : ℕ) (s : Setting) → item 0 ≡ itemOf code s → firstRefusal 1 0 item ≡ 0 → puts c (allGiven 1 0 item) ≡ put c s
@@ -47,37 +47,33 @@ one-put c item code s e z =
     let g : item 0 ≡ Given s = e ∙ taken code s (ap codeOf (sym e) ∙ none-refused 1 0 item z 0 (lit< tt)) in
     rw g
 
--- the four controls of one setting: the full answer to GET_CUR after the SET
+-- the full answer to GET_CUR once a payload is set: its bytes, but for a throttle's last twelve, which are the profile's limits
+abbrev pub bytesBack : Profile → ℕ → List ℕ → List ℕ
+bytesBack p selector payload =
+    cond (eqb selector 0x0E) (take 8 payload ++ bytesOf 4 (p .throttle .minimum) ++ bytesOf 4 (p .throttle .maximum) ++ bytesOf 4 (p .throttle .step)) payload
+
+-- the four controls of one setting
 module _ (c : Camera) (payload : List ℕ) (b : Bytes payload) where
-  pub ev-back : setRefusal (c .profile) 0x03 payload ≡ 0 → length payload ≡ 11 → answerOf (puts c (setGives (c .profile) 0x03 payload)) 0x03 0x81 ≡ payload
-  unfolding setRefusal setGives itemAt evItem answerOf put evAnswer evAt evHeld answerBy
-  ev-back z n =
+  front : 8 ≤ length payload → bytesOf 4 (leAt 4 payload 0) ++ bytesOf 4 (leAt 4 payload 4) ≡ take 8 payload
+  front n = ap₂ _++_ (bytes-at 4 payload 0 (omega arith) b) (bytes-at 4 payload 4 (omega arith) b) ∙ sym (take-add 4 4 payload)
+
+  pub answer-back : (selector : ℕ) → Control selector → (selector ≡ 0x06 → ⊥) → settable (c .profile) selector ≡ true → setRefusal (c .profile) selector payload ≡ 0
+      → length payload ≡ takes (c .profile) selector payload → answerOf (puts c (setGives (c .profile) selector payload)) selector 0x81 ≡ bytesBack (c .profile) selector payload
+  unfolding setRefusal setGives itemAt evItem metadataItem hdrItem throttleItem answerOf put answerBy evAnswer evAt evHeld metadataAnswer metadataAt hdrAnswer hdrAt numberOr throttleAnswer throttleAt throttleHeld throttleBytes
+  answer-back _ ev m w z n =
       ap (λ d. answerOf d 0x03 0x81) (one-put c (itemAt (c .profile) 0x03 payload) _ (S.Ev (record { flags = evFlags payload; value = evValue payload })) refl z)
       ∙ ev-bytes payload n b
-
-  pub metadata-back : setRefusal (c .profile) 0x09 payload ≡ 0 → length payload ≡ 4 → c .profile .metadata .writable ≡ true
-      → answerOf (puts c (setGives (c .profile) 0x09 payload)) 0x09 0x81 ≡ payload
-  unfolding setRefusal setGives itemAt metadataItem answerOf put metadataAnswer metadataAt numberOr answerBy
-  metadata-back z n w =
+  answer-back _ face m w z n = absurd (m refl)
+  answer-back _ metadata m w z n =
       ap (λ d. answerOf d 0x09 0x81) (one-put c (itemAt (c .profile) 0x09 payload) _ (S.Metadata (leAt 4 payload 0)) refl z)
       ∙ rw w (word-bytes payload n b)
-
-  pub hdr-back : setRefusal (c .profile) 0x0D payload ≡ 0 → length payload ≡ 4 → answerOf (puts c (setGives (c .profile) 0x0D payload)) 0x0D 0x81 ≡ payload
-  unfolding setRefusal setGives itemAt hdrItem answerOf put hdrAnswer hdrAt numberOr answerBy
-  hdr-back z n =
+  answer-back _ hdr m w z n =
       ap (λ d. answerOf d 0x0D 0x81) (one-put c (itemAt (c .profile) 0x0D payload) _ (S.Hdr (leAt 4 payload 0)) refl z)
       ∙ word-bytes payload n b
-
-  pub throttle-back : setRefusal (c .profile) 0x0E payload ≡ 0 → length payload ≡ 20
-      → let l = c .profile .throttle in
-        answerOf (puts c (setGives (c .profile) 0x0E payload)) 0x0E 0x81 ≡ take 8 payload ++ bytesOf 4 (l .minimum) ++ bytesOf 4 (l .maximum) ++ bytesOf 4 (l .step)
-  unfolding setRefusal setGives itemAt throttleItem answerOf put throttleAnswer throttleAt throttleHeld throttleBytes bytesOf answerBy
-  throttle-back z n =
+  answer-back _ throttle m w z n =
       let l = c .profile .throttle in
-      let front : bytesOf 4 (leAt 4 payload 0) ++ bytesOf 4 (leAt 4 payload 4) ≡ take 8 payload =
-          ap₂ _++_ (bytes-at 4 payload 0 (omega arith) b) (bytes-at 4 payload 4 (omega arith) b) ∙ sym (take-add 4 4 payload) in
       ap (λ d. answerOf d 0x0E 0x81) (one-put c (itemAt (c .profile) 0x0E payload) _ (S.Throttle (record { mode = leAt 4 payload 0; percent = leAt 4 payload 4 })) refl z)
-      ∙ ap (λ f. f ++ bytesOf 4 (l .minimum) ++ bytesOf 4 (l .maximum) ++ bytesOf 4 (l .step)) front
+      ∙ ap (λ f. f ++ bytesOf 4 (l .minimum) ++ bytesOf 4 (l .maximum) ++ bytesOf 4 (l .step)) (front (omega arith))
 
 -- an entry that is not seen before has an address of its own
 unseen : (payload : List ℕ) (i n : ℕ) → seenIn payload i n ≡ false → (j : ℕ) → j < n → entryAddress payload j ≡ entryAddress payload i → ⊥
