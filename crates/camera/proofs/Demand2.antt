@@ -1,13 +1,13 @@
 -- The owner's demand 2 on the camera: new settings, GET_CUR, LEN, and what is written reads back. Assumes nothing.
 use mathlib.Core.Path.{_≡_, refl, ap, ap₂, sym, _∙_, subst}
 use mathlib.Core.List.{List, [], _∷_, _++_}
-use mathlib.Core.Option.{Option, none, some, Option·map}
-use mathlib.Core.Bool.{Bool, true, false, cond, not, _&&_, and-eq-true-iff}
+use mathlib.Core.Option.{none, some, Option·map}
+use mathlib.Core.Bool.{Bool, true, false, cond, not, and-eq-true-iff}
 use Prim.Native.Nat.{ℕ, _+_, _-_, _*_, _≤_, _<_, min}
 use native.Mathlib.Omega.{arith}
-use lib.Dec.{eqb, ltb, leb}
+use lib.Dec.{eqb, ltb}
 use lib.ListN.{length, getD, take, drop, List·getD-eq-default}
-use borrow.Author.Tests.{eq-eqb, ne-eqb, eqb-true, eqb-false, ltb-true, ltb-false, le-leb, le-ltb}
+use borrow.Author.Tests.{eq-eqb, ne-eqb, eqb-true, ltb-true, ltb-false, le-leb, le-ltb}
 use Rattle.wire.specs.Number.{bytesOf}
 use Rattle.wire.proofs.Laws.Numbers.{Bytes}
 use Rattle.request.specs.Setup.{typeOf, codeOf, valueLow, selectorOf, wLengthOf, isSetRequest, isGetRequest}
@@ -37,10 +37,10 @@ use Rattle.camera.specs.declared.profile.Profile.{Profile}
 use Rattle.camera.specs.declared.record.Camera.{Camera}
 use Rattle.camera.specs.Profile.{has, takes, table}
 use Rattle.camera.specs.Record.{fresh, evHeld, faceHeld, numberHeld, throttleHeld, held, controlRefusal, wellFormed}
-use Rattle.camera.specs.Items.{settingOf, puts, setRefusal, setGives}
+use Rattle.camera.specs.Items.{settingOf, allGiven, puts, setRefusal, setGives}
 use Rattle.camera.specs.Requests.{answerOf, asked, sentCount, valueTests, requestRows, requestCode, requestDone, requested, replied}
 use Rattle.camera.specs.Snapshots.{selectorAt, itemFor, loadItem, loadGives, row, snapshot}
-use Rattle.camera.specs.Calls.{Call, request, stream, load, write, sense, outcome, left, next}
+use Rattle.camera.specs.Calls.{Call, request, load, outcome, left, next}
 use Rattle.camera.specs.Demand.{setAccepted, gives, leaves, Typed, Written}
 use Rattle.camera.proofs.Laws.Held.{held-face, fresh-held, puts-profile}
 use Rattle.camera.proofs.Laws.Kept.{formed-profile, valid-presence, valid-face, control-there}
@@ -58,8 +58,8 @@ pub record NewSettings (c : Camera) (call : Call) : Type 0 where
   pub profile : next c call .profile ≡ c .profile
   pub refused : (outcome c call .code ≡ 0 → ⊥) → gives (c .profile) (c .streaming) call ≡ []
 
-pub new-settings : (c : Camera) → Ok (c .profile) c → (call : Call) → NewSettings c call
-new-settings c o call =
+pub accepted-settings : (c : Camera) → Ok (c .profile) c → (call : Call) → NewSettings c call
+accepted-settings c o call =
     let s = step (c .profile) c o call in
     record { settings = s .held-after; streaming = s .streaming-after; profile = s .ok .profile; refused = refused-none c (o .formed) call }
 
@@ -174,6 +174,8 @@ pub record FaceReadsBack (c d : Camera) (payload : List ℕ) : Type 0 where
   pub others : (address : ℕ) → 0x81 ≤ address → ((i : ℕ) → i < getD payload 0 0 → entryAddress payload i ≡ address → ⊥) → heldAt (d .face) address ≡ heldAt (c .face) address
   pub unnamed : (j : ℕ) → j < endpoints (c .profile .face) → ((i : ℕ) → i < getD payload 0 0 → entryAddress payload i ≡ addressAt (c .profile .face) j → ⊥)
       → entryBytes (answerOf d 0x06 0x81) j ≡ entryBytes (answerOf c 0x06 0x81) j
+  -- no entries set nothing
+  pub empty : getD payload 0 0 ≡ 0 → d ≡ c
 
 module _ (c : Camera) (o : Ok (c .profile) c) (payload : List ℕ) (b : Bytes payload) where
   abbrev faceSet : Camera
@@ -202,7 +204,7 @@ module _ (c : Camera) (o : Ok (c .profile) c) (payload : List ℕ) (b : Bytes pa
   same-flags j e = rw e
 
   face-back : controlRefusal (c .profile) true 0x06 ≡ 0 → setRefusal (c .profile) 0x06 payload ≡ 0 → length payload ≡ takes (c .profile) 0x06 payload → FaceReadsBack c faceSet payload
-  unfolding setGives
+  unfolding setGives allGiven puts
   face-back r z n =
       let v = formed-profile c (o .formed) in
       let f = valid-face (c .profile) v (control-there (c .profile) true 0x06 r) in
@@ -210,7 +212,7 @@ module _ (c : Camera) (o : Ok (c .profile) c) (payload : List ℕ) (b : Bytes pa
       let a = after c (o .places) payload (getD payload 0 0) t in
       let m = face-sized limits payload n in
       let listed : (i j : ℕ) → i < getD payload 0 0 → addressAt limits j ≡ entryAddress payload i → flagsAt limits (faceSet .face) 0x81 j ≡ entryFlags payload i =
-          λ i j h q. flags-held (faceSet .face) j _ (ap (heldAt (faceSet .face)) q ∙ a .named i h) (t i h .some) in
+      λ i j h q. flags-held (faceSet .face) j _ (ap (heldAt (faceSet .face)) q ∙ a .named i h) (t i h .some) in
       record {
         entries = a .named;
         place = λ i h. place-at limits (entryAddress payload i) (t i h .known);
@@ -221,6 +223,7 @@ module _ (c : Camera) (o : Ok (c .profile) c) (payload : List ℕ) (b : Bytes pa
             cur-entry j h
             ∙ ap (entryOf (addressAt limits j)) (same-flags j (a .other (addressAt limits j) (place-listed limits f j (omega arith) .first) no))
             ∙ sym (old-entry j h);
+        empty = λ e. rw e;
       }
 
 -- What an accepted SET of a control makes of the record c: d, whose full answer to GET_CUR is the bytes that were set; a throttle's last twelve
@@ -289,7 +292,7 @@ get-accepted c w s reply g h =
     let i = get-no-set s (g .get) in
     let z : requestDone c s [] .code ≡ 0 = rw i in
     let n : requestCode c s [] (length reply) ≡ 0 =
-        rw (w, eq-eqb (length s) 8 (g .eight), g .addresses, g .present, eq-eqb (valueLow s) 0 (g .low), i, g .get, le-ltb (length reply) (sentCount c s) h) in
+    rw (w, eq-eqb (length s) 8 (g .eight), g .addresses, g .present, eq-eqb (valueLow s) 0 (g .low), i, g .get, le-ltb (length reply) (sentCount c s) h) in
     outcome-code (requestCode c s [] (length reply)) c (requestDone c s []) z ∙ n
 
 -- Call by call: after an accepted SET, GET_CUR of its control is accepted, given room, and sends the bytes that were set.
@@ -297,7 +300,7 @@ pub round-trip : (c : Camera) → Ok (c .profile) c → (s payload reply : List 
     → (selectorOf s ≡ 0x06 → ⊥) → (g buffer : List ℕ) → Gets (c .profile) g → codeOf g ≡ 0x81 → selectorOf g ≡ selectorOf s
     → min (wLengthOf g) (length (bytesBack (c .profile) (selectorOf s) payload)) ≤ length buffer
     → let d = next c (request s payload reply) in
-      (outcome d (request g [] buffer) .code ≡ 0) × Sends d g [] buffer (bytesBack (c .profile) (selectorOf s) payload)
+    (outcome d (request g [] buffer) .code ≡ 0) × Sends d g [] buffer (bytesBack (c .profile) (selectorOf s) payload)
 round-trip c o s payload reply b i e m g buffer x q f h =
     let d = next c (request s payload reply) in
     let t = step (c .profile) c o (request s payload reply) .ok in

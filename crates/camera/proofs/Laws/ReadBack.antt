@@ -9,7 +9,7 @@ use native.Mathlib.Omega.{arith}
 use lib.Dec.{eqb, leb, lit<}
 use lib.ListN.{length, getD, take, drop, length-drop}
 use lib.Seq.{drop-cons, drop-drop, drop-at, drop-append-le, take-add, take-append-le}
-use borrow.Author.Tests.{eq-eqb, ne-eqb, eqb-true, eqb-false}
+use borrow.Author.Tests.{eqb-true, eqb-false}
 use Rattle.wire.specs.Number.{leAt, bytesOf}
 use Rattle.wire.proofs.Laws.Numbers.{Bytes}
 use Rattle.controls.specs.declared.settings.Item.{Item}
@@ -19,7 +19,7 @@ use Rattle.controls.specs.declared.settings.Setting.the-variants as S
 use Rattle.controls.specs.declared.face.FaceLimits.{FaceLimits}
 use Rattle.controls.specs.Answers.{answerBy}
 use Rattle.controls.specs.Settings.{itemOf, numberOr}
-use Rattle.controls.specs.Ev.{evFlags, evValue, evRefusal, evItem, evHeld, evAt, evAnswer}
+use Rattle.controls.specs.Ev.{evFlags, evValue, evItem, evHeld, evAt, evAnswer}
 use Rattle.controls.specs.Face.{endpoints, addressAt, offersAt, offersFrom, offersOf, takesFace, entryAddress, entryFlags, seenIn, seenBefore, faceItem, entryOf, heldAt, flagsAt, entriesOf}
 use Rattle.controls.specs.Metadata.{metadataItem, metadataAt, metadataAnswer}
 use Rattle.controls.specs.Hdr.{hdrItem, hdrAt, hdrAnswer}
@@ -106,7 +106,7 @@ unfolding setRefusal itemAt faceItem
 entry-taken p payload v r z i h =
     let s = S.Face (entryAddress payload i) (entryFlags payload i) in
     let g : itemAt p 0x06 payload i ≡ Given s =
-        taken _ s (ap (λ (j : ℕ). codeOf (itemAt p 0x06 payload j)) (sym (add-zero i)) ∙ none-refused (getD payload 0 0) 0 (itemAt p 0x06 payload) z i h) in
+    taken _ s (ap (λ (j : ℕ). codeOf (itemAt p 0x06 payload j)) (sym (add-zero i)) ∙ none-refused (getD payload 0 0) 0 (itemAt p 0x06 payload) z i h) in
     let proper = item-good p v payload i s 0x06 face r g .proper in
     let x = accepted (p .face) payload i _ _ g in
     record { given = g; first = proper .0; last = proper .1; some = proper .2; new = x .new; known = x .known }
