@@ -1,13 +1,13 @@
 -- The owner's demand 2 on the camera: new settings, GET_CUR, LEN, and what is written reads back. Assumes nothing.
 use mathlib.Core.Path.{_≡_, refl, ap, ap₂, sym, _∙_, subst}
 use mathlib.Core.List.{List, [], _∷_, _++_}
-use mathlib.Core.Option.{none, some, Option·map}
-use mathlib.Core.Bool.{Bool, true, false, cond, not, and-eq-true-iff}
-use Prim.Native.Nat.{ℕ, _+_, _-_, _*_, _≤_, _<_, min}
+use mathlib.Core.Option.{none, Option·map}
+use mathlib.Core.Bool.{Bool, true, false, not, and-eq-true-iff}
+use Prim.Native.Nat.{ℕ, _+_, _*_, _≤_, _<_, min}
 use native.Mathlib.Omega.{arith}
-use lib.Dec.{eqb, ltb}
-use lib.ListN.{length, getD, take, drop, List·getD-eq-default}
-use borrow.Author.Tests.{eq-eqb, ne-eqb, eqb-true, ltb-true, ltb-false, le-leb, le-ltb}
+use lib.Dec.{eqb}
+use lib.ListN.{length, getD, take, drop}
+use borrow.Author.Tests.{eq-eqb, eqb-true, le-ltb}
 use Rattle.wire.specs.Number.{bytesOf}
 use Rattle.wire.proofs.Laws.Numbers.{Bytes}
 use Rattle.request.specs.Setup.{typeOf, codeOf, valueLow, selectorOf, wLengthOf, isSetRequest, isGetRequest}
@@ -28,7 +28,7 @@ use Rattle.controls.specs.declared.settings.Setting.the-variants as S
 use Rattle.controls.specs.Answers.{answerBy}
 use Rattle.controls.specs.Settings.{numberOr}
 use Rattle.controls.specs.Ev as ev
-use Rattle.controls.specs.Face.{endpoints, addressAt, entryAddress, entryFlags, entryOf, heldAt, flagsAt, entriesOf, faceValue, faceAnswer}
+use Rattle.controls.specs.Face.{endpoints, addressAt, entryAddress, entryFlags, entryOf, heldAt, flagsAt}
 use Rattle.controls.specs.Metadata.{metadataAt, metadataAnswer}
 use Rattle.controls.specs.Hdr.{hdrAt, hdrAnswer}
 use Rattle.controls.specs.Throttle as throttle
@@ -36,15 +36,15 @@ use Rattle.controls.proofs.Laws.Face.{place-listed, fresh-answer, len-answer, l
 use Rattle.camera.specs.declared.profile.Profile.{Profile}
 use Rattle.camera.specs.declared.record.Camera.{Camera}
 use Rattle.camera.specs.Profile.{has, takes, table}
-use Rattle.camera.specs.Record.{fresh, evHeld, faceHeld, numberHeld, throttleHeld, held, controlRefusal, wellFormed}
+use Rattle.camera.specs.Record.{fresh, evHeld, metadataHeld, hdrHeld, throttleHeld, held, controlRefusal, wellFormed}
 use Rattle.camera.specs.Items.{settingOf, allGiven, puts, setRefusal, setGives}
 use Rattle.camera.specs.Requests.{answerOf, asked, sentCount, valueTests, requestRows, requestCode, requestDone, requested, replied}
 use Rattle.camera.specs.Snapshots.{selectorAt, itemFor, loadItem, loadGives, row, snapshot}
 use Rattle.camera.specs.Calls.{Call, request, load, outcome, left, next}
 use Rattle.camera.specs.Demand.{setAccepted, gives, leaves, Typed, Written}
-use Rattle.camera.proofs.Laws.Held.{held-face, fresh-held, puts-profile}
+use Rattle.camera.proofs.Laws.Held.{none-never, fresh-held, puts-profile}
 use Rattle.camera.proofs.Laws.Kept.{formed-profile, valid-presence, valid-face, control-there}
-use Rattle.camera.proofs.Laws.ReadBack.{bytesBack, answer-back, entryBytes, entry-taken, after, payload-entry, answer-entry, place-at, face-sized}
+use Rattle.camera.proofs.Laws.ReadBack.{bytesBack, answer-back, Taken, entry-taken, After, after, entryBytes, payload-entry, place-at, face-sized, current-entry, current-held, current-same, face-none}
 use Rattle.camera.proofs.Laws.Selectors.{Control, control-known}
 use Rattle.camera.proofs.Laws.Selectors as selectors
 use Rattle.camera.proofs.Laws.Steps.{Ok, step, outcome-code, set-answer, load-answer, refused-none, request-next, accepted-control, accepted-length, accepted-values, set-control}
@@ -75,48 +75,29 @@ module _ (c : Camera) (w : wellFormed c ≡ true) where
 
 -- GET_CUR is DEF while no setting is held of the selector's control.
 module _ (c : Camera) (l : length (c .face) ≡ 15) where
-  face-unset : (flags address : ℕ) → faceHeld address flags ≡ none → flags ≡ 0
-  face-unset flags address e = go (eqb flags 0) refl e
-    where
-      go : (b : Bool) → eqb flags 0 ≡ b → cond b none (some (S.Face address flags)) ≡ none → flags ≡ 0
-      go true q z = eqb-true flags 0 q
-      go false q z = let n : _≡_ {A = ℕ} 0 1 = cc in absurd (omega arith)
-
-  face-none : ((k : ℕ) → selectorAt k ≡ 0x06 → held c k ≡ none) → (address : ℕ) → heldAt (c .face) address ≡ 0
-  face-none h address = go (ltb (address - 0x81) 15) refl
-    where
-      go : (b : Bool) → ltb (address - 0x81) 15 ≡ b → getD (c .face) (address - 0x81) 0 ≡ 0
-      go true q =
-          let i = address - 0x81 in
-          let b = ltb-true i 15 q in
-          let f : 1 + i - 1 ≡ i = omega arith in
-          let z = sym (held-face c (1 + i) (omega arith) (omega arith)) ∙ h (1 + i) (rw (ne-eqb (1 + i) 0 (omega arith), le-leb (1 + i) 15 (omega arith))) in
-          ap (λ (j : ℕ). getD (c .face) j 0) (sym f) ∙ face-unset _ _ z
-      go false q = let b = ltb-false (address - 0x81) 15 q in List·getD-eq-default (c .face) 0 (omega arith)
-
   pub unset-current : (selector : ℕ) → Control selector → ((k : ℕ) → selectorAt k ≡ selector → held c k ≡ none) → answerOf c selector 0x81 ≡ answerOf c selector 0x87
-  unfolding answerOf held ev.evAnswer ev.evAt ev.evHeld metadataAnswer metadataAt hdrAnswer hdrAt throttle.throttleAnswer throttle.throttleAt throttle.throttleHeld answerBy numberOr
+  unfolding answerOf held answerBy ev.evAnswer ev.evAt ev.evHeld metadataAnswer metadataAt hdrAnswer hdrAt numberOr throttle.throttleAnswer throttle.throttleAt throttle.throttleHeld
   unset-current _ selectors.ev h = go (c .ev) (h 0 refl)
     where
       go : (e : Ev) → evHeld e ≡ none → ev.evAnswer (c .profile .ev) e 0x81 ≡ ev.evAnswer (c .profile .ev) e 0x87
       go E.Unset z = refl
-      go (E.Held s) z = let n : _≡_ {A = ℕ} 0 1 = cc in absurd (omega arith)
-  unset-current _ selectors.face h = fresh-answer (c .profile .face) (c .face) (face-none h)
+      go (E.Held s) z = absurd (none-never (S.Ev s) (sym z))
+  unset-current _ selectors.face h = fresh-answer (c .profile .face) (c .face) (face-none c l h)
   unset-current _ selectors.metadata h = go (c .metadata) (h 16 refl)
     where
-      go : (n : Number) → numberHeld S.Metadata n ≡ none → metadataAnswer (c .profile .metadata) n 0x81 ≡ metadataAnswer (c .profile .metadata) n 0x87
+      go : (n : Number) → metadataHeld n ≡ none → metadataAnswer (c .profile .metadata) n 0x81 ≡ metadataAnswer (c .profile .metadata) n 0x87
       go N.Unset z = refl
-      go (N.Held m) z = let n : _≡_ {A = ℕ} 0 1 = cc in absurd (omega arith)
+      go (N.Held n) z = absurd (none-never (S.Metadata n) (sym z))
   unset-current _ selectors.hdr h = go (c .hdr) (h 17 refl)
     where
-      go : (n : Number) → numberHeld S.Hdr n ≡ none → hdrAnswer (c .profile .auto) n 0x81 ≡ hdrAnswer (c .profile .auto) n 0x87
+      go : (n : Number) → hdrHeld n ≡ none → hdrAnswer (c .profile .auto) n 0x81 ≡ hdrAnswer (c .profile .auto) n 0x87
       go N.Unset z = refl
-      go (N.Held m) z = let n : _≡_ {A = ℕ} 0 1 = cc in absurd (omega arith)
+      go (N.Held n) z = absurd (none-never (S.Hdr n) (sym z))
   unset-current _ selectors.throttle h = go (c .throttle) (h 18 refl)
     where
       go : (t : Throttle) → throttleHeld t ≡ none → throttle.throttleAnswer (c .profile .throttle) t 0x81 ≡ throttle.throttleAnswer (c .profile .throttle) t 0x87
       go T.Unset z = refl
-      go (T.Held s) z = let n : _≡_ {A = ℕ} 0 1 = cc in absurd (omega arith)
+      go (T.Held s) z = absurd (none-never (S.Throttle s) (sym z))
 
 -- So it is before any SET, whatever the selector.
 pub fresh-current : (p : Profile) (streaming : Bool) (selector : ℕ) → answerOf (fresh p streaming) selector 0x81 ≡ answerOf (fresh p streaming) selector 0x87
@@ -177,52 +158,42 @@ pub record FaceReadsBack (c d : Camera) (payload : List ℕ) : Type 0 where
   -- no entries set nothing
   pub empty : getD payload 0 0 ≡ 0 → d ≡ c
 
-module _ (c : Camera) (o : Ok (c .profile) c) (payload : List ℕ) (b : Bytes payload) where
-  abbrev faceSet : Camera
-  faceSet = puts c (setGives (c .profile) 0x06 payload)
+module _ (c : Camera) (o : Ok (c .profile) c) (payload : List ℕ) (r : controlRefusal (c .profile) true 0x06 ≡ 0) (z : setRefusal (c .profile) 0x06 payload ≡ 0) where
+  abbrev d : Camera
+  d = puts c (setGives (c .profile) 0x06 payload)
 
   abbrev limits : FaceLimits
   limits = c .profile .face
 
-  cur-answer : answerOf faceSet 0x06 0x81 ≡ endpoints limits ∷ entriesOf limits (faceSet .face) 0x81 (endpoints limits)
-  unfolding answerOf faceAnswer answerBy faceValue
-  cur-answer = ap (λ p. faceAnswer (p .face) (faceSet .face) 0x81) (puts-profile c (setGives (c .profile) 0x06 payload))
+  each-taken : (i : ℕ) → i < getD payload 0 0 → Taken (c .profile) payload i
+  each-taken = entry-taken (c .profile) payload (formed-profile c (o .formed)) r z
 
-  cur-entry : (j : ℕ) → j < endpoints limits → entryBytes (answerOf faceSet 0x06 0x81) j ≡ entryOf (addressAt limits j) (flagsAt limits (faceSet .face) 0x81 j)
-  cur-entry j h = ap (λ l. entryBytes l j) cur-answer ∙ answer-entry limits (faceSet .face) 0x81 (endpoints limits) (endpoints limits) j h
+  all-taken : After c (o .places) payload (getD payload 0 0)
+  all-taken = after c (o .places) payload (getD payload 0 0) each-taken
 
-  old-entry : (j : ℕ) → j < endpoints limits → entryBytes (answerOf c 0x06 0x81) j ≡ entryOf (addressAt limits j) (flagsAt limits (c .face) 0x81 j)
-  unfolding answerOf faceAnswer answerBy faceValue
-  old-entry j h = answer-entry limits (c .face) 0x81 (endpoints limits) (endpoints limits) j h
+  flags-listed : (i j : ℕ) → i < getD payload 0 0 → addressAt limits j ≡ entryAddress payload i → flagsAt limits (d .face) 0x81 j ≡ entryFlags payload i
+  unfolding setGives
+  flags-listed i j h q = current-held limits (d .face) j (entryFlags payload i) (ap (heldAt (d .face)) q ∙ all-taken .named i h) (each-taken i h .some)
 
-  flags-held : (face : List ℕ) (j flags : ℕ) → heldAt face (addressAt limits j) ≡ flags → 0 < flags → flagsAt limits face 0x81 j ≡ flags
-  unfolding flagsAt
-  flags-held face j flags e h = rw (e, ne-eqb flags 0 (omega arith))
+  entry-listed : (j : ℕ) → j < endpoints limits → entryBytes (answerOf d 0x06 0x81) j ≡ entryOf (addressAt limits j) (flagsAt limits (d .face) 0x81 j)
+  entry-listed j h =
+      let e = puts-profile c (setGives (c .profile) 0x06 payload) in
+      current-entry d j (rw e h) ∙ ap (λ p. entryOf (addressAt (p .face) j) (flagsAt (p .face) (d .face) 0x81 j)) e
 
-  same-flags : (j : ℕ) → heldAt (faceSet .face) (addressAt limits j) ≡ heldAt (c .face) (addressAt limits j) → flagsAt limits (faceSet .face) 0x81 j ≡ flagsAt limits (c .face) 0x81 j
-  unfolding flagsAt
-  same-flags j e = rw e
-
-  face-back : controlRefusal (c .profile) true 0x06 ≡ 0 → setRefusal (c .profile) 0x06 payload ≡ 0 → length payload ≡ takes (c .profile) 0x06 payload → FaceReadsBack c faceSet payload
+  face-back : Bytes payload → length payload ≡ takes (c .profile) 0x06 payload → FaceReadsBack c d payload
   unfolding setGives allGiven puts
-  face-back r z n =
-      let v = formed-profile c (o .formed) in
-      let f = valid-face (c .profile) v (control-there (c .profile) true 0x06 r) in
-      let t = entry-taken (c .profile) payload v r z in
-      let a = after c (o .places) payload (getD payload 0 0) t in
+  face-back b n =
+      let v = valid-face (c .profile) (formed-profile c (o .formed)) (control-there (c .profile) true 0x06 r) in
       let m = face-sized limits payload n in
-      let listed : (i j : ℕ) → i < getD payload 0 0 → addressAt limits j ≡ entryAddress payload i → flagsAt limits (faceSet .face) 0x81 j ≡ entryFlags payload i =
-      λ i j h q. flags-held (faceSet .face) j _ (ap (heldAt (faceSet .face)) q ∙ a .named i h) (t i h .some) in
       record {
-        entries = a .named;
-        place = λ i h. place-at limits (entryAddress payload i) (t i h .known);
-        listed = listed;
-        bytes = λ i j h k q. cur-entry j k ∙ ap₂ entryOf q (listed i j h q) ∙ sym (payload-entry payload i b (omega arith));
-        others = a .other;
+        entries = all-taken .named;
+        place = λ i h. place-at limits (entryAddress payload i) (each-taken i h .known);
+        listed = flags-listed;
+        bytes = λ i j h k q. entry-listed j k ∙ ap₂ entryOf q (flags-listed i j h q) ∙ sym (payload-entry payload i b (omega arith));
+        others = all-taken .other;
         unnamed = λ j h no.
-            cur-entry j h
-            ∙ ap (entryOf (addressAt limits j)) (same-flags j (a .other (addressAt limits j) (place-listed limits f j (omega arith) .first) no))
-            ∙ sym (old-entry j h);
+            let e = all-taken .other (addressAt limits j) (place-listed limits v j (omega arith) .first) no in
+            entry-listed j h ∙ ap (entryOf (addressAt limits j)) (current-same limits (d .face) j (c .face) e) ∙ sym (current-entry c j h);
         empty = λ e. rw e;
       }
 
@@ -252,7 +223,7 @@ set-then-get c o s payload reply b i e =
     record {
       known = k;
       answer = λ m. ap (λ d. answerOf d (selectorOf s) 0x81) d ∙ answer-back c payload b (selectorOf s) k m (h .1) z n;
-      of-face = λ q. subst (λ d. FaceReadsBack c d payload) (sym (d ∙ ap (λ (m : ℕ). puts c (setGives p m payload)) q)) (face-back c o payload b (rw q at r) (rw q at z) (rw q at n));
+      of-face = λ q. subst (λ d. FaceReadsBack c d payload) (sym (d ∙ ap (λ (m : ℕ). puts c (setGives p m payload)) q)) (face-back c o payload (rw q at r) (rw q at z) b (rw q at n));
     }
 
 -- What is sent of a full answer: the first min(wLength, full length) bytes, reported and at the buffer's start; the rest of the buffer and the
@@ -291,9 +262,9 @@ unfolding requested requestDone requestCode requestRows requestTests valueTests
 get-accepted c w s reply g h =
     let i = get-no-set s (g .get) in
     let z : requestDone c s [] .code ≡ 0 = rw i in
-    let n : requestCode c s [] (length reply) ≡ 0 =
-    rw (w, eq-eqb (length s) 8 (g .eight), g .addresses, g .present, eq-eqb (valueLow s) 0 (g .low), i, g .get, le-ltb (length reply) (sentCount c s) h) in
-    outcome-code (requestCode c s [] (length reply)) c (requestDone c s []) z ∙ n
+    let room = le-ltb (length reply) (sentCount c s) h in
+    outcome-code (requestCode c s [] (length reply)) c (requestDone c s []) z
+    ∙ rw (w, eq-eqb (length s) 8 (g .eight), g .addresses, g .present, eq-eqb (valueLow s) 0 (g .low), i, g .get, room)
 
 -- Call by call: after an accepted SET, GET_CUR of its control is accepted, given room, and sends the bytes that were set.
 pub round-trip : (c : Camera) → Ok (c .profile) c → (s payload reply : List ℕ) → Bytes payload → isSetRequest s ≡ true → outcome c (request s payload reply) .code ≡ 0

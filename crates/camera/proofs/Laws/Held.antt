@@ -182,7 +182,7 @@ fresh-held p streaming k = go (eqb k 0) (leb k 15) (eqb k 16) (eqb k 17) (eqb k 
 some-is : (P : Setting → Type 0) (x s : Setting) → some x ≡ some s → P x → P s
 some-is P x s e p = let q : x ≡ s = cc in subst P q p
 
-none-never : (s : Setting) → none ≡ some s → ⊥
+pub none-never : (s : Setting) → none ≡ some s → ⊥
 none-never s e = let z : _≡_ {A = ℕ} 0 1 = cc in omega arith
 
 abbrev pub Named : ℕ → Setting → Type 0

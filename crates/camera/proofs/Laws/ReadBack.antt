@@ -1,15 +1,16 @@
 -- What an accepted SET leaves of the record, control by control. Assumes nothing.
 use mathlib.Core.Path.{_≡_, refl, ap, ap₂, sym, _∙_}
 use mathlib.Core.List.{List, [], _∷_, _++_}
+use mathlib.Core.Option.{none, some}
 use mathlib.Core.Bool.{Bool, true, false, cond, _||_, true≢false}
 use Prim.Native.Nat.{ℕ, zero, suc, _+_, _-_, _*_, _≤_, _<_}
 use native.Mathlib.Nat.{add-zero}
 use native.Mathlib.Numerals.{add-one}
 use native.Mathlib.Omega.{arith}
-use lib.Dec.{eqb, leb, lit<}
-use lib.ListN.{length, getD, take, drop, length-drop}
+use lib.Dec.{eqb, ltb, leb, lit<}
+use lib.ListN.{length, getD, take, drop, length-drop, List·getD-eq-default}
 use lib.Seq.{drop-cons, drop-drop, drop-at, drop-append-le, take-add, take-append-le}
-use borrow.Author.Tests.{eqb-true, eqb-false}
+use borrow.Author.Tests.{ne-eqb, eqb-true, eqb-false, ltb-true, ltb-false, le-leb}
 use Rattle.wire.specs.Number.{leAt, bytesOf}
 use Rattle.wire.proofs.Laws.Numbers.{Bytes}
 use Rattle.controls.specs.declared.settings.Item.{Item}
@@ -20,7 +21,7 @@ use Rattle.controls.specs.declared.face.FaceLimits.{FaceLimits}
 use Rattle.controls.specs.Answers.{answerBy}
 use Rattle.controls.specs.Settings.{itemOf, numberOr}
 use Rattle.controls.specs.Ev.{evFlags, evValue, evItem, evHeld, evAt, evAnswer}
-use Rattle.controls.specs.Face.{endpoints, addressAt, offersAt, offersFrom, offersOf, takesFace, entryAddress, entryFlags, seenIn, seenBefore, faceItem, entryOf, heldAt, flagsAt, entriesOf}
+use Rattle.controls.specs.Face.{endpoints, addressAt, offersAt, offersFrom, offersOf, takesFace, entryAddress, entryFlags, seenIn, seenBefore, faceItem, entryOf, heldAt, flagsAt, entriesOf, faceValue, faceAnswer}
 use Rattle.controls.specs.Metadata.{metadataItem, metadataAt, metadataAnswer}
 use Rattle.controls.specs.Hdr.{hdrItem, hdrAt, hdrAnswer}
 use Rattle.controls.specs.Throttle.{throttleItem, throttleHeld, throttleAt, throttleBytes, throttleAnswer}
@@ -31,10 +32,11 @@ use Rattle.controls.proofs.Laws.Plain.{word-bytes}
 use Rattle.camera.specs.declared.profile.Profile.{Profile}
 use Rattle.camera.specs.declared.record.Camera.{Camera}
 use Rattle.camera.specs.Profile.{settable, takes, profileValid}
-use Rattle.camera.specs.Record.{putFace, put, controlRefusal}
+use Rattle.camera.specs.Record.{faceHeld, held, putFace, put, controlRefusal}
 use Rattle.camera.specs.Items.{codeOf, givenOf, firstRefusal, allGiven, puts, itemAt, setRefusal, setGives}
 use Rattle.camera.specs.Requests.{answerOf}
-use Rattle.camera.proofs.Laws.Held.{put-face-same, put-face-other, put-face-length}
+use Rattle.camera.specs.Snapshots.{selectorAt}
+use Rattle.camera.proofs.Laws.Held.{none-never, held-face, put-face-same, put-face-other, put-face-length}
 use Rattle.camera.proofs.Laws.Items.{none-refused, puts-next}
 use Rattle.camera.proofs.Laws.Kept.{item-good}
 use Rattle.camera.proofs.Laws.Loads.{taken}
@@ -212,3 +214,39 @@ face-sized l (n ∷ rest) e = go (leb n (l .count)) e
     go : (b : Bool) → length (n ∷ rest) ≡ cond b (1 + 8 * n) 0 → length (n ∷ rest) ≡ 1 + 8 * n
     go true q = q
     go false q = absurd (omega arith)
+
+-- the entry of an endpoint in the answer to GET_CUR
+pub current-entry : (c : Camera) (j : ℕ) → j < endpoints (c .profile .face)
+    → entryBytes (answerOf c 0x06 0x81) j ≡ entryOf (addressAt (c .profile .face) j) (flagsAt (c .profile .face) (c .face) 0x81 j)
+unfolding answerOf faceAnswer answerBy faceValue
+current-entry c j h = let l = c .profile .face in answer-entry l (c .face) 0x81 (endpoints l) (endpoints l) j h
+
+-- its flags are the setting held
+module _ (l : FaceLimits) (held : List ℕ) (j : ℕ) where
+  pub current-held : (flags : ℕ) → heldAt held (addressAt l j) ≡ flags → 0 < flags → flagsAt l held 0x81 j ≡ flags
+  unfolding flagsAt
+  current-held flags e h = rw (e, ne-eqb flags 0 (omega arith))
+
+  pub current-same : (before : List ℕ) → heldAt held (addressAt l j) ≡ heldAt before (addressAt l j) → flagsAt l held 0x81 j ≡ flagsAt l before 0x81 j
+  unfolding flagsAt
+  current-same before e = rw e
+
+-- where no setting is held of any endpoint, none is held of any address
+face-unset : (address flags : ℕ) → faceHeld address flags ≡ none → flags ≡ 0
+face-unset address flags e = go (eqb flags 0) refl e
+  where
+    go : (b : Bool) → eqb flags 0 ≡ b → cond b none (some (S.Face address flags)) ≡ none → flags ≡ 0
+    go true q z = eqb-true flags 0 q
+    go false q z = absurd (none-never (S.Face address flags) (sym z))
+
+pub face-none : (c : Camera) → length (c .face) ≡ 15 → ((k : ℕ) → selectorAt k ≡ 0x06 → held c k ≡ none) → (address : ℕ) → heldAt (c .face) address ≡ 0
+face-none c l h address = go (ltb (address - 0x81) 15) refl
+  where
+    go : (b : Bool) → ltb (address - 0x81) 15 ≡ b → getD (c .face) (address - 0x81) 0 ≡ 0
+    go true q =
+        let i = address - 0x81 in
+        let b = ltb-true i 15 q in
+        let e : 1 + i - 1 ≡ i = omega arith in
+        let z = sym (held-face c (1 + i) (omega arith) (omega arith)) ∙ h (1 + i) (rw (ne-eqb (1 + i) 0 (omega arith), le-leb (1 + i) 15 (omega arith))) in
+        ap (λ (j : ℕ). getD (c .face) j 0) (sym e) ∙ face-unset _ _ z
+    go false q = let b = ltb-false (address - 0x81) 15 q in List·getD-eq-default (c .face) 0 (omega arith)
