@@ -38,7 +38,7 @@ use Rattle.camera.proofs.Laws.Records.{rows, row-record, row-taken}
 use Rattle.camera.proofs.Laws.Loads.{Accepted, load-settings, load-accepted, accepted-load, merged-accepted, merged-settings}
 
 -- writing, where there is room
-writes : (c : Camera) (out : List ℕ) → wellFormed c ≡ true → length (snapshot c) ≤ length out → Written c (snapshot c) out
+pub writes : (c : Camera) (out : List ℕ) → wellFormed c ≡ true → length (snapshot c) ≤ length out → Written c (snapshot c) out
 unfolding written writtenOut writeCode
 writes c out w h = record { outcome = rw (w, le-ltb (length out) (length (snapshot c)) h); buffer = rw (w, le-ltb (length out) (length (snapshot c)) h) }
 
@@ -144,17 +144,17 @@ load-merged c h a b ea eb =
 
 -- a camera's snapshot decodes to its settings' records
 module _ (c : Camera) (g : records.Good (λ k. Option·map (row k) (held c k))) where
-  snapshot-decodes : decode (snapshot c) ≡ (λ k. Option·map (row k) (held c k))
+  pub snapshot-decodes : decode (snapshot c) ≡ (λ k. Option·map (row k) (held c k))
   unfolding snapshot
   snapshot-decodes = decode-encode (λ k. Option·map (row k) (held c k)) g
 
-  snapshot-formed : form.wellFormed (snapshot c) ≡ true
+  pub snapshot-formed : form.wellFormed (snapshot c) ≡ true
   unfolding snapshot
   snapshot-formed = encode-formed (λ k. Option·map (row k) (held c k)) g
 
 -- the record of what a well-formed camera holds of a key
 module _ (c : Camera) (w : wellFormed c ≡ true) (t : Typed c) where
-  written-item : (k : ℕ) (o : Option Setting) → held c k ≡ o → settingOf (itemFor (c .profile) true k (Option·map (row k) o)) ≡ o
+  pub written-item : (k : ℕ) (o : Option Setting) → held c k ≡ o → settingOf (itemFor (c .profile) true k (Option·map (row k) o)) ≡ o
   unfolding itemFor
   written-item k none e = refl
   written-item k (some s) e = let g = held-good c w k s e in ap settingOf (row-taken (c .profile) k s (t .fitting k s e) (g .0) (g .1))
@@ -164,7 +164,7 @@ module _ (c : Camera) (w : wellFormed c ≡ true) (t : Typed c) where
   written-code k none e = refl
   written-code k (some s) e = let g = held-good c w k s e in ap codeOf (row-taken (c .profile) k s (t .fitting k s e) (g .0) (g .1))
 
-  good-at : (k : ℕ) (o : Option Setting) → held c k ≡ o → GoodAt k (Option·map (row k) o)
+  pub good-at : (k : ℕ) (o : Option Setting) → held c k ≡ o → GoodAt k (Option·map (row k) o)
   good-at k none e = tt
   good-at k (some s) e = let g = held-good c w k s e in row-record k s (g .0) (g .1 .proper)
 

@@ -65,13 +65,13 @@ module _ (face : List ℕ) (address flags : ℕ) (low : 0x81 ≤ address) where
   unfolding putFace
   put-face = rw (le-leb 0x81 address low)
 
-  put-face-same : address < 0x81 + length face → getD (putFace face address flags) (address - 0x81) 0 ≡ flags
+  pub put-face-same : address < 0x81 + length face → getD (putFace face address flags) (address - 0x81) 0 ≡ flags
   put-face-same h = rw put-face (getD-set-same face (address - 0x81) flags 0 (omega arith))
 
-  put-face-other : (i : ℕ) → (i ≡ address - 0x81 → ⊥) → getD (putFace face address flags) i 0 ≡ getD face i 0
+  pub put-face-other : (i : ℕ) → (i ≡ address - 0x81 → ⊥) → getD (putFace face address flags) i 0 ≡ getD face i 0
   put-face-other i n = rw put-face (getD-set-other face (address - 0x81) i flags 0 n)
 
-  put-face-length : length (putFace face address flags) ≡ length face
+  pub put-face-length : length (putFace face address flags) ≡ length face
   put-face-length = rw put-face (length-set face (address - 0x81) flags)
 
 -- what is put in is held
@@ -182,7 +182,7 @@ fresh-held p streaming k = go (eqb k 0) (leb k 15) (eqb k 16) (eqb k 17) (eqb k 
 some-is : (P : Setting → Type 0) (x s : Setting) → some x ≡ some s → P x → P s
 some-is P x s e p = let q : x ≡ s = cc in subst P q p
 
-none-never : (s : Setting) → none ≡ some s → ⊥
+pub none-never : (s : Setting) → none ≡ some s → ⊥
 none-never s e = let z : _≡_ {A = ℕ} 0 1 = cc in omega arith
 
 abbrev pub Named : ℕ → Setting → Type 0

@@ -25,10 +25,10 @@ use Rattle.camera.specs.declared.record.Camera.{Camera}
 use Rattle.camera.specs.declared.calls.Outcome.{Outcome}
 use Rattle.camera.specs.Profile.{has, settable, takes, table, profileValid}
 use Rattle.camera.specs.Record.{withStreaming, held, controlRefusal, wellFormed}
-use Rattle.camera.specs.Items.{puts, itemCount, itemAt, setGives}
+use Rattle.camera.specs.Items.{puts, itemCount, itemAt, setRefusal, setGives}
 use Rattle.camera.specs.Requests.{sentCount, valueTests, requestRows, requestCode, refused, outcomeBy, requestDone, requested}
 use Rattle.camera.specs.Snapshots.{selectorAt, snapshot, recordItem, itemFor, loadItem, loadTests, loadCode, loadGives, loaded, written, writeCode}
-use Rattle.camera.specs.Calls.{streamed, sensed, Call, request, stream, load, write, sense, next}
+use Rattle.camera.specs.Calls.{streamed, sensed, Call, request, stream, load, write, sense, outcome, next}
 use Rattle.camera.specs.Demand.{setAccepted, gives, leaves}
 use Rattle.camera.proofs.Laws.Selectors.{Control, ev, face, metadata, hdr, throttle, control-known}
 use Rattle.camera.proofs.Laws.Held.{Each, puts-held, puts-length, puts-profile, puts-streaming}
@@ -51,8 +51,43 @@ set-code c s payload room w e =
     let last : firstOf ((not (isSetRequest s) && ltb room (sentCount c s) ⇒ 0x20) ∷ []) ≡ 0 = rw e in
     rw w (first-quiet (requestTests (table (c .profile)) s payload ++ valueTests (c .profile) (c .streaming) s payload) _ last)
 
+-- a call's number is that of its tests
+pub outcome-code : (code : ℕ) (c : Camera) (done : Outcome) → done .code ≡ 0 → outcomeBy code c done .code ≡ code
+outcome-code code c done z = go (eqb code 0) refl
+  where
+    go : (b : Bool) → eqb code 0 ≡ b → cond b done (refused code c) .code ≡ code
+    go true e = z ∙ sym (eqb-true code 0 e)
+    go false e = refl
+
+-- a SET is accepted where the request answers 0
+pub set-answer : (c : Camera) (s payload : List ℕ) (room : ℕ) → wellFormed c ≡ true → isSetRequest s ≡ true
+    → setAccepted (c .profile) (c .streaming) s payload ≡ eqb (requested c s payload room .code) 0
+unfolding requested requestDone
+set-answer c s payload room w e =
+    let done : Outcome = record { code = 0; count = 0; camera = puts c (setGives (c .profile) (setup.selectorOf s) payload) } in
+    rw e (ap (λ (n : ℕ). eqb n 0) (sym (outcome-code (requestCode c s payload room) c done refl ∙ set-code c s payload room w e)))
+
+pub load-answer : (c : Camera) (s : List ℕ) → wellFormed c ≡ true → loaded c s .code ≡ firstOf (loadTests (c .profile) (c .streaming) s)
+unfolding loaded loadCode
+load-answer c s w =
+    let code = firstOf (loadTests (c .profile) (c .streaming) s) in
+    rw w (outcome-code code c (record { code = 0; count = 0; camera = puts c (loadGives (c .profile) (c .streaming) s) }) refl)
+
+-- a refused call gives no setting
+pub refused-none : (c : Camera) → wellFormed c ≡ true → (call : Call) → (outcome c call .code ≡ 0 → ⊥) → gives (c .profile) (c .streaming) call ≡ []
+unfolding gives
+refused-none c w (request s payload reply) n = go (isSetRequest s) refl
+  where
+    go : (b : Bool) → isSetRequest s ≡ b → gives (c .profile) (c .streaming) (request s payload reply) ≡ []
+    go true e = rw (set-answer c s payload (length reply) w e, ne-eqb _ 0 n)
+    go false e = rw e
+refused-none c w (stream on) n = refl
+refused-none c w (load s) n = rw (ne-eqb (firstOf (loadTests (c .profile) (c .streaming) s)) 0 (λ z. n (load-answer c s w ∙ z)))
+refused-none c w (write out) n = refl
+refused-none c w sense n = refl
+
 -- what a request leaves of the record
-request-next : (c : Camera) (s payload reply : List ℕ) → wellFormed c ≡ true
+pub request-next : (c : Camera) (s payload reply : List ℕ) → wellFormed c ≡ true
     → requested c s payload (length reply) .camera ≡ puts c (gives (c .profile) (c .streaming) (request s payload reply))
 unfolding requested requestDone gives puts
 request-next c s payload reply w = go (isSetRequest s) refl
@@ -104,34 +139,58 @@ not-off : (b : Bool) → not b ≡ false → b ≡ true
 not-off true e = refl
 not-off false e = absurd (true≢false e)
 
--- tests 2 to 6 of an accepted SET say that its control is there and takes a SET
+-- what tests 2 to 8 of an accepted SET say
 module _ (p : Profile) (streaming : Bool) (s payload : List ℕ) (a : setAccepted p streaming s payload ≡ true) where
-  accepted-set : isSetRequest s ≡ true
+  pub accepted-set : isSetRequest s ≡ true
   accepted-set = and-true (isSetRequest s) _ a .0
 
-  accepted-tests : firstOf (requestTests (table p) s payload) ≡ 0
+  accepted-tests : (firstOf (requestTests (table p) s payload) ≡ 0) × (firstOf (valueTests p streaming s payload) ≡ 0)
   accepted-tests = go (eqb (firstOf (requestTests (table p) s payload)) 0) refl (sym (then-rows (table p) s payload (valueTests p streaming s payload)) ∙ eqb-true _ 0 (and-true (isSetRequest s) _ a .1))
     where
       go : (b : Bool) → eqb (firstOf (requestTests (table p) s payload)) 0 ≡ b
-          → cond b (firstOf (valueTests p streaming s payload)) (firstOf (requestTests (table p) s payload)) ≡ 0 → firstOf (requestTests (table p) s payload) ≡ 0
-      go true e z = eqb-true _ 0 e
-      go false e z = z
+          → cond b (firstOf (valueTests p streaming s payload)) (firstOf (requestTests (table p) s payload)) ≡ 0
+          → (firstOf (requestTests (table p) s payload) ≡ 0) × (firstOf (valueTests p streaming s payload) ≡ 0)
+      go true e z = (eqb-true _ 0 e, z)
+      go false e z = absurd (eqb-false _ 0 e z)
 
-  accepted-control : (has p (setup.selectorOf s) ≡ true) × (settable p (setup.selectorOf s) ≡ true)
+  accepted-rows : (has p (setup.selectorOf s) ≡ true) × (understood (table p) s ≡ true) × (sized (takes p (setup.selectorOf s) payload) s payload ≡ true)
   unfolding requestTests
-  accepted-control =
+  accepted-rows =
       let t = table p in
       let last = (not (sized (takes p (setup.selectorOf s) payload) s payload) ⇒ 0xFF) ∷ [] in
       let fifth = (not (understood t s) ⇒ 0x07) ∷ last in
       let fourth = (not (has p (setup.selectorOf s)) ⇒ 0x06) ∷ fifth in
-      let q2 = first-off (not (eqb (length s) 8)) 0xFE ((not (addressed t s) ⇒ 0x05) ∷ fourth) accepted-tests in
+      let q2 = first-off (not (eqb (length s) 8)) 0xFE ((not (addressed t s) ⇒ 0x05) ∷ fourth) (accepted-tests .0) in
       let q3 = first-off (not (addressed t s)) 0x04 fourth (q2 .1) in
       let q4 = first-off (not (has p (setup.selectorOf s))) 0x05 fifth (q3 .1) in
       let q5 = first-off (not (understood t s)) 0x06 last (q4 .1) in
-      let u = and-true (eqb (setup.valueLow s) 0) _ (not-off (understood t s) (q5 .0)) .1 in
-      (not-off (has p (setup.selectorOf s)) (q4 .0), rw accepted-set at u)
+      let q6 = first-off (not (sized (takes p (setup.selectorOf s) payload) s payload)) 0xFE [] (q5 .1) in
+      (not-off (has p (setup.selectorOf s)) (q4 .0), not-off (understood t s) (q5 .0), not-off (sized (takes p (setup.selectorOf s) payload) s payload) (q6 .0))
 
-  set-control : controlRefusal p true (setup.selectorOf s) ≡ 0
+  -- its control is there and takes a SET
+  pub accepted-control : (has p (setup.selectorOf s) ≡ true) × (settable p (setup.selectorOf s) ≡ true)
+  accepted-control =
+      let u = and-true (eqb (setup.valueLow s) 0) _ (accepted-rows .1) .1 in
+      (accepted-rows .0, rw accepted-set at u)
+
+  -- the payload has the control's length
+  pub accepted-length : length payload ≡ takes p (setup.selectorOf s) payload
+  accepted-length =
+      let z = rw accepted-set at (accepted-rows .2) in
+      eqb-true (length payload) _ (and-true (eqb (length payload) (setup.wLengthOf s)) _ z .1)
+
+  -- and no value test refuses it
+  pub accepted-values : setRefusal p (setup.selectorOf s) payload ≡ 0
+  unfolding valueTests
+  accepted-values = go (eqb (setup.selectorOf s) 0x0E && not streaming) (eqb (setRefusal p (setup.selectorOf s) payload) 0) refl (rw accepted-set at (accepted-tests .1))
+    where
+      go : (b e : Bool) → eqb (setRefusal p (setup.selectorOf s) payload) 0 ≡ e
+          → cond b 0x02 (cond (not e) (setRefusal p (setup.selectorOf s) payload) 0) ≡ 0 → setRefusal p (setup.selectorOf s) payload ≡ 0
+      go true e q z = absurd (omega arith)
+      go false true q z = eqb-true _ 0 q
+      go false false q z = z
+
+  pub set-control : controlRefusal p true (setup.selectorOf s) ≡ 0
   unfolding controlRefusal
   set-control = rw (accepted-control .0, accepted-control .1) (go (eqb (setup.selectorOf s) 0x0E))
     where

@@ -1,0 +1,299 @@
+-- The owner's demand 2 on the camera: new settings, GET_CUR, LEN, and what is written reads back. Assumes nothing.
+use mathlib.Core.Path.{_≡_, refl, ap, ap₂, sym, _∙_, subst}
+use mathlib.Core.List.{List, [], _∷_, _++_}
+use mathlib.Core.Option.{none, Option·map}
+use mathlib.Core.Bool.{Bool, true, false, not, and-eq-true-iff}
+use Prim.Native.Nat.{ℕ, _+_, _*_, _≤_, _<_, min}
+use native.Mathlib.Omega.{arith}
+use lib.Dec.{eqb}
+use lib.ListN.{length, getD, take, drop}
+use borrow.Author.Tests.{eq-eqb, eqb-true, le-ltb}
+use Rattle.wire.specs.Number.{bytesOf}
+use Rattle.wire.proofs.Laws.Numbers.{Bytes}
+use Rattle.request.specs.Setup.{typeOf, codeOf, valueLow, selectorOf, wLengthOf, isSetRequest, isGetRequest}
+use Rattle.request.specs.Tests.{requestTests, addressed}
+use Rattle.snapshot.specs.Form as form
+use Rattle.snapshot.specs.Records.{decode}
+use Rattle.snapshot.specs.Records as records
+use Rattle.snapshot.specs.Merge.{over}
+use Rattle.snapshot.specs.Settings.{lastOf}
+use Rattle.controls.specs.declared.ev.Ev.{Ev}
+use Rattle.controls.specs.declared.ev.Ev.the-variants as E
+use Rattle.controls.specs.declared.face.FaceLimits.{FaceLimits}
+use Rattle.controls.specs.declared.throttle.Throttle.{Throttle}
+use Rattle.controls.specs.declared.throttle.Throttle.the-variants as T
+use Rattle.controls.specs.declared.settings.Number.{Number}
+use Rattle.controls.specs.declared.settings.Number.the-variants as N
+use Rattle.controls.specs.declared.settings.Setting.the-variants as S
+use Rattle.controls.specs.Answers.{answerBy}
+use Rattle.controls.specs.Settings.{numberOr}
+use Rattle.controls.specs.Ev as ev
+use Rattle.controls.specs.Face.{endpoints, addressAt, entryAddress, entryFlags, entryOf, heldAt, flagsAt}
+use Rattle.controls.specs.Metadata.{metadataAt, metadataAnswer}
+use Rattle.controls.specs.Hdr.{hdrAt, hdrAnswer}
+use Rattle.controls.specs.Throttle as throttle
+use Rattle.controls.proofs.Laws.Face.{place-listed, fresh-answer, len-answer, len-taken, len-longest}
+use Rattle.camera.specs.declared.profile.Profile.{Profile}
+use Rattle.camera.specs.declared.record.Camera.{Camera}
+use Rattle.camera.specs.Profile.{has, takes, table}
+use Rattle.camera.specs.Record.{fresh, evHeld, metadataHeld, hdrHeld, throttleHeld, held, controlRefusal, wellFormed}
+use Rattle.camera.specs.Items.{settingOf, allGiven, puts, setRefusal, setGives}
+use Rattle.camera.specs.Requests.{answerOf, asked, sentCount, valueTests, requestRows, requestCode, requestDone, requested, replied}
+use Rattle.camera.specs.Snapshots.{selectorAt, itemFor, loadItem, loadGives, row, snapshot}
+use Rattle.camera.specs.Calls.{Call, request, load, outcome, left, next}
+use Rattle.camera.specs.Demand.{setAccepted, gives, leaves, Typed, Written}
+use Rattle.camera.proofs.Laws.Held.{none-never, fresh-held, puts-profile}
+use Rattle.camera.proofs.Laws.Kept.{formed-profile, valid-presence, valid-face, control-there}
+use Rattle.camera.proofs.Laws.ReadBack.{bytesBack, answer-back, Taken, entry-taken, After, after, entryBytes, payload-entry, place-at, face-sized, current-entry, current-held, current-same, face-none}
+use Rattle.camera.proofs.Laws.Selectors.{Control, control-known}
+use Rattle.camera.proofs.Laws.Selectors as selectors
+use Rattle.camera.proofs.Laws.Steps.{Ok, step, outcome-code, set-answer, load-answer, refused-none, request-next, accepted-control, accepted-length, accepted-values, set-control}
+use Rattle.camera.proofs.Demand3.{writes, snapshot-decodes, snapshot-formed, written-item, good-at}
+
+-- New settings. What any call leaves of a record that is not refused 0x21: of each key the last setting that the call gives, else the one
+-- held, and the streaming flag of a notice. An accepted SET gives its payload's settings, an accepted load its records', a refused call none.
+pub record NewSettings (c : Camera) (call : Call) : Type 0 where
+  pub settings : (k : ℕ) → held (next c call) k ≡ over (held c k) (lastOf (gives (c .profile) (c .streaming) call) k)
+  pub streaming : next c call .streaming ≡ leaves (c .streaming) call
+  pub profile : next c call .profile ≡ c .profile
+  pub refused : (outcome c call .code ≡ 0 → ⊥) → gives (c .profile) (c .streaming) call ≡ []
+
+pub accepted-settings : (c : Camera) → Ok (c .profile) c → (call : Call) → NewSettings c call
+accepted-settings c o call =
+    let s = step (c .profile) c o call in
+    record { settings = s .held-after; streaming = s .streaming-after; profile = s .ok .profile; refused = refused-none c (o .formed) call }
+
+module _ (c : Camera) (w : wellFormed c ≡ true) where
+  pub set-gives : (s payload reply : List ℕ) → isSetRequest s ≡ true → outcome c (request s payload reply) .code ≡ 0
+      → gives (c .profile) (c .streaming) (request s payload reply) ≡ setGives (c .profile) (selectorOf s) payload
+  unfolding gives
+  set-gives s payload reply i e = rw (set-answer c s payload (length reply) w i, eq-eqb _ 0 e)
+
+  pub load-gives : (s : List ℕ) → outcome c (load s) .code ≡ 0 → gives (c .profile) (c .streaming) (load s) ≡ loadGives (c .profile) (c .streaming) s
+  unfolding gives
+  load-gives s e = rw (eq-eqb _ 0 (sym (load-answer c s w) ∙ e))
+
+-- GET_CUR is DEF while no setting is held of the selector's control.
+module _ (c : Camera) (l : length (c .face) ≡ 15) where
+  pub unset-current : (selector : ℕ) → Control selector → ((k : ℕ) → selectorAt k ≡ selector → held c k ≡ none) → answerOf c selector 0x81 ≡ answerOf c selector 0x87
+  unfolding answerOf held answerBy ev.evAnswer ev.evAt ev.evHeld metadataAnswer metadataAt hdrAnswer hdrAt numberOr throttle.throttleAnswer throttle.throttleAt throttle.throttleHeld
+  unset-current _ selectors.ev h = go (c .ev) (h 0 refl)
+    where
+      go : (e : Ev) → evHeld e ≡ none → ev.evAnswer (c .profile .ev) e 0x81 ≡ ev.evAnswer (c .profile .ev) e 0x87
+      go E.Unset z = refl
+      go (E.Held s) z = absurd (none-never (S.Ev s) (sym z))
+  unset-current _ selectors.face h = fresh-answer (c .profile .face) (c .face) (face-none c l h)
+  unset-current _ selectors.metadata h = go (c .metadata) (h 16 refl)
+    where
+      go : (n : Number) → metadataHeld n ≡ none → metadataAnswer (c .profile .metadata) n 0x81 ≡ metadataAnswer (c .profile .metadata) n 0x87
+      go N.Unset z = refl
+      go (N.Held n) z = absurd (none-never (S.Metadata n) (sym z))
+  unset-current _ selectors.hdr h = go (c .hdr) (h 17 refl)
+    where
+      go : (n : Number) → hdrHeld n ≡ none → hdrAnswer (c .profile .auto) n 0x81 ≡ hdrAnswer (c .profile .auto) n 0x87
+      go N.Unset z = refl
+      go (N.Held n) z = absurd (none-never (S.Hdr n) (sym z))
+  unset-current _ selectors.throttle h = go (c .throttle) (h 18 refl)
+    where
+      go : (t : Throttle) → throttleHeld t ≡ none → throttle.throttleAnswer (c .profile .throttle) t 0x81 ≡ throttle.throttleAnswer (c .profile .throttle) t 0x87
+      go T.Unset z = refl
+      go (T.Held s) z = absurd (none-never (S.Throttle s) (sym z))
+
+-- So it is before any SET, whatever the selector.
+pub fresh-current : (p : Profile) (streaming : Bool) (selector : ℕ) → answerOf (fresh p streaming) selector 0x81 ≡ answerOf (fresh p streaming) selector 0x87
+unfolding answerOf fresh
+fresh-current p streaming selector = go (eqb selector 0x03) (eqb selector 0x06) (eqb selector 0x09) (eqb selector 0x0D) refl refl refl refl
+  where
+    known : (n : ℕ) → Control n → answerOf (fresh p streaming) n 0x81 ≡ answerOf (fresh p streaming) n 0x87
+    known n k = unset-current (fresh p streaming) refl n k (λ k e. fresh-held p streaming k)
+
+    go : (a b m h : Bool) → eqb selector 0x03 ≡ a → eqb selector 0x06 ≡ b → eqb selector 0x09 ≡ m → eqb selector 0x0D ≡ h
+        → answerOf (fresh p streaming) selector 0x81 ≡ answerOf (fresh p streaming) selector 0x87
+    go true b m h e f g i = rw e (known 0x03 selectors.ev)
+    go false true m h e f g i = rw (e, f) (known 0x06 selectors.face)
+    go false false true h e f g i = rw (e, f, g) (known 0x09 selectors.metadata)
+    go false false false true e f g i = rw (e, f, g, i) (known 0x0D selectors.hdr)
+    go false false false false e f g i = rw (e, f, g, i) (known 0x0E selectors.throttle)
+
+-- LEN's answer is the length that a SET takes, whatever its payload.
+pub length-answer : (c : Camera) (selector : ℕ) → Control selector → (selector ≡ 0x06 → ⊥) → (payload : List ℕ) → answerOf c selector 0x85 ≡ bytesOf 2 (takes (c .profile) selector payload)
+unfolding answerOf ev.evAnswer metadataAnswer hdrAnswer throttle.throttleAnswer answerBy
+length-answer c _ selectors.ev n payload = refl
+length-answer c _ selectors.face n payload = absurd (n refl)
+length-answer c _ selectors.metadata n payload = refl
+length-answer c _ selectors.hdr n payload = refl
+length-answer c _ selectors.throttle n payload = refl
+
+-- That of face authentication is the longest, which a payload that names every endpoint has.
+pub record FaceLength (c : Camera) : Type 0 where
+  pub answer : answerOf c 0x06 0x85 ≡ bytesOf 2 (1 + 8 * endpoints (c .profile .face))
+  pub longest : (payload : List ℕ) → takes (c .profile) 0x06 payload ≤ 1 + 8 * endpoints (c .profile .face)
+  pub reached : (rest : List ℕ) → takes (c .profile) 0x06 (c .profile .face .count ∷ rest) ≡ 1 + 8 * endpoints (c .profile .face)
+
+pub face-length : (c : Camera) → wellFormed c ≡ true → has (c .profile) 0x06 ≡ true → FaceLength c
+unfolding answerOf
+face-length c w h =
+    let v = valid-face (c .profile) (formed-profile c w) h in
+    record { answer = len-answer (c .profile .face) (c .face); longest = len-longest (c .profile .face) v; reached = len-taken (c .profile .face) v }
+
+-- Reads back: a SET's verdict is 0 where 01's tests accept it with the record's profile and flag.
+pub set-verdict : (c : Camera) → wellFormed c ≡ true → (s payload : List ℕ) (room : ℕ) → isSetRequest s ≡ true
+    → setAccepted (c .profile) (c .streaming) s payload ≡ eqb (requested c s payload room .code) 0
+set-verdict c w s payload room i = set-answer c s payload room w i
+
+-- What an accepted SET of face authentication makes of the record c: d.
+pub record FaceReadsBack (c d : Camera) (payload : List ℕ) : Type 0 where
+  -- the setting held of each entry's address is the entry's
+  pub entries : (i : ℕ) → i < getD payload 0 0 → heldAt (d .face) (entryAddress payload i) ≡ entryFlags payload i
+  -- an endpoint has that address
+  pub place : (i : ℕ) → i < getD payload 0 0 → (j : ℕ) × ((j < endpoints (c .profile .face)) × (addressAt (c .profile .face) j ≡ entryAddress payload i))
+  -- and GET_CUR lists it with the entry's flags: the eight bytes that were set
+  pub listed : (i j : ℕ) → i < getD payload 0 0 → addressAt (c .profile .face) j ≡ entryAddress payload i → flagsAt (c .profile .face) (d .face) 0x81 j ≡ entryFlags payload i
+  pub bytes : (i j : ℕ) → i < getD payload 0 0 → j < endpoints (c .profile .face) → addressAt (c .profile .face) j ≡ entryAddress payload i
+      → entryBytes (answerOf d 0x06 0x81) j ≡ entryBytes payload i
+  -- an address that no entry names keeps its setting, and its endpoint's entry in GET_CUR's answer is as it was
+  pub others : (address : ℕ) → 0x81 ≤ address → ((i : ℕ) → i < getD payload 0 0 → entryAddress payload i ≡ address → ⊥) → heldAt (d .face) address ≡ heldAt (c .face) address
+  pub unnamed : (j : ℕ) → j < endpoints (c .profile .face) → ((i : ℕ) → i < getD payload 0 0 → entryAddress payload i ≡ addressAt (c .profile .face) j → ⊥)
+      → entryBytes (answerOf d 0x06 0x81) j ≡ entryBytes (answerOf c 0x06 0x81) j
+  -- no entries set nothing
+  pub empty : getD payload 0 0 ≡ 0 → d ≡ c
+
+module _ (c : Camera) (o : Ok (c .profile) c) (payload : List ℕ) (r : controlRefusal (c .profile) true 0x06 ≡ 0) (z : setRefusal (c .profile) 0x06 payload ≡ 0) where
+  abbrev d : Camera
+  d = puts c (setGives (c .profile) 0x06 payload)
+
+  abbrev limits : FaceLimits
+  limits = c .profile .face
+
+  each-taken : (i : ℕ) → i < getD payload 0 0 → Taken (c .profile) payload i
+  each-taken = entry-taken (c .profile) payload (formed-profile c (o .formed)) r z
+
+  all-taken : After c (o .places) payload (getD payload 0 0)
+  all-taken = after c (o .places) payload (getD payload 0 0) each-taken
+
+  flags-listed : (i j : ℕ) → i < getD payload 0 0 → addressAt limits j ≡ entryAddress payload i → flagsAt limits (d .face) 0x81 j ≡ entryFlags payload i
+  unfolding setGives
+  flags-listed i j h q = current-held limits (d .face) j (entryFlags payload i) (ap (heldAt (d .face)) q ∙ all-taken .named i h) (each-taken i h .some)
+
+  entry-listed : (j : ℕ) → j < endpoints limits → entryBytes (answerOf d 0x06 0x81) j ≡ entryOf (addressAt limits j) (flagsAt limits (d .face) 0x81 j)
+  entry-listed j h =
+      let e = puts-profile c (setGives (c .profile) 0x06 payload) in
+      current-entry d j (rw e h) ∙ ap (λ p. entryOf (addressAt (p .face) j) (flagsAt (p .face) (d .face) 0x81 j)) e
+
+  face-back : Bytes payload → length payload ≡ takes (c .profile) 0x06 payload → FaceReadsBack c d payload
+  unfolding setGives allGiven puts
+  face-back b n =
+      let v = valid-face (c .profile) (formed-profile c (o .formed)) (control-there (c .profile) true 0x06 r) in
+      let m = face-sized limits payload n in
+      record {
+        entries = all-taken .named;
+        place = λ i h. place-at limits (entryAddress payload i) (each-taken i h .known);
+        listed = flags-listed;
+        bytes = λ i j h k q. entry-listed j k ∙ ap₂ entryOf q (flags-listed i j h q) ∙ sym (payload-entry payload i b (omega arith));
+        others = all-taken .other;
+        unnamed = λ j h no.
+            let e = all-taken .other (addressAt limits j) (place-listed limits v j (omega arith) .first) no in
+            entry-listed j h ∙ ap (entryOf (addressAt limits j)) (current-same limits (d .face) j (c .face) e) ∙ sym (current-entry c j h);
+        empty = λ e. rw e;
+      }
+
+-- What an accepted SET of a control makes of the record c: d, whose full answer to GET_CUR is the bytes that were set; a throttle's last twelve
+-- are the profile's limits.
+pub record ReadsBack (c d : Camera) (selector : ℕ) (payload : List ℕ) : Type 0 where
+  pub known : Control selector
+  pub answer : (selector ≡ 0x06 → ⊥) → answerOf d selector 0x81 ≡ bytesBack (c .profile) selector payload
+  pub of-face : selector ≡ 0x06 → FaceReadsBack c d payload
+
+set-next : (c : Camera) → Ok (c .profile) c → (s payload reply : List ℕ) → setAccepted (c .profile) (c .streaming) s payload ≡ true
+    → next c (request s payload reply) ≡ puts c (setGives (c .profile) (selectorOf s) payload)
+unfolding gives
+set-next c o s payload reply a = request-next c s payload reply (o .formed) ∙ rw a
+
+pub set-then-get : (c : Camera) → Ok (c .profile) c → (s payload reply : List ℕ) → Bytes payload → isSetRequest s ≡ true → outcome c (request s payload reply) .code ≡ 0
+    → ReadsBack c (next c (request s payload reply)) (selectorOf s) payload
+set-then-get c o s payload reply b i e =
+    let p = c .profile in
+    let a : setAccepted p (c .streaming) s payload ≡ true = set-answer c s payload (length reply) (o .formed) i ∙ eq-eqb _ 0 e in
+    let n = accepted-length p (c .streaming) s payload a in
+    let z = accepted-values p (c .streaming) s payload a in
+    let h = accepted-control p (c .streaming) s payload a in
+    let r = set-control p (c .streaming) s payload a in
+    let k = control-known (p .controls) (selectorOf s) (valid-presence p (formed-profile c (o .formed))) (h .0) in
+    let d : next c (request s payload reply) ≡ puts c (setGives p (selectorOf s) payload) = set-next c o s payload reply a in
+    record {
+      known = k;
+      answer = λ m. ap (λ d. answerOf d (selectorOf s) 0x81) d ∙ answer-back c payload b (selectorOf s) k m (h .1) z n;
+      of-face = λ q. subst (λ d. FaceReadsBack c d payload) (sym (d ∙ ap (λ (m : ℕ). puts c (setGives p m payload)) q)) (face-back c o payload (rw q at r) (rw q at z) b (rw q at n));
+    }
+
+-- What is sent of a full answer: the first min(wLength, full length) bytes, reported and at the buffer's start; the rest of the buffer and the
+-- record are as they were.
+pub record Sends (c : Camera) (s payload reply full : List ℕ) : Type 0 where
+  pub count : outcome c (request s payload reply) .count ≡ min (wLengthOf s) (length full)
+  pub buffer : left c (request s payload reply) ≡ take (min (wLengthOf s) (length full)) full ++ drop (min (wLengthOf s) (length full)) reply
+  pub camera : next c (request s payload reply) ≡ c
+
+-- every accepted GET sends its full answer so
+pub get-sends : (c : Camera) (s payload reply : List ℕ) → isSetRequest s ≡ false → outcome c (request s payload reply) .code ≡ 0 → Sends c s payload reply (asked c s)
+unfolding requested requestDone replied
+get-sends c s payload reply i e =
+    let z : requestDone c s payload .code ≡ 0 = rw i in
+    let n = eq-eqb _ 0 (sym (outcome-code (requestCode c s payload (length reply)) c (requestDone c s payload) z) ∙ e) in
+    let done : outcome c (request s payload reply) ≡ record { code = 0; count = sentCount c s; camera = c } = rw (n, i) in
+    record { count = ap (λ o. o .count) done; buffer = rw (n, i); camera = ap (λ o. o .camera) done }
+
+-- A GET's setup for a control of the profile; with no payload and room it is accepted.
+pub record Gets (p : Profile) (s : List ℕ) : Type 0 where
+  pub eight : length s ≡ 8
+  pub addresses : addressed (table p) s ≡ true
+  pub present : has p (selectorOf s) ≡ true
+  pub low : valueLow s ≡ 0
+  pub get : isGetRequest s ≡ true
+
+get-no-set : (s : List ℕ) → isGetRequest s ≡ true → isSetRequest s ≡ false
+get-no-set s h =
+    let q = simp and-eq-true-iff at h in
+    let t : typeOf s ≡ 0xA1 = eqb-true (typeOf s) 0xA1 (q .0 .0) in
+    rw t
+
+pub get-accepted : (c : Camera) → wellFormed c ≡ true → (s reply : List ℕ) → Gets (c .profile) s → min (wLengthOf s) (length (asked c s)) ≤ length reply
+    → outcome c (request s [] reply) .code ≡ 0
+unfolding requested requestDone requestCode requestRows requestTests valueTests
+get-accepted c w s reply g h =
+    let i = get-no-set s (g .get) in
+    let z : requestDone c s [] .code ≡ 0 = rw i in
+    let room = le-ltb (length reply) (sentCount c s) h in
+    outcome-code (requestCode c s [] (length reply)) c (requestDone c s []) z
+    ∙ rw (w, eq-eqb (length s) 8 (g .eight), g .addresses, g .present, eq-eqb (valueLow s) 0 (g .low), i, g .get, room)
+
+-- Call by call: after an accepted SET, GET_CUR of its control is accepted, given room, and sends the bytes that were set.
+pub round-trip : (c : Camera) → Ok (c .profile) c → (s payload reply : List ℕ) → Bytes payload → isSetRequest s ≡ true → outcome c (request s payload reply) .code ≡ 0
+    → (selectorOf s ≡ 0x06 → ⊥) → (g buffer : List ℕ) → Gets (c .profile) g → codeOf g ≡ 0x81 → selectorOf g ≡ selectorOf s
+    → min (wLengthOf g) (length (bytesBack (c .profile) (selectorOf s) payload)) ≤ length buffer
+    → let d = next c (request s payload reply) in
+    (outcome d (request g [] buffer) .code ≡ 0) × Sends d g [] buffer (bytesBack (c .profile) (selectorOf s) payload)
+round-trip c o s payload reply b i e m g buffer x q f h =
+    let d = next c (request s payload reply) in
+    let t = step (c .profile) c o (request s payload reply) .ok in
+    let full : asked d g ≡ bytesBack (c .profile) (selectorOf s) payload = ap₂ (answerOf d) f q ∙ set-then-get c o s payload reply b i e .answer m in
+    let z = get-accepted d (t .formed) g buffer (subst (λ p. Gets p g) (sym (t .profile)) x) (rw full h) in
+    (z, subst (λ l. Sends d g [] buffer l) full (get-sends d g [] buffer (get-no-set g (x .get)) z))
+
+-- A written snapshot reads back: it is well formed, has the record of every setting held and no other, and each record read as a SET is that
+-- setting again. With room for it, writing leaves these bytes.
+pub record SnapshotReadsBack (c : Camera) : Type 0 where
+  pub formed : form.wellFormed (snapshot c) ≡ true
+  pub records : (k : ℕ) → decode (snapshot c) k ≡ Option·map (row k) (held c k)
+  pub settings : (k : ℕ) → settingOf (loadItem (c .profile) true (snapshot c) k) ≡ held c k
+  pub written : (out : List ℕ) → length (snapshot c) ≤ length out → Written c (snapshot c) out
+
+pub snapshot-read-back : (c : Camera) → wellFormed c ≡ true → Typed c → SnapshotReadsBack c
+snapshot-read-back c w t =
+    let g : records.Good (λ k. Option·map (row k) (held c k)) = λ k. good-at c w t k (held c k) refl in
+    let d = snapshot-decodes c g in
+    record {
+      formed = snapshot-formed c g;
+      records = λ k. ap (λ m. m k) d;
+      settings = λ k. ap (λ m. settingOf (itemFor (c .profile) true k (m k))) d ∙ written-item c w t k (held c k) refl;
+      written = λ out h. writes c out w h;
+    }
