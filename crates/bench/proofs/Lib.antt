@@ -1,0 +1,2 @@
+-- The claim of the table.
+pub mod Table

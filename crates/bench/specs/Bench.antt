@@ -1,0 +1,27 @@
+-- Document 01, "The bench camera": its profile. It has no metadata control, whose limits are not looked at.
+use mathlib.Core.Bool.{true, false}
+use mathlib.Core.List.{List, [], _∷_}
+use lib.IntN.{pos, negsuc}
+use Rattle.camera.specs.declared.profile.Profile.{Profile}
+use Rattle.camera.specs.declared.record.Camera.{Camera}
+use Rattle.camera.specs.Record.{fresh}
+
+unfoldable pub benchProfile : Profile
+benchProfile = record {
+  unit = 4;
+  interface = 0;
+  controls = 0x3024;
+  ev = record { low = negsuc 1; high = pos 2; steps = 0x1F };
+  face = record {
+    count = 1;
+    addresses = 0x81 ∷ 0 ∷ 0 ∷ 0 ∷ 0 ∷ 0 ∷ 0 ∷ 0 ∷ [];
+    offers = 0x03 ∷ 0 ∷ 0 ∷ 0 ∷ 0 ∷ 0 ∷ 0 ∷ 0 ∷ [];
+  };
+  metadata = record { maximum = 0; writable = false };
+  auto = false;
+  throttle = record { minimum = 5; maximum = 100; step = 5 };
+}
+
+-- it streams, and holds no settings
+abbrev pub bench : Camera
+bench = fresh benchProfile true

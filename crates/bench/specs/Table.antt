@@ -1,0 +1,131 @@
+-- Document 01, "The bench camera": the rows marked (p), in the paper's order, each a pair of answers: what the definitions of `camera`,
+-- `request` and `frame` come to, and what the paper says.
+use Prim.Native.Nat.{ℕ, _+_}
+use mathlib.Core.Bool.{Bool, true}
+use mathlib.Core.List.{List, [], _∷_, _++_, map}
+use lib.ListN.{length, replicate}
+use lib.IntN.{ℤ, pos, negsuc}
+use Rattle.request.specs.Setup.{isSetRequest, selectorOf, unitOf, interfaceOf, wLengthOf}
+use Rattle.frame.specs.declared.items.Counted.{Counted}
+use Rattle.frame.specs.Answers.{countOf, payloadOf}
+use Rattle.camera.specs.Requests.{requested}
+use Rattle.camera.specs.Snapshots.{snapshot}
+use Rattle.camera.specs.Calls.{Call, request, sensed}
+use Rattle.camera.specs.Demand.{run}
+use Rattle.bench.specs.Bench.{bench}
+
+-- what a row tells
+pub data Answer : Type 0 where
+  -- of a request: its number and count, and then the sensor's twelfths and the snapshot
+  answer : (number count : ℕ) (twelfths : ℤ) (sheet : List ℕ) → Answer
+  -- of a setup packet: whether it is a SET, and its selector, unit, interface and wLength
+  setup : Bool → (selector unit interface wLength : ℕ) → Answer
+  -- of a list of requests: the snapshot that it leaves
+  sheet : List ℕ → Answer
+  -- of a metadata block: its number and how many items it has, and the payload of the first
+  block : Counted → List ℕ → Answer
+
+infix 10 _is_
+pub data Row : Type 0 where
+  _is_ : (defined written : Answer) → Row
+
+abbrev pub defined : Row → Answer
+defined (a is b) = a
+
+abbrev pub written : Row → Answer
+written (a is b) = b
+
+-- a request: its setup packet and its payload
+abbrev pub Request : Type 0
+Request = List ℕ × List ℕ
+
+-- SETs of unit 4 on interface 0
+abbrev pub set : (selector : ℕ) → List ℕ → Request
+set selector payload = (0x21 ∷ 0x01 ∷ 0x00 ∷ selector ∷ 0x00 ∷ 0x04 ∷ length payload ∷ 0x00 ∷ [], payload)
+
+-- of exposure compensation: the lowest byte of the flags, that of the value, and each of the value's upper three
+abbrev pub ev : (flags value upper : ℕ) → Request
+ev flags value upper = set 0x03 (flags ∷ 0 ∷ 0 ∷ 0 ∷ 0 ∷ 0 ∷ 0 ∷ value ∷ upper ∷ upper ∷ upper ∷ [])
+
+abbrev pub hdr : (mode : ℕ) → Request
+hdr mode = set 0x0D (mode ∷ 0 ∷ 0 ∷ 0 ∷ [])
+
+-- of the throttle, in mode 1
+abbrev pub throttle : (percent : ℕ) → Request
+throttle percent = set 0x0E (1 ∷ 0 ∷ 0 ∷ 0 ∷ percent ∷ 0 ∷ 0 ∷ 0 ∷ replicate 12 0)
+
+-- a request to the bench camera, which has no reply buffer to lend, and what the next record then holds
+abbrev pub after : Request → Answer
+after r =
+    let done = requested bench (r .0) (r .1) 0 in
+    answer (done .code) (done .count) (sensed (done .camera) .value) (snapshot (done .camera))
+
+-- it is accepted, and its payload is then the one record of the snapshot
+abbrev pub accepts : Request → (twelfths : ℤ) → Row
+accepts r twelfths = after r is answer 0 0 twelfths ((4 + length (r .1)) ∷ 0 ∷ selectorOf (r .0) ∷ 0 ∷ r .1)
+
+-- it is refused, and nothing is set
+abbrev pub refuses : Request → (number : ℕ) → Row
+refuses r number = after r is answer number 0 (pos 0) []
+
+-- a setup packet is a SET of the bench camera's unit
+abbrev pub isSet : List ℕ → (selector wLength : ℕ) → Row
+isSet s selector wLength =
+    setup (isSetRequest s) (selectorOf s) (unitOf s) (interfaceOf s) (wLengthOf s) is setup true selector 4 0 wLength
+
+-- requests one after the other leave a snapshot
+abbrev pub call : Request → Call
+call r = request (r .0) (r .1) []
+
+abbrev pub leave : List Request → List ℕ → Row
+leave rs bytes = sheet (snapshot (run bench (map call rs))) is sheet bytes
+
+-- a metadata block has so many items, and the first this payload; or it is refused
+abbrev pub read : List ℕ → Answer
+read s = block (countOf s) (payloadOf s 0)
+
+abbrev pub holds : List ℕ → (items : ℕ) → (payload : List ℕ) → Row
+holds s items payload = read s is block (record { code = 0; items = items }) payload
+
+abbrev pub isRefused : List ℕ → (number : ℕ) → Row
+isRefused s number = read s is block (record { code = number; items = 0 }) []
+
+-- the first row's request
+abbrev pub firstCase : Request
+firstCase = set 0x03 (0x02 ∷ 0x00 ∷ 0x00 ∷ 0x00 ∷ 0x00 ∷ 0x00 ∷ 0x00 ∷ 0xFD ∷ 0xFF ∷ 0xFF ∷ 0xFF ∷ [])
+
+-- an item of id 6, by its size
+abbrev pub item : (size : ℕ) → List ℕ → List ℕ
+item size payload = 0x06 ∷ 0x00 ∷ 0x00 ∷ 0x00 ∷ size ∷ 0x00 ∷ 0x00 ∷ 0x00 ∷ payload
+
+abbrev pub rows : List Row
+rows =
+    -- EV, -3 steps of 1/4 stop
+    accepts firstCase (negsuc 8)
+    -- D1 with 8 and with 9
+    ∷ accepts (ev 0x02 0x08 0x00) (pos 24)
+    ∷ refuses (ev 0x02 0x09 0x00) 0x04
+    -- two flags
+    ∷ refuses (ev 0x11 0x00 0x00) 0x08
+    -- D0 with -12 and with -13
+    ∷ accepts (ev 0x01 0xF4 0xFF) (negsuc 23)
+    ∷ refuses (ev 0x01 0xF3 0xFF) 0x04
+    -- HDR 2 and 3
+    ∷ refuses (hdr 2) 0x08
+    ∷ refuses (hdr 3) 0x04
+    -- throttle 80, 82 and 105
+    ∷ accepts (throttle 80) (pos 0)
+    ∷ refuses (throttle 82) 0x08
+    ∷ refuses (throttle 105) 0x04
+    -- the HDR SET
+    ∷ isSet (0x21 ∷ 0x01 ∷ 0x00 ∷ 0x0D ∷ 0x00 ∷ 0x04 ∷ 0x04 ∷ 0x00 ∷ []) 0x0D 4
+    -- the first case, then HDR 1
+    ∷ leave (firstCase ∷ hdr 1 ∷ [])
+    (0x0F ∷ 0x00 ∷ 0x03 ∷ 0x00 ∷ 0x02 ∷ 0x00 ∷ 0x00 ∷ 0x00 ∷ 0x00 ∷ 0x00 ∷ 0x00 ∷ 0xFD ∷ 0xFF ∷ 0xFF ∷ 0xFF
+    ∷ 0x08 ∷ 0x00 ∷ 0x0D ∷ 0x00 ∷ 0x01 ∷ 0x00 ∷ 0x00 ∷ 0x00
+    ∷ [])
+    -- one item; with 7 bytes; of size 8
+    ∷ holds (item 0x10 (1 ∷ 2 ∷ 3 ∷ 4 ∷ 5 ∷ 6 ∷ 7 ∷ 8 ∷ [])) 1 (1 ∷ 2 ∷ 3 ∷ 4 ∷ 5 ∷ 6 ∷ 7 ∷ 8 ∷ [])
+    ∷ isRefused (item 0x10 (1 ∷ 2 ∷ 3 ∷ 4 ∷ 5 ∷ 6 ∷ 7 ∷ [])) 0x40
+    ∷ holds (item 0x08 []) 1 []
+    ∷ []

@@ -1,0 +1,42 @@
+// The metadata blocks of document 01: how many items each has, and its first item.
+use crate::print::bytes;
+use crate::print::code;
+use crate::print::end;
+use crate::print::label;
+use crate::print::number;
+use crate::print::text;
+
+fn header() {
+    text(b"\nFrame metadata\n");
+    label(b"block", 18);
+    label(b"bytes", 49);
+    label(b"number", 8);
+    label(b"items", 7);
+    label(b"id", 10);
+    text(b"payload\n");
+}
+
+fn row(name: &[u8], block: &[u8]) {
+    label(name, 18);
+    bytes(block, 49);
+    let counted = frame::count(block);
+    code(counted.code, 8);
+    number(counted.items, 7);
+    let first = frame::item(block, 0);
+    number(first.id as usize, 10);
+    bytes(frame::payload(block, 0), 0);
+    end();
+}
+
+pub(crate) fn rows() {
+    header();
+    row(
+        b"one item",
+        b"\x06\x00\x00\x00\x10\x00\x00\x00\x01\x02\x03\x04\x05\x06\x07\x08",
+    );
+    row(
+        b"with 7 bytes",
+        b"\x06\x00\x00\x00\x10\x00\x00\x00\x01\x02\x03\x04\x05\x06\x07",
+    );
+    row(b"size 8", b"\x06\x00\x00\x00\x08\x00\x00\x00");
+}

@@ -1,0 +1,165 @@
+// Requests to the bench camera, a line for what is sent and answered and a line for the snapshot then.
+use crate::print::bytes;
+use crate::print::code;
+use crate::print::end;
+use crate::print::fill;
+use crate::print::label;
+use crate::print::number;
+use crate::print::text;
+use crate::profile::bench;
+use camera::Camera;
+use controls::ev::EvSetting;
+
+fn header(title: &[u8]) {
+    text(title);
+    end();
+    label(b"request", 18);
+    label(b"setup", 25);
+    label(b"payload", 37);
+    label(b"number", 8);
+    label(b"count", 7);
+    label(b"twelfths", 10);
+    text(b"reply\n");
+}
+
+// A signed number by its 32 bits, which stand in an EV payload behind the flags.
+fn twelfths(value: i32) {
+    let payload = controls::ev::bytes(EvSetting { flags: 0, value });
+    let bits = wire::le32(&payload, 7) as usize;
+    if bits < 0x8000_0000 {
+        number(bits, 10);
+        return;
+    }
+    text(b"-");
+    number(0x1_0000_0000 - bits, 9);
+}
+
+fn snapshot(c: Camera) {
+    let mut out = [0u8; 159];
+    let w = c.write(&mut out);
+    label(b"  snapshot", 18);
+    bytes(wire::head(&out, w.count), 0);
+    end();
+}
+
+// The bytes of a payload behind the twelve that its column has room for.
+fn rest(payload: &[u8]) {
+    if 12 < payload.len() {
+        fill(0, 43);
+        bytes(wire::tail(payload, 12), 0);
+        end();
+    }
+}
+
+fn answered(c: Camera, number_given: u8, count: usize, reply: &[u8]) {
+    code(number_given, 8);
+    number(count, 7);
+    twelfths(c.sensor().value);
+    bytes(wire::head(reply, count), 0);
+    end();
+}
+
+fn send(c: Camera, name: &[u8], setup: &[u8], payload: &[u8]) -> Camera {
+    label(name, 18);
+    bytes(setup, 25);
+    bytes(wire::head(payload, 12), 37);
+    let mut reply = [0u8; 65];
+    let done = c.request(setup, payload, &mut reply);
+    let next = done.camera;
+    answered(next, done.code, done.count, &reply);
+    rest(payload);
+    snapshot(next);
+    next
+}
+
+// SET_CUR and GET_CUR of a selector, of unit 4 on interface 0, with a wLength below 256.
+fn set(c: Camera, name: &[u8], selector: u8, wlength: u8, payload: &[u8]) -> Camera {
+    let setup = [0x21, 0x01, 0, selector, 0, 4, wlength, 0];
+    send(c, name, &setup, payload)
+}
+
+fn get(c: Camera, name: &[u8], selector: u8, wlength: u8) -> Camera {
+    let setup = [0xA1, 0x81, 0, selector, 0, 4, wlength, 0];
+    send(c, name, &setup, b"")
+}
+
+// The lowest byte of the flags, that of the value, and each of the value's upper three.
+fn ev(c: Camera, name: &[u8], flags: u8, value: u8, upper: u8) -> Camera {
+    let payload = [flags, 0, 0, 0, 0, 0, 0, value, upper, upper, upper];
+    set(c, name, 0x03, 11, &payload)
+}
+
+fn face(c: Camera, name: &[u8], address: u8, flags: u8) -> Camera {
+    let payload = [1, address, flags, 0, 0, 0, 0, 0, 0];
+    set(c, name, 0x06, 9, &payload)
+}
+
+fn hdr(c: Camera, name: &[u8], mode: u8) -> Camera {
+    let payload = [mode, 0, 0, 0];
+    set(c, name, 0x0D, 4, &payload)
+}
+
+// In mode 1.
+fn throttle(c: Camera, name: &[u8], percent: u8) -> Camera {
+    let payload = [
+        1,
+        0,
+        0,
+        0,
+        percent,
+        0,
+        0,
+        0,
+        0,
+        0,
+        0,
+        0,
+        0,
+        0,
+        0,
+        0,
+        0,
+        0,
+        0,
+        0,
+    ];
+    set(c, name, 0x0E, 20, &payload)
+}
+
+// To a fresh camera.
+fn fresh_ev(name: &[u8], flags: u8, value: u8, upper: u8) {
+    ev(bench(), name, flags, value, upper);
+}
+
+fn fresh_hdr(name: &[u8], mode: u8) {
+    hdr(bench(), name, mode);
+}
+
+fn fresh_throttle(name: &[u8], percent: u8) {
+    throttle(bench(), name, percent);
+}
+
+pub(crate) fn fresh_rows() {
+    header(b"The bench camera, each request to a fresh one");
+    fresh_ev(b"EV D1, -3", 0x02, 0xFD, 0xFF);
+    fresh_ev(b"EV D1, 8", 0x02, 0x08, 0x00);
+    fresh_ev(b"EV D1, 9", 0x02, 0x09, 0x00);
+    fresh_ev(b"EV D0 and D4, 0", 0x11, 0x00, 0x00);
+    fresh_ev(b"EV D0, -12", 0x01, 0xF4, 0xFF);
+    fresh_ev(b"EV D0, -13", 0x01, 0xF3, 0xFF);
+    fresh_hdr(b"HDR 2", 2);
+    fresh_hdr(b"HDR 3", 3);
+    fresh_throttle(b"throttle 80", 80);
+    fresh_throttle(b"throttle 82", 82);
+    fresh_throttle(b"throttle 105", 105);
+    face(bench(), b"face 0x82", 0x82, 0x01);
+}
+
+// The first row's request, then HDR 1, and both read back.
+pub(crate) fn kept_rows() {
+    header(b"\nThe same camera all the way: EV, then HDR, then both read back");
+    let one = ev(bench(), b"EV D1, -3", 0x02, 0xFD, 0xFF);
+    let two = hdr(one, b"HDR 1", 1);
+    let three = get(two, b"EV, GET_CUR", 0x03, 11);
+    get(three, b"HDR, GET_CUR", 0x0D, 4);
+}
