@@ -25,7 +25,7 @@ use Rattle.controls.specs.Face.{endpoints, addressAt, offersAt, offersFrom, off
 use Rattle.controls.specs.Metadata.{metadataItem, metadataAt, metadataAnswer}
 use Rattle.controls.specs.Hdr.{hdrItem, hdrAt, hdrAnswer}
 use Rattle.controls.specs.Throttle.{throttleItem, throttleHeld, throttleAt, throttleBytes, throttleAnswer}
-use Rattle.controls.proofs.Laws.Numbers.{bytes-at}
+use Rattle.wire.proofs.Laws.Bytes.{bytes-at}
 use Rattle.controls.proofs.Laws.Ev.{ev-bytes}
 use Rattle.controls.proofs.Laws.Face.{accepted, length-entries}
 use Rattle.controls.proofs.Laws.Plain.{word-bytes}
