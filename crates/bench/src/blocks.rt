@@ -6,16 +6,6 @@ use crate::print::label;
 use crate::print::number;
 use crate::print::text;
 
-fn header() {
-    text(b"\nFrame metadata\n");
-    label(b"block", 18);
-    label(b"bytes", 49);
-    label(b"number", 8);
-    label(b"items", 7);
-    label(b"id", 10);
-    text(b"payload\n");
-}
-
 fn row(name: &[u8], block: &[u8]) {
     label(name, 18);
     bytes(block, 49);
@@ -29,7 +19,10 @@ fn row(name: &[u8], block: &[u8]) {
 }
 
 pub(crate) fn rows() {
-    header();
+    text(b"\nFrame metadata\n");
+    text(
+        b"block             bytes                                            number  items  id        payload\n",
+    );
     row(
         b"one item",
         b"\x06\x00\x00\x00\x10\x00\x00\x00\x01\x02\x03\x04\x05\x06\x07\x08",

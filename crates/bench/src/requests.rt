@@ -12,14 +12,9 @@ use controls::ev::EvSetting;
 
 fn header(title: &[u8]) {
     text(title);
-    end();
-    label(b"request", 18);
-    label(b"setup", 25);
-    label(b"payload", 37);
-    label(b"number", 8);
-    label(b"count", 7);
-    label(b"twelfths", 10);
-    text(b"reply\n");
+    text(
+        b"request           setup                    payload                              number  count  twelfths  reply\n",
+    );
 }
 
 // A signed number by its 32 bits, which stand in an EV payload behind the flags.
@@ -139,25 +134,33 @@ fn fresh_throttle(name: &[u8], percent: u8) {
     throttle(bench(), name, percent);
 }
 
-pub(crate) fn fresh_rows() {
-    header(b"The bench camera, each request to a fresh one");
+fn ev_rows() {
     fresh_ev(b"EV D1, -3", 0x02, 0xFD, 0xFF);
     fresh_ev(b"EV D1, 8", 0x02, 0x08, 0x00);
     fresh_ev(b"EV D1, 9", 0x02, 0x09, 0x00);
     fresh_ev(b"EV D0 and D4, 0", 0x11, 0x00, 0x00);
     fresh_ev(b"EV D0, -12", 0x01, 0xF4, 0xFF);
     fresh_ev(b"EV D0, -13", 0x01, 0xF3, 0xFF);
-    fresh_hdr(b"HDR 2", 2);
-    fresh_hdr(b"HDR 3", 3);
+}
+
+fn throttle_rows() {
     fresh_throttle(b"throttle 80", 80);
     fresh_throttle(b"throttle 82", 82);
     fresh_throttle(b"throttle 105", 105);
+}
+
+pub(crate) fn fresh_rows() {
+    header(b"The bench camera, each request to a fresh one\n");
+    ev_rows();
+    fresh_hdr(b"HDR 2", 2);
+    fresh_hdr(b"HDR 3", 3);
+    throttle_rows();
     face(bench(), b"face 0x82", 0x82, 0x01);
 }
 
 // The first row's request, then HDR 1, and both read back.
 pub(crate) fn kept_rows() {
-    header(b"\nThe same camera all the way: EV, then HDR, then both read back");
+    header(b"\nThe same camera all the way: EV, then HDR, then both read back\n");
     let one = ev(bench(), b"EV D1, -3", 0x02, 0xFD, 0xFF);
     let two = hdr(one, b"HDR 1", 1);
     let three = get(two, b"EV, GET_CUR", 0x03, 11);

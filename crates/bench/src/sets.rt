@@ -68,16 +68,10 @@ fn row(name: &[u8], set: &[u8]) {
 
 pub(crate) fn header() {
     text(b"\nDescriptor sets of 004\n");
-    label(b"set", 24);
-    label(b"bytes", 8);
-    label(b"number", 8);
-    text(b"offset\n");
-    label(b"  property", 24);
-    label(b"offset", 8);
-    label(b"interface", 11);
-    label(b"type", 6);
-    label(b"name", 36);
-    text(b"data\n");
+    text(b"set                     bytes   number  offset\n");
+    text(
+        b"  property              offset  interface  type  name                                data\n",
+    );
 }
 
 // The first array, with 0 for the version's open digit.
