@@ -16,6 +16,7 @@ fn blank() -> [u8; 256]
     [0xEE; 256]
 }
 
+// Writes number and count, and hands the next record on.
 fn told(r: Outcome) -> Camera {
     print::code(r.code);
     print::count(r.count);
@@ -35,32 +36,42 @@ fn write(camera: Camera, out: &mut [u8]) -> Camera {
     next
 }
 
+// A request into so much room.
+fn replied(camera: Camera, setup: &[u8], payload: &[u8], room: u8) -> Camera {
+    let mut reply = blank();
+    let n = room as usize;
+    request(camera, setup, payload, &mut reply[..n])
+}
+
+// The payload of a request.
+fn sent(camera: Camera, setup: &[u8], call: &[u8]) -> Camera {
+    let mut payload = blank();
+    let n = decode(word(call, 3), &mut payload);
+    replied(
+        camera,
+        setup,
+        wire::head(&payload, n),
+        octet(word(call, 1), 0),
+    )
+}
+
 // A request: room for the reply, setup, payload.
 fn requested(camera: Camera, call: &[u8]) -> Camera {
-    let mut setup = [0u8; 16];
-    let mut payload = [0u8; 128];
-    let mut reply = blank();
+    let mut setup = blank();
     let n = decode(word(call, 2), &mut setup);
-    let m = decode(word(call, 3), &mut payload);
-    let room = octet(word(call, 1), 0) as usize;
-    request(
-        camera,
-        wire::head(&setup, n),
-        wire::head(&payload, m),
-        &mut reply[..room],
-    )
+    sent(camera, wire::head(&setup, n), call)
 }
 
 // Writing a snapshot: room for it.
 fn written(camera: Camera, call: &[u8]) -> Camera {
     let mut out = blank();
-    let room = octet(word(call, 1), 0) as usize;
-    write(camera, &mut out[..room])
+    let n = octet(word(call, 1), 0) as usize;
+    write(camera, &mut out[..n])
 }
 
 // Loading a snapshot.
 fn loaded(camera: Camera, call: &[u8]) -> Camera {
-    let mut sheet = [0u8; 256];
+    let mut sheet = blank();
     let n = decode(word(call, 1), &mut sheet);
     told(camera.load(wire::head(&sheet, n)))
 }
@@ -86,6 +97,7 @@ fn fresh(call: &[u8]) -> Camera {
     camera
 }
 
+// camera, hold, request ROOM SETUP PAYLOAD, flag ON (the streaming flag), load SNAPSHOT, write ROOM, sensor.
 pub(crate) fn run(camera: Camera, call: &[u8]) -> Camera {
     let kind = wire::byte(call, 0);
     if kind == b'c' {

@@ -1,6 +1,7 @@
-// Runs the camera's calls on the rows of `stdin` and writes each row with its answer behind it: the number in hex, the count and
-// every byte of the lent buffer, which is 0xee before.
-// A row is a name, a colon, a call and its fields in hex, little-endian, `-` for no bytes; a line without a colon is a heading.
+// Runs the camera's calls on the rows of the file `stdin` and writes each row with its answer behind it: document 01's number in
+// hex, the count, and every byte of the lent buffer, which holds 0xee before.
+// A row is a name, a colon, a call and the call's fields in hex, little-endian, `-` for no bytes. A line without a colon is a
+// heading. src/calls.rt has the calls, src/record.rt the fields of a camera.
 mod calls;
 mod print;
 mod record;

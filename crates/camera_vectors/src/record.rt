@@ -1,4 +1,5 @@
 // Records made of a row's fields, also such as no call leaves.
+use crate::words::decode;
 use crate::words::number;
 use crate::words::octet;
 use crate::words::signed;
@@ -20,36 +21,15 @@ fn flag(w: &[u8]) -> bool {
 }
 
 fn eight(w: &[u8]) -> [u8; 8] {
-    [
-        octet(w, 0),
-        octet(w, 1),
-        octet(w, 2),
-        octet(w, 3),
-        octet(w, 4),
-        octet(w, 5),
-        octet(w, 6),
-        octet(w, 7),
-    ]
+    let mut b = [0u8; 8];
+    decode(w, &mut b);
+    b
 }
 
 fn fifteen(w: &[u8]) -> [u8; 15] {
-    [
-        octet(w, 0),
-        octet(w, 1),
-        octet(w, 2),
-        octet(w, 3),
-        octet(w, 4),
-        octet(w, 5),
-        octet(w, 6),
-        octet(w, 7),
-        octet(w, 8),
-        octet(w, 9),
-        octet(w, 10),
-        octet(w, 11),
-        octet(w, 12),
-        octet(w, 13),
-        octet(w, 14),
-    ]
+    let mut b = [0u8; 15];
+    decode(w, &mut b);
+    b
 }
 
 fn ev_limits(w: &[u8]) -> EvLimits {

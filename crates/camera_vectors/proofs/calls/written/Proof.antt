@@ -14,8 +14,8 @@ word-requires c κs = search needs
 octet-requires : tie.Need-octet-requires
 octet-requires c κs = search needs
 
-cast-room : tie.Need-cast-room
-cast-room c = search needs
+cast-n : tie.Need-cast-n
+cast-n c = search needs
 
 array-borrow-prefix-out : tie.Need-array-borrow-prefix-out
 array-borrow-prefix-out c = search needs
@@ -36,7 +36,7 @@ written-spec =
     blank-requires
     word-requires
     octet-requires
-    cast-room
+    cast-n
     array-borrow-prefix-out
     slice-aggregate-write
     write-requires
