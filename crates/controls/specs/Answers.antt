@@ -13,6 +13,10 @@ use Rattle.controls.specs.declared.answers.Answer.{Answer}
 unfoldable pub answerBy : (code len info : ℕ) → List ℕ → List ℕ
 answerBy code len info value = cond (eqb code getLen) (bytesOf 2 len) (cond (eqb code getInfo) (info ∷ []) value)
 
+-- the longest answer: a count and an entry of eight bytes for each of eight endpoints
+abbrev pub longest : ℕ
+longest = 65
+
 -- an answer as the code hands it on: its bytes with zeros behind them, and its length
 unfoldable pub packed : List ℕ → Answer
-packed l = record { bytes = overlay (replicate 65 0) 0 l; len = min (length l) 65 }
+packed l = record { bytes = overlay (replicate longest 0) 0 l; len = min (length l) longest }

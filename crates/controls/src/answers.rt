@@ -9,16 +9,16 @@ pub const LONGEST: usize = 65;
 
 // The first len bytes are the answer, the others 0.
 pub struct Answer {
-    pub bytes: [u8; 65],
+    pub bytes: [u8; LONGEST],
     pub len: usize,
 }
 
 pub(crate) fn pack(answer: &[u8]) -> Answer
     ensures { λ r. ⌜ r ≡ packed (now (answer .entry)) ⌝ }
 {
-    let mut bytes = [0u8; 65];
+    let mut bytes = [0u8; LONGEST];
     wire::copy(&mut bytes, 0, answer);
-    let len = wire::least(answer.len(), 65);
+    let len = wire::least(answer.len(), LONGEST);
     Answer { bytes, len }
 }
 
