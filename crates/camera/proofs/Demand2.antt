@@ -42,6 +42,7 @@ use Rattle.camera.specs.Requests.{answerOf, asked, sentCount, valueTests
 use Rattle.camera.specs.Snapshots.{selectorAt, itemFor, loadItem, loadGives, row, snapshot}
 use Rattle.camera.specs.Calls.{Call, request, load, outcome, left, next}
 use Rattle.camera.specs.Demand.{setAccepted, gives, leaves, Typed, Written}
+use Rattle.camera.proofs.Laws.Longest.{snapshot-short}
 use Rattle.camera.proofs.Laws.Held.{none-never, fresh-held, puts-profile}
 use Rattle.camera.proofs.Laws.Kept.{formed-profile, valid-presence, valid-face, control-there}
 use Rattle.camera.proofs.Laws.ReadBack.{bytesBack, answer-back, Taken, entry-taken, After, after, entryBytes, payload-entry, place-at, face-sized, current-entry, current-held, current-same, face-none}
@@ -297,3 +298,7 @@ snapshot-read-back c w t =
       settings = λ k. ap (λ m. settingOf (itemFor (c .profile) true k (m k))) d ∙ written-item c w t k (held c k) refl;
       written = λ out h. writes c out w h;
     }
+
+-- 159 bytes are room for any camera's snapshot
+pub write-suffices : (c : Camera) → wellFormed c ≡ true → (out : List ℕ) → 159 ≤ length out → Written c (snapshot c) out
+write-suffices c w out h = writes c out w (omega (arith, snapshot-short c w))

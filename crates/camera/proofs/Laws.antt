@@ -4,6 +4,7 @@ pub mod Kept
 pub mod Lists
 pub mod Loading
 pub mod Loads
+pub mod Longest
 pub mod ReadBack
 pub mod Record
 pub mod Records

@@ -1,0 +1,143 @@
+-- A camera's snapshot is no longer than 159 bytes: no more endpoints hold a setting than the profile lists. Assumes nothing.
+use mathlib.Core.Path.{_≡_, refl, ap, sym, _∙_}
+use mathlib.Core.List.{List}
+use mathlib.Core.Option.{Option, none, some, Option·map}
+use mathlib.Core.Bool.{Bool, true, false, cond, not, _||_, true≢false}
+use Prim.Native.Nat.{ℕ, zero, suc, _+_, _-_, _≤_, _<_}
+use native.Mathlib.Nat.{zero-add, add-zero}
+use native.Mathlib.Omega.{arith}
+use lib.Dec.{eqb}
+use lib.ListN.{length, getD}
+use borrow.Author.Tests.{eq-eqb, eqb-true, eqb-false}
+use Rattle.snapshot.specs.Records as records
+use Rattle.snapshot.proofs.Laws.Lengths.{encode-short}
+use Rattle.controls.specs.declared.face.FaceLimits.{FaceLimits}
+use Rattle.controls.specs.Face.{addressAt, offersAt, offersFrom, offersOf, endpoints}
+use Rattle.controls.specs.declared.settings.Setting.{Setting}
+use Rattle.controls.specs.declared.settings.Setting.the-variants as S
+use Rattle.camera.specs.declared.record.Camera.{Camera}
+use Rattle.camera.specs.Record.{faceHeld, held, valueRefusal, wellFormed}
+use Rattle.camera.specs.Snapshots.{row, snapshot}
+use Rattle.camera.proofs.Laws.Held.{held-face, none-never}
+use Rattle.camera.proofs.Laws.Kept.{held-good}
+use Rattle.camera.proofs.Laws.Records.{row-record}
+
+-- how many of the n numbers from k on f holds of
+tally : ℕ → ℕ → (ℕ → Bool) → ℕ
+tally zero k f = 0
+tally (suc n) k f = cond (f k) 1 0 + tally n (suc k) f
+
+-- of two tests, at most as many as of each
+tally-or : (n k : ℕ) (f g : ℕ → Bool) → tally n k (λ j. f j || g j) ≤ tally n k f + tally n k g
+unfolding tally
+tally-or zero k f g = omega arith
+tally-or (suc n) k f g = go (f k) (g k) (tally-or n (suc k) f g)
+  where
+    go : (a b : Bool) → tally n (suc k) (λ j. f j || g j) ≤ tally n (suc k) f + tally n (suc k) g
+        → cond (a || b) 1 0 + tally n (suc k) (λ j. f j || g j) ≤ cond a 1 0 + tally n (suc k) f + (cond b 1 0 + tally n (suc k) g)
+    go true true h = omega arith
+    go true false h = omega arith
+    go false true h = omega arith
+    go false false h = omega arith
+
+-- none from k on
+tally-none : (n k : ℕ) (f : ℕ → Bool) → ((j : ℕ) → k ≤ j → f j ≡ false) → tally n k f ≡ 0
+unfolding tally
+tally-none zero k f h = refl
+tally-none (suc n) k f h = rw (h k (omega arith), tally-none n (suc k) f (λ j l. h j (omega arith)))
+
+-- a test that holds of one number at most
+tally-one : (n k : ℕ) (f : ℕ → Bool) → ((i j : ℕ) → f i ≡ true → f j ≡ true → i ≡ j) → tally n k f ≤ 1
+unfolding tally
+tally-one zero k f h = omega arith
+tally-one (suc n) k f h = go (f k) refl (tally-one n (suc k) f h)
+  where
+    other : f k ≡ true → (j : ℕ) → suc k ≤ j → (b : Bool) → f j ≡ b → f j ≡ false
+    other e j l true q = let z = h k j e q in absurd (omega arith)
+    other e j l false q = q
+
+    go : (b : Bool) → f k ≡ b → tally n (suc k) f ≤ 1 → cond b 1 0 + tally n (suc k) f ≤ 1
+    go true e ih = omega (arith, tally-none n (suc k) f (λ j l. other e j l _ refl))
+    go false e ih = omega arith
+
+-- key k's address is among the first n places
+listed : FaceLimits → ℕ → ℕ → Bool
+listed l zero k = false
+listed l (suc n) k = listed l n k || eqb (addressAt l n) (0x80 + k)
+
+tally-listed : (l : FaceLimits) (n m k : ℕ) → tally m k (listed l n) ≤ n
+unfolding listed
+tally-listed l zero m k = let e = tally-none m k (λ j. false) (λ j h. refl) in omega arith
+tally-listed l (suc n) m k =
+    let one = tally-one m k (λ j. eqb (addressAt l n) (0x80 + j)) (λ i j p q. let a = eqb-true (addressAt l n) (0x80 + i) p in let b = eqb-true (addressAt l n) (0x80 + j) q in omega arith) in
+    let both = tally-or m k (listed l n) (λ j. eqb (addressAt l n) (0x80 + j)) in
+    omega (arith, tally-listed l n m k)
+
+-- what is among the first places is among more
+listed-more : (l : FaceLimits) (k n m : ℕ) → listed l n k ≡ true → listed l (m + n) k ≡ true
+unfolding listed
+listed-more l k n zero h = rw zero-add h
+listed-more l k n (suc m) h = let e : suc m + n ≡ suc (m + n) = omega arith in rw (e, listed-more l k n m h)
+
+-- an address whose look-up finds offers is listed
+found : (l : FaceLimits) (k n i : ℕ) → (offersFrom l (0x80 + k) n i ≡ 0 → ⊥) → listed l (n + i) k ≡ true
+unfolding offersFrom listed
+found l k zero i h = absurd (h refl)
+found l k (suc n) i h = go (eqb (addressAt l i) (0x80 + k)) refl h (found l k n (suc i))
+  where
+    here : eqb (addressAt l i) (0x80 + k) ≡ true → (b : Bool) → b || eqb (addressAt l i) (0x80 + k) ≡ true
+    here e true = refl
+    here e false = e
+
+    go : (b : Bool) → eqb (addressAt l i) (0x80 + k) ≡ b → (cond b (offersAt l i) (offersFrom l (0x80 + k) n (suc i)) ≡ 0 → ⊥)
+        → ((offersFrom l (0x80 + k) n (suc i) ≡ 0 → ⊥) → listed l (n + suc i) k ≡ true) → listed l (suc n + i) k ≡ true
+    go true e q ih = let p : n + suc i ≡ suc n + i = omega arith in rw (← p) (listed-more l k (suc i) n (here e (listed l i k)))
+    go false e q ih = let p : n + suc i ≡ suc n + i = omega arith in rw (← p) (ih q)
+
+-- so is the address of every endpoint that a well-formed record holds a setting of
+module _ (c : Camera) (w : wellFormed c ≡ true) where
+  abbrev limits : FaceLimits
+  limits = c .profile .face
+
+  held-listed : (k : ℕ) (s : Setting) → 1 ≤ k → k ≤ 15 → held c k ≡ some s → listed limits (endpoints limits) k ≡ true
+  unfolding offersOf valueRefusal
+  held-listed k s l h e = go (eqb (getD (c .face) (k - 1) 0) 0) refl (sym (held-face c k l h) ∙ e)
+    where
+      offered : (b : Bool) (rest : ℕ) → eqb (offersOf limits (0x80 + k)) 0 ≡ b → cond b 0x04 rest ≡ 0 → offersOf limits (0x80 + k) ≡ 0 → ⊥
+      offered true rest p z = absurd (omega arith)
+      offered false rest p z = eqb-false (offersOf limits (0x80 + k)) 0 p
+
+      go : (b : Bool) → eqb (getD (c .face) (k - 1) 0) 0 ≡ b → cond b none (some (S.Face (0x80 + k) (getD (c .face) (k - 1) 0))) ≡ some s → listed limits (endpoints limits) k ≡ true
+      go true p q = absurd (none-never s q)
+      go false p q =
+          let f : S.Face (0x80 + k) (getD (c .face) (k - 1) 0) ≡ s = cc in
+          let v : valueRefusal (c .profile) (S.Face (0x80 + k) (getD (c .face) (k - 1) 0)) ≡ 0 = ap (valueRefusal (c .profile)) f ∙ held-good c w k s e .1 .value in
+          ap (λ (n : ℕ). listed limits n k) (sym (add-zero (endpoints limits))) ∙ found limits k (endpoints limits) 0 (offered _ _ refl v)
+
+  abbrev rows : ℕ → Option (List ℕ)
+  rows k = Option·map (row k) (held c k)
+
+  held-tally : (n k : ℕ) → 1 ≤ k → n + k ≤ 16 → records.held n k rows ≤ tally n k (listed limits (endpoints limits))
+  unfolding records.held tally
+  held-tally zero k l h = omega arith
+  held-tally (suc n) k l h = go (held c k) refl (held-tally n (suc k) (omega arith) (omega arith))
+    where
+      go : (o : Option Setting) → held c k ≡ o → records.held n (suc k) rows ≤ tally n (suc k) (listed limits (endpoints limits))
+          → records.heldAt (Option·map (row k) o) (records.held n (suc k) rows) ≤ cond (listed limits (endpoints limits) k) 1 0 + tally n (suc k) (listed limits (endpoints limits))
+      go none e ih = omega arith
+      go (some s) e ih = rw (held-listed k s l (omega arith) e) (omega arith)
+
+  -- at most eight endpoints hold a setting
+  pub few-held : records.held 15 1 rows ≤ 8
+  few-held = omega (arith, held-tally 15 1 (omega arith) (omega arith), tally-listed limits (endpoints limits) 15 1)
+
+  rows-good : records.Good rows
+  rows-good k = go (held c k) refl
+    where
+      go : (o : Option Setting) → held c k ≡ o → records.GoodAt k (Option·map (row k) o)
+      go none e = tt
+      go (some s) e = let g = held-good c w k s e in row-record k s (g .0) (g .1 .proper)
+
+  pub snapshot-short : length (snapshot c) ≤ 159
+  unfolding snapshot
+  snapshot-short = encode-short rows rows-good few-held
