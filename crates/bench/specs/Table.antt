@@ -2,7 +2,7 @@
 -- `request` and `frame` come to, and what the paper says.
 use Prim.Native.Nat.{ℕ, _+_}
 use mathlib.Core.Bool.{Bool, true}
-use mathlib.Core.List.{List, [], _∷_, _++_, map}
+use mathlib.Core.List.{List, [], _∷_, map}
 use lib.ListN.{length, replicate}
 use lib.IntN.{ℤ, pos, negsuc}
 use Rattle.request.specs.Setup.{isSetRequest, selectorOf, unitOf, interfaceOf, wLengthOf}

@@ -46,8 +46,8 @@ fn rest(payload: &[u8]) {
     }
 }
 
-fn answered(c: Camera, number_given: u8, count: usize, reply: &[u8]) {
-    code(number_given, 8);
+fn answered(c: Camera, answer: u8, count: usize, reply: &[u8]) {
+    code(answer, 8);
     number(count, 7);
     twelfths(c.sensor().value);
     bytes(wire::head(reply, count), 0);
