@@ -11,7 +11,7 @@ use Rattle.frame.specs.Answers.{countOf, payloadOf}
 use Rattle.camera.specs.Requests.{requested}
 use Rattle.camera.specs.Snapshots.{snapshot}
 use Rattle.camera.specs.Calls.{Call, request, sensed}
-use Rattle.camera.specs.Demand.{run}
+use Rattle.demands.specs.Lists.{run}
 use Rattle.bench.specs.Bench.{bench}
 
 -- what a row tells

@@ -1,14 +1,6 @@
-pub mod Held
 pub mod Items
-pub mod Kept
-pub mod Lists
 pub mod Loading
-pub mod Loads
-pub mod Longest
-pub mod ReadBack
 pub mod Record
-pub mod Records
 pub mod Requests
 pub mod Selectors
-pub mod Steps
 pub mod Writing

@@ -1,8 +1,8 @@
--- The tests of one setting as the code takes them, and the profile's. Assumes nothing.
+-- The tests of one setting as the code takes them, the profile's, and the record's. Assumes nothing.
 use mathlib.Core.Path.{_≡_, refl, ap, ap₂, sym, _∙_}
 use mathlib.Core.List.{[], _∷_}
 use mathlib.Core.Option.{Option, none, some}
-use mathlib.Core.Bool.{Bool, true, false, cond, not, _&&_, _||_, and-true, and-assoc}
+use mathlib.Core.Bool.{Bool, true, false, cond, not, _&&_, _||_, and-true, and-assoc, and-eq-true-iff}
 use Prim.Native.Nat.{ℕ, _+_}
 use native.Mathlib.Numerals.{add-one}
 use lib.IntN.{pos}
@@ -14,10 +14,10 @@ use Rattle.controls.specs.declared.settings.Item.{Item}
 use Rattle.controls.specs.declared.settings.Setting.{Setting}
 use Rattle.controls.specs.declared.settings.Setting.the-variants as S
 use Rattle.controls.specs.Ev.{compensation}
-use Rattle.controls.specs.Face.{allBelow, offersOf, isChoice, faceRefusal}
+use Rattle.controls.specs.Face.{allBelow, faceValid, offersOf, isChoice, faceRefusal}
 use Rattle.camera.specs.declared.profile.Profile.{Profile}
 use Rattle.camera.specs.declared.record.Camera.{Camera}
-use Rattle.camera.specs.Profile.{has, settable, profileValid}
+use Rattle.camera.specs.Profile.{has, settable, presenceValid, profileValid}
 use Rattle.camera.specs.Record.{controlRefusal, valueRefusal, held, kept, withStreaming, wellFormed}
 use Rattle.camera.specs.Items.{settingOf, itemHeld}
 use Rattle.camera.specs.Requests.{refused}
@@ -105,3 +105,18 @@ module _ (c : Camera) (w : wellFormed c ≡ true) where
   pub sensed-done : sensed c ≡ record { code = 0; value = compensation (c .profile .ev) (c .ev); camera = c }
   unfolding sensed
   sensed-done = rw w
+
+-- what a valid profile says of a control that is there
+module _ (p : Profile) (v : profileValid p ≡ true) where
+  pub valid-presence : presenceValid (p .controls) ≡ true
+  unfolding profileValid
+  valid-presence = let q = simp and-eq-true-iff at v in q .0
+
+  pub valid-face : has p 0x06 ≡ true → faceValid (p .face) ≡ true
+  unfolding profileValid
+  valid-face h = let q = simp and-eq-true-iff at v in rw h at (q .1 .1 .0)
+
+-- a well-formed record has such a profile
+pub formed-profile : (c : Camera) → wellFormed c ≡ true → profileValid (c .profile) ≡ true
+unfolding wellFormed
+formed-profile c w = let q = simp and-eq-true-iff at w in q .0

@@ -30,8 +30,9 @@ use Rattle.camera.specs.Profile.{has, settable, takes, table, unitOf, pr
 use Rattle.camera.specs.Record.{wellFormed}
 use Rattle.camera.specs.Items.{puts, setRefusal, setGives}
 use Rattle.camera.specs.Requests.{answerOf, asked, sentCount, valueTests, requestRows, requestCode, refused, requestDone, requested, replied, setDone, getDone}
-use Rattle.camera.proofs.Laws.Selectors.{Control, ev, face, metadata, hdr, throttle, control-known}
-use Rattle.camera.proofs.Laws.Kept.{valid-presence, formed-profile}
+use Rattle.camera.specs.Selectors.{Control, ev, face, metadata, hdr, throttle}
+use Rattle.camera.proofs.Laws.Selectors.{control-known}
+use Rattle.camera.proofs.Laws.Record.{valid-presence, formed-profile}
 
 -- a SET that passed tests 1 to 6
 module _ (c : Camera) (selector : ℕ) (payload : List ℕ) where

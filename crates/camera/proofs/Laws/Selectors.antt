@@ -11,15 +11,8 @@ use Rattle.wire.specs.Rows.{allOf}
 use Rattle.wire.proofs.Laws.Bits.{high-clear}
 use Rattle.request.specs.Table.{hasControl}
 use Rattle.controls.specs.Face.{allBelow}
+use Rattle.camera.specs.Selectors.{Control, ev, face, metadata, hdr, throttle}
 use Rattle.camera.specs.Profile.{bitAt, presenceValid}
-
--- the five selectors
-pub data Control : ℕ → Type 0 where
-  ev : Control 0x03
-  face : Control 0x06
-  metadata : Control 0x09
-  hdr : Control 0x0D
-  throttle : Control 0x0E
 
 -- what holds of each number below n
 pub all-below : (n : ℕ) (f : ℕ → Bool) → allBelow n f ≡ true → (k : ℕ) → k < n → f k ≡ true

@@ -9,18 +9,13 @@ use lib.ListN.{length, take, drop}
 use borrow.Author.Tests.{ne-eqb}
 use Rattle.request.specs.Setup.{isSetRequest}
 use Rattle.controls.specs.Ev.{compensation}
 use Rattle.camera.specs.declared.record.Camera.{Camera}
 use Rattle.camera.specs.declared.calls.Outcome.{Outcome}
 use Rattle.camera.specs.Record.{wellFormed}
 use Rattle.camera.specs.Requests.{asked, sentCount, requestCode, refused, outcomeBy, requestDone, requested, replied}
 use Rattle.camera.specs.Snapshots.{loadCode, loaded, snapshot, writeCode, written, writtenOut}
-use Rattle.camera.specs.Calls.{recordCode, streamed, sensed, Call, request, stream, load, write, sense, outcome, lent, left, next}
-
--- a call that changes nothing: no count, the record as it came in, every lent byte as it was, and 0 for the sensor
-pub record Unchanged (c : Camera) (call : Call) : Type 0 where
-  pub count : outcome c call .count ≡ 0
-  pub camera : next c call ≡ c
-  pub buffer : left c call ≡ lent call
+use Rattle.camera.specs.Calls.{recordCode, streamed, sensed, Call, request, stream, load, write, sense, outcome}
+use Rattle.demands.specs.Demand1.{Unchanged}
 
 -- a call by its number: where that is not 0, it is refused
 by-number : (code : ℕ) (c : Camera) (done : Outcome) → done .code ≡ 0 → (outcomeBy code c done .code ≡ 0 → ⊥) → (code ≡ 0 → ⊥) × (outcomeBy code c done ≡ refused code c)

@@ -28,13 +28,13 @@ use Rattle.wire.proofs.Laws.Bytes.{number-bytes}
 use Rattle.controls.proofs.Laws.Ev.{ev-read}
 use Rattle.controls.proofs.Laws.Face.{one-entry}
 use Rattle.controls.proofs.Laws.Plain.{metadata-read, hdr-read, throttle-read}
 use Rattle.camera.specs.declared.profile.Profile.{Profile}
 use Rattle.camera.specs.Record.{keyOf, selectorOf, valueRefusal, controlRefusal}
 use Rattle.camera.specs.Items.{itemAt}
 use Rattle.camera.specs.Snapshots.{row, noLimits, selectorAt, recordItem}
-use Rattle.camera.specs.Demand.{Fitting}
-use Rattle.camera.proofs.Laws.Held.{Proper, Each}
-use Rattle.camera.proofs.Laws.Kept.{Good}
+use Rattle.demands.specs.Records.{Fitting}
+use Rattle.demands.proofs.Laws.Held.{Proper, Each}
+use Rattle.demands.proofs.Laws.Kept.{Good}
 
 -- a setting's record, under its key
 pub row-record : (k : ℕ) (s : Setting) → keyOf s ≡ k → Proper s → Record k (row k s)

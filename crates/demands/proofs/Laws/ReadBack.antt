@@ -29,18 +29,19 @@ use Rattle.wire.proofs.Laws.Bytes.{bytes-at}
 use Rattle.controls.proofs.Laws.Ev.{ev-bytes}
 use Rattle.controls.proofs.Laws.Face.{accepted, length-entries}
 use Rattle.controls.proofs.Laws.Plain.{word-bytes}
 use Rattle.camera.specs.declared.profile.Profile.{Profile}
 use Rattle.camera.specs.declared.record.Camera.{Camera}
 use Rattle.camera.specs.Profile.{settable, takes, profileValid}
 use Rattle.camera.specs.Record.{faceHeld, held, putFace, put, controlRefusal}
 use Rattle.camera.specs.Items.{codeOf, givenOf, firstRefusal, allGiven, puts, itemAt, setRefusal, setGives}
 use Rattle.camera.specs.Requests.{answerOf}
 use Rattle.camera.specs.Snapshots.{selectorAt}
-use Rattle.camera.proofs.Laws.Held.{none-never, held-face, put-face-same, put-face-other, put-face-length}
+use Rattle.demands.specs.Demand2.{bytesBack, entryBytes}
+use Rattle.demands.proofs.Laws.Held.{none-never, held-face, put-face-same, put-face-other, put-face-length}
 use Rattle.camera.proofs.Laws.Items.{none-refused, puts-next}
-use Rattle.camera.proofs.Laws.Kept.{item-good}
-use Rattle.camera.proofs.Laws.Loads.{taken}
-use Rattle.camera.proofs.Laws.Selectors.{Control, ev, face, metadata, hdr, throttle}
+use Rattle.demands.proofs.Laws.Kept.{item-good}
+use Rattle.demands.proofs.Laws.Loads.{taken}
+use Rattle.camera.specs.Selectors.{Control, ev, face, metadata, hdr, throttle}
 
 -- one item that no test refuses is put in
 one-put : (c : Camera) (item : ℕ → Item) (code : ℕ) (s : Setting) → item 0 ≡ itemOf code s → firstRefusal 1 0 item ≡ 0 → puts c (allGiven 1 0 item) ≡ put c s
@@ -48,11 +49,6 @@ unfolding allGiven givenOf puts
 one-put c item code s e z =
     let g : item 0 ≡ Given s = e ∙ taken code s (ap codeOf (sym e) ∙ none-refused 1 0 item z 0 (lit< tt)) in
     rw g
-
--- the full answer to GET_CUR once a payload is set: its bytes, but for a throttle's last twelve, which are the profile's limits
-abbrev pub bytesBack : Profile → ℕ → List ℕ → List ℕ
-bytesBack p selector payload =
-    cond (eqb selector 0x0E) (take 8 payload ++ bytesOf 4 (p .throttle .minimum) ++ bytesOf 4 (p .throttle .maximum) ++ bytesOf 4 (p .throttle .step)) payload
 
 -- the four controls of one setting
 module _ (c : Camera) (payload : List ℕ) (b : Bytes payload) where
@@ -156,10 +152,6 @@ module _ (c : Camera) (l : length (c .face) ≡ 15) (payload : List ℕ) where
           put-face-other (faceAfter n) _ _ (x .first) (entryAddress payload i - 0x81)
           (λ k. unseen payload n n (x .new) i (omega arith) (omega (arith, x .first, y .first)))
           ∙ b .named i (omega arith)
-
--- the eight bytes of entry i, in a payload as in an answer that lists every endpoint
-abbrev pub entryBytes : List ℕ → ℕ → List ℕ
-entryBytes s i = take 8 (drop (1 + 8 * i) s)
 
 -- of a payload: its address and its flags
 pub payload-entry : (payload : List ℕ) (i : ℕ) → Bytes payload → 9 + 8 * i ≤ length payload → entryBytes payload i ≡ entryOf (entryAddress payload i) (entryFlags payload i)

@@ -15,12 +15,12 @@ use Rattle.controls.specs.declared.face.FaceLimits.{FaceLimits}
 use Rattle.controls.specs.Face.{addressAt, offersAt, offersFrom, offersOf, endpoints}
 use Rattle.controls.specs.declared.settings.Setting.{Setting}
 use Rattle.controls.specs.declared.settings.Setting.the-variants as S
 use Rattle.camera.specs.declared.record.Camera.{Camera}
 use Rattle.camera.specs.Record.{faceHeld, held, valueRefusal, wellFormed}
 use Rattle.camera.specs.Snapshots.{row, snapshot}
-use Rattle.camera.proofs.Laws.Held.{held-face, none-never}
-use Rattle.camera.proofs.Laws.Kept.{held-good}
-use Rattle.camera.proofs.Laws.Records.{row-record}
+use Rattle.demands.proofs.Laws.Held.{held-face, none-never}
+use Rattle.demands.proofs.Laws.Kept.{held-good}
+use Rattle.demands.proofs.Laws.Records.{row-record}
 
 -- how many of the n numbers from k on f holds of
 tally : ℕ → ℕ → (ℕ → Bool) → ℕ

@@ -24,13 +24,15 @@ use Rattle.controls.specs.Hdr.{hdrItem}
 use Rattle.controls.specs.Throttle.{throttleItem}
 use Rattle.controls.proofs.Laws.Settings.{given-is}
 use Rattle.controls.proofs.Laws.Face.{listed}
 use Rattle.camera.specs.declared.profile.Profile.{Profile}
 use Rattle.camera.specs.declared.record.Camera.{Camera}
 use Rattle.camera.specs.Profile.{has, settable, presenceValid, profileValid}
 use Rattle.camera.specs.Record.{keyOf, selectorOf, held, valueRefusal, controlRefusal, kept, wellFormed}
 use Rattle.camera.specs.Items.{codeOf, givenOf, allGiven, itemAt, puts}
-use Rattle.camera.proofs.Laws.Selectors.{Control, ev, face, metadata, hdr, throttle, control-known, all-below, below-all}
-use Rattle.camera.proofs.Laws.Held.{Proper, Each, held-none, held-named, puts-held, puts-profile}
+use Rattle.camera.specs.Selectors.{Control, ev, face, metadata, hdr, throttle}
+use Rattle.camera.proofs.Laws.Record.{valid-face, formed-profile}
+use Rattle.camera.proofs.Laws.Selectors.{control-known, all-below, below-all}
+use Rattle.demands.proofs.Laws.Held.{Proper, Each, held-none, held-named, puts-held, puts-profile}
 
 -- a setting that its SET takes if streaming, and that a record can hold
 pub record Good (p : Profile) (s : Setting) : Type 0 where
@@ -41,16 +43,6 @@ pub record Good (p : Profile) (s : Setting) : Type 0 where
 pub good-kept : (p : Profile) (s : Setting) → Good p s → kept p (some s) ≡ true
 unfolding kept
 good-kept p s g = rw (eq-eqb (controlRefusal p true (selectorOf s)) 0 (g .control), eq-eqb (valueRefusal p s) 0 (g .value))
-
--- what a valid profile says of a control that is there
-module _ (p : Profile) (v : profileValid p ≡ true) where
-  pub valid-presence : presenceValid (p .controls) ≡ true
-  unfolding profileValid
-  valid-presence = let q = simp and-eq-true-iff at v in q .0
-
-  pub valid-face : has p 0x06 ≡ true → faceValid (p .face) ≡ true
-  unfolding profileValid
-  valid-face h = let q = simp and-eq-true-iff at v in rw h at (q .1 .1 .0)
 
 -- a control whose tests before the values hold is there
 pub control-there : (p : Profile) (streaming : Bool) (selector : ℕ) → controlRefusal p streaming selector ≡ 0 → has p selector ≡ true
@@ -153,10 +145,6 @@ each-proper p [] g = tt
 each-proper p (x ∷ l) g = (g .0, g .1 .proper, each-proper p l (g .2))
 
 -- a well-formed record, key by key
-pub formed-profile : (c : Camera) → wellFormed c ≡ true → profileValid (c .profile) ≡ true
-unfolding wellFormed
-formed-profile c w = let q = simp and-eq-true-iff at w in q .0
-
 pub formed-kept : (c : Camera) → wellFormed c ≡ true → (k : ℕ) → kept (c .profile) (held c k) ≡ true
 unfolding wellFormed kept
 formed-kept c w k = let q = simp and-eq-true-iff at w in go (leb 19 k) refl (q .1)

@@ -10,16 +10,17 @@ use Rattle.snapshot.specs.Settings.{lastOf, snapshotOf, Rows}
 use Rattle.snapshot.proofs.Laws.Merging.{over-assoc, over-none}
 use Rattle.snapshot.proofs.Laws.Settings.{last-append, rows-append, snapshot-append}
 use Rattle.controls.specs.declared.settings.Setting.{Setting}
 use Rattle.camera.specs.declared.profile.Profile.{Profile}
 use Rattle.camera.specs.declared.record.Camera.{Camera}
 use Rattle.camera.specs.Profile.{profileValid}
 use Rattle.camera.specs.Record.{fresh, keyOf, held, kept}
 use Rattle.camera.specs.Snapshots.{row}
 use Rattle.camera.specs.Calls.{Call, next}
-use Rattle.camera.specs.Demand.{gives, leaves, flagAfter, given, settings, run}
-use Rattle.camera.proofs.Laws.Held.{Each, fresh-held}
-use Rattle.camera.proofs.Laws.Kept.{Good, kept-formed}
-use Rattle.camera.proofs.Laws.Steps.{Ok, step, gives-good}
+use Rattle.demands.specs.Lists.{gives, leaves, flagAfter, given, settings, run}
+use Rattle.demands.specs.Records.{Ok}
+use Rattle.demands.proofs.Laws.Held.{Each, fresh-held}
+use Rattle.demands.proofs.Laws.Kept.{Good, kept-formed}
+use Rattle.demands.proofs.Laws.Steps.{step, gives-good}
 
 -- the settings and the flag of a list of two parts
 pub given-append : (p : Profile) (f : Bool) (xs ys : List Call) → given p f (xs ++ ys) ≡ given p f xs ++ given p (flagAfter f xs) ys

@@ -33,32 +33,29 @@ use Rattle.controls.specs.Metadata.{metadataAt, metadataAnswer}
 use Rattle.controls.specs.Hdr.{hdrAt, hdrAnswer}
 use Rattle.controls.specs.Throttle as throttle
 use Rattle.controls.proofs.Laws.Face.{place-listed, fresh-answer, len-answer, len-taken, len-longest}
 use Rattle.camera.specs.declared.profile.Profile.{Profile}
 use Rattle.camera.specs.declared.record.Camera.{Camera}
 use Rattle.camera.specs.Profile.{has, takes, table}
 use Rattle.camera.specs.Record.{fresh, evHeld, metadataHeld, hdrHeld, throttleHeld, held, controlRefusal, wellFormed}
 use Rattle.camera.specs.Items.{settingOf, allGiven, puts, setRefusal, setGives}
 use Rattle.camera.specs.Requests.{answerOf, asked, sentCount, valueTests, requestRows, requestCode, requestDone, requested, replied}
 use Rattle.camera.specs.Snapshots.{selectorAt, itemFor, loadItem, loadGives, row, snapshot}
 use Rattle.camera.specs.Calls.{Call, request, load, outcome, left, next}
-use Rattle.camera.specs.Demand.{setAccepted, gives, leaves, Typed, Written}
-use Rattle.camera.proofs.Laws.Longest.{snapshot-short}
-use Rattle.camera.proofs.Laws.Held.{none-never, fresh-held, puts-profile}
-use Rattle.camera.proofs.Laws.Kept.{formed-profile, valid-presence, valid-face, control-there}
-use Rattle.camera.proofs.Laws.ReadBack.{bytesBack, answer-back, Taken, entry-taken, After, after, entryBytes, payload-entry, place-at, face-sized, current-entry, current-held, current-same, face-none}
-use Rattle.camera.proofs.Laws.Selectors.{Control, control-known}
-use Rattle.camera.proofs.Laws.Selectors as selectors
-use Rattle.camera.proofs.Laws.Steps.{Ok, step, outcome-code, set-answer, load-answer, refused-none, request-next, accepted-control, accepted-length, accepted-values, set-control}
-use Rattle.camera.proofs.Demand3.{writes, snapshot-decodes, snapshot-formed, written-item, good-at}
+use Rattle.demands.specs.Lists.{setAccepted, gives, leaves}
+use Rattle.demands.specs.Records.{Ok, Typed, Written}
+use Rattle.demands.specs.Demand2.{NewSettings, FaceLength, bytesBack, entryBytes, FaceReadsBack, ReadsBack, Sends, Gets, SnapshotReadsBack}
+use Rattle.demands.proofs.Laws.Longest.{snapshot-short}
+use Rattle.demands.proofs.Laws.Held.{none-never, fresh-held, puts-profile}
+use Rattle.camera.proofs.Laws.Record.{formed-profile, valid-presence, valid-face}
+use Rattle.demands.proofs.Laws.Kept.{control-there}
+use Rattle.demands.proofs.Laws.ReadBack.{answer-back, Taken, entry-taken, After, after, payload-entry, place-at, face-sized, current-entry, current-held, current-same, face-none}
+use Rattle.camera.specs.Selectors.{Control}
+use Rattle.camera.proofs.Laws.Selectors.{control-known}
+use Rattle.camera.specs.Selectors as selectors
+use Rattle.demands.proofs.Laws.Steps.{step, outcome-code, set-answer, load-answer, refused-none, request-next, accepted-control, accepted-length, accepted-values, set-control}
+use Rattle.demands.proofs.Demand3.{writes, snapshot-decodes, snapshot-formed, written-item, good-at}
 
--- New settings. What any call leaves of a record that is not refused 0x21: of each key the last setting that the call gives, else the one
--- held, and the streaming flag of a notice. An accepted SET gives its payload's settings, an accepted load its records', a refused call none.
-pub record NewSettings (c : Camera) (call : Call) : Type 0 where
-  pub settings : (k : ℕ) → held (next c call) k ≡ over (held c k) (lastOf (gives (c .profile) (c .streaming) call) k)
-  pub streaming : next c call .streaming ≡ leaves (c .streaming) call
-  pub profile : next c call .profile ≡ c .profile
-  pub refused : (outcome c call .code ≡ 0 → ⊥) → gives (c .profile) (c .streaming) call ≡ []
-
+-- new settings, of any call
 pub accepted-settings : (c : Camera) → Ok (c .profile) c → (call : Call) → NewSettings c call
 accepted-settings c o call =
     let s = step (c .profile) c o call in
@@ -125,12 +122,7 @@ length-answer c _ selectors.metadata n payload = refl
 length-answer c _ selectors.hdr n payload = refl
 length-answer c _ selectors.throttle n payload = refl
 
--- That of face authentication is the longest, which a payload that names every endpoint has.
-pub record FaceLength (c : Camera) : Type 0 where
-  pub answer : answerOf c 0x06 0x85 ≡ bytesOf 2 (1 + 8 * endpoints (c .profile .face))
-  pub longest : (payload : List ℕ) → takes (c .profile) 0x06 payload ≤ 1 + 8 * endpoints (c .profile .face)
-  pub reached : (rest : List ℕ) → takes (c .profile) 0x06 (c .profile .face .count ∷ rest) ≡ 1 + 8 * endpoints (c .profile .face)
-
+-- That of face authentication is the longest.
 pub face-length : (c : Camera) → wellFormed c ≡ true → has (c .profile) 0x06 ≡ true → FaceLength c
 unfolding answerOf
 face-length c w h =
@@ -141,23 +133,6 @@ face-length c w h =
 pub set-verdict : (c : Camera) → wellFormed c ≡ true → (s payload : List ℕ) (room : ℕ) → isSetRequest s ≡ true
     → setAccepted (c .profile) (c .streaming) s payload ≡ eqb (requested c s payload room .code) 0
 set-verdict c w s payload room i = set-answer c s payload room w i
-
--- What an accepted SET of face authentication makes of the record c: d.
-pub record FaceReadsBack (c d : Camera) (payload : List ℕ) : Type 0 where
-  -- the setting held of each entry's address is the entry's
-  pub entries : (i : ℕ) → i < getD payload 0 0 → heldAt (d .face) (entryAddress payload i) ≡ entryFlags payload i
-  -- an endpoint has that address
-  pub place : (i : ℕ) → i < getD payload 0 0 → (j : ℕ) × ((j < endpoints (c .profile .face)) × (addressAt (c .profile .face) j ≡ entryAddress payload i))
-  -- and GET_CUR lists it with the entry's flags: the eight bytes that were set
-  pub listed : (i j : ℕ) → i < getD payload 0 0 → addressAt (c .profile .face) j ≡ entryAddress payload i → flagsAt (c .profile .face) (d .face) 0x81 j ≡ entryFlags payload i
-  pub bytes : (i j : ℕ) → i < getD payload 0 0 → j < endpoints (c .profile .face) → addressAt (c .profile .face) j ≡ entryAddress payload i
-      → entryBytes (answerOf d 0x06 0x81) j ≡ entryBytes payload i
-  -- an address that no entry names keeps its setting, and its endpoint's entry in GET_CUR's answer is as it was
-  pub others : (address : ℕ) → 0x81 ≤ address → ((i : ℕ) → i < getD payload 0 0 → entryAddress payload i ≡ address → ⊥) → heldAt (d .face) address ≡ heldAt (c .face) address
-  pub unnamed : (j : ℕ) → j < endpoints (c .profile .face) → ((i : ℕ) → i < getD payload 0 0 → entryAddress payload i ≡ addressAt (c .profile .face) j → ⊥)
-      → entryBytes (answerOf d 0x06 0x81) j ≡ entryBytes (answerOf c 0x06 0x81) j
-  -- no entries set nothing
-  pub empty : getD payload 0 0 ≡ 0 → d ≡ c
 
 module _ (c : Camera) (o : Ok (c .profile) c) (payload : List ℕ) (r : controlRefusal (c .profile) true 0x06 ≡ 0) (z : setRefusal (c .profile) 0x06 payload ≡ 0) where
   abbrev d : Camera
@@ -198,13 +173,6 @@ module _ (c : Camera) (o : Ok (c .profile) c) (payload : List ℕ) (r : controlR
         empty = λ e. rw e;
       }
 
--- What an accepted SET of a control makes of the record c: d, whose full answer to GET_CUR is the bytes that were set; a throttle's last twelve
--- are the profile's limits.
-pub record ReadsBack (c d : Camera) (selector : ℕ) (payload : List ℕ) : Type 0 where
-  pub known : Control selector
-  pub answer : (selector ≡ 0x06 → ⊥) → answerOf d selector 0x81 ≡ bytesBack (c .profile) selector payload
-  pub of-face : selector ≡ 0x06 → FaceReadsBack c d payload
-
 set-next : (c : Camera) → Ok (c .profile) c → (s payload reply : List ℕ) → setAccepted (c .profile) (c .streaming) s payload ≡ true
     → next c (request s payload reply) ≡ puts c (setGives (c .profile) (selectorOf s) payload)
 unfolding gives
@@ -227,13 +195,6 @@ set-then-get c o s payload reply b i e =
       of-face = λ q. subst (λ d. FaceReadsBack c d payload) (sym (d ∙ ap (λ (m : ℕ). puts c (setGives p m payload)) q)) (face-back c o payload (rw q at r) (rw q at z) b (rw q at n));
     }
 
--- What is sent of a full answer: the first min(wLength, full length) bytes, reported and at the buffer's start; the rest of the buffer and the
--- record are as they were.
-pub record Sends (c : Camera) (s payload reply full : List ℕ) : Type 0 where
-  pub count : outcome c (request s payload reply) .count ≡ min (wLengthOf s) (length full)
-  pub buffer : left c (request s payload reply) ≡ take (min (wLengthOf s) (length full)) full ++ drop (min (wLengthOf s) (length full)) reply
-  pub camera : next c (request s payload reply) ≡ c
-
 -- every accepted GET sends its full answer so
 pub get-sends : (c : Camera) (s payload reply : List ℕ) → isSetRequest s ≡ false → outcome c (request s payload reply) .code ≡ 0 → Sends c s payload reply (asked c s)
 unfolding requested requestDone replied
@@ -242,14 +203,6 @@ get-sends c s payload reply i e =
     let n = eq-eqb _ 0 (sym (outcome-code (requestCode c s payload (length reply)) c (requestDone c s payload) z) ∙ e) in
     let done : outcome c (request s payload reply) ≡ record { code = 0; count = sentCount c s; camera = c } = rw (n, i) in
     record { count = ap (λ o. o .count) done; buffer = rw (n, i); camera = ap (λ o. o .camera) done }
-
--- A GET's setup for a control of the profile; with no payload and room it is accepted.
-pub record Gets (p : Profile) (s : List ℕ) : Type 0 where
-  pub eight : length s ≡ 8
-  pub addresses : addressed (table p) s ≡ true
-  pub present : has p (selectorOf s) ≡ true
-  pub low : valueLow s ≡ 0
-  pub get : isGetRequest s ≡ true
 
 get-no-set : (s : List ℕ) → isGetRequest s ≡ true → isSetRequest s ≡ false
 get-no-set s h =
@@ -279,14 +232,6 @@ round-trip c o s payload reply b i e m g buffer x q f h =
     let full : asked d g ≡ bytesBack (c .profile) (selectorOf s) payload = ap₂ (answerOf d) f q ∙ set-then-get c o s payload reply b i e .answer m in
     let z = get-accepted d (t .formed) g buffer (subst (λ p. Gets p g) (sym (t .profile)) x) (rw full h) in
     (z, subst (λ l. Sends d g [] buffer l) full (get-sends d g [] buffer (get-no-set g (x .get)) z))
-
--- A written snapshot reads back: it is well formed, has the record of every setting held and no other, and each record read as a SET is that
--- setting again. With room for it, writing leaves these bytes.
-pub record SnapshotReadsBack (c : Camera) : Type 0 where
-  pub formed : form.wellFormed (snapshot c) ≡ true
-  pub records : (k : ℕ) → decode (snapshot c) k ≡ Option·map (row k) (held c k)
-  pub settings : (k : ℕ) → settingOf (loadItem (c .profile) true (snapshot c) k) ≡ held c k
-  pub written : (out : List ℕ) → length (snapshot c) ≤ length out → Written c (snapshot c) out
 
 pub snapshot-read-back : (c : Camera) → wellFormed c ≡ true → Typed c → SnapshotReadsBack c
 snapshot-read-back c w t =

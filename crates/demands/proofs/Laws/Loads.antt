@@ -30,13 +30,13 @@ use Rattle.controls.specs.Metadata.{metadataItem}
 use Rattle.controls.specs.Hdr.{hdrItem}
 use Rattle.controls.specs.Throttle.{throttleItem}
 use Rattle.controls.proofs.Laws.Settings.{given-is}
 use Rattle.camera.specs.declared.profile.Profile.{Profile}
 use Rattle.camera.specs.Record.{keyOf, controlRefusal}
 use Rattle.camera.specs.Items.{settingOf, codeOf, givenOf, firstRefusal, allGiven, itemAt}
 use Rattle.camera.specs.Snapshots.{selectorAt, recordItem, itemFor, loadItem, loadTests, loadGives}
 use Rattle.camera.proofs.Laws.Items.{refusal-none, none-refused}
-use Rattle.camera.proofs.Laws.Selectors.{Control, ev, face, metadata, hdr, throttle}
-use Rattle.camera.proofs.Laws.Steps.{isGiven, key-control}
+use Rattle.camera.specs.Selectors.{Control, ev, face, metadata, hdr, throttle}
+use Rattle.demands.proofs.Laws.Steps.{isGiven, key-control}
 
 and-true : (a b : Bool) → a && b ≡ true → (a ≡ true) × (b ≡ true)
 and-true true b e = (refl, e)

@@ -20,22 +20,25 @@ use Rattle.snapshot.proofs.Laws.Merging.{over-assoc, over-none}
 use Rattle.snapshot.proofs.Laws.Settings.{last-append, rows-append, snapshot-append}
 use Rattle.controls.specs.declared.settings.Item.the-variants.{Absent, Given}
 use Rattle.controls.specs.declared.settings.Setting.{Setting}
 use Rattle.camera.specs.declared.profile.Profile.{Profile}
 use Rattle.camera.specs.declared.record.Camera.{Camera}
 use Rattle.camera.specs.declared.calls.Outcome.{Outcome}
 use Rattle.camera.specs.Profile.{profileValid}
 use Rattle.camera.specs.Record.{fresh, keyOf, held, kept, wellFormed}
 use Rattle.camera.specs.Items.{settingOf, codeOf, puts}
 use Rattle.camera.specs.Requests.{refused, outcomeBy}
 use Rattle.camera.specs.Snapshots.{loadTests, loadCode, loadGives, loaded, itemFor, loadItem, row, snapshot, writeCode, written, writtenOut}
 use Rattle.camera.specs.Calls.{Call, load}
-use Rattle.camera.specs.Demand.{gives, leaves, flagAfter, given, settings, sheet, run, Fitting, Typed, Same, Written, Whole, Merges, Restores}
-use Rattle.camera.proofs.Laws.Held.{fresh-held}
-use Rattle.camera.proofs.Laws.Kept.{Good, formed-profile, formed-kept, held-good}
-use Rattle.camera.proofs.Laws.Steps.{Ok, step, gives-good}
-use Rattle.camera.proofs.Laws.Lists.{given-append, run-ok, fresh-ok, held-after, flag-after}
-use Rattle.camera.proofs.Laws.Records.{rows, row-record, row-taken}
-use Rattle.camera.proofs.Laws.Loads.{Accepted, load-settings, load-accepted, accepted-load, merged-accepted, merged-settings}
+use Rattle.demands.specs.Lists.{gives, leaves, flagAfter, given, settings, sheet, run}
+use Rattle.demands.specs.Records.{Ok, Fitting, Typed, Same, Written}
+use Rattle.demands.specs.Demand3.{Whole, Merges, Restores}
+use Rattle.demands.proofs.Laws.Held.{fresh-held}
+use Rattle.camera.proofs.Laws.Record.{formed-profile}
+use Rattle.demands.proofs.Laws.Kept.{Good, formed-kept, held-good}
+use Rattle.demands.proofs.Laws.Steps.{step, gives-good}
+use Rattle.demands.proofs.Laws.Lists.{given-append, run-ok, fresh-ok, held-after, flag-after}
+use Rattle.demands.proofs.Laws.Records.{rows, row-record, row-taken}
+use Rattle.demands.proofs.Laws.Loads.{Accepted, load-settings, load-accepted, accepted-load, merged-accepted, merged-settings}
 
 -- writing, where there is room
 pub writes : (c : Camera) (out : List ℕ) → wellFormed c ≡ true → length (snapshot c) ≤ length out → Written c (snapshot c) out

@@ -20,19 +20,22 @@ use Rattle.snapshot.specs.Settings.{lastOf}
 use Rattle.controls.specs.declared.settings.Item.{Item}
 use Rattle.controls.specs.declared.settings.Item.the-variants.{Absent, Refused, Given}
 use Rattle.controls.specs.declared.settings.Setting.{Setting}
 use Rattle.camera.specs.declared.profile.Profile.{Profile}
 use Rattle.camera.specs.declared.record.Camera.{Camera}
 use Rattle.camera.specs.declared.calls.Outcome.{Outcome}
 use Rattle.camera.specs.Profile.{has, settable, takes, table, profileValid}
 use Rattle.camera.specs.Record.{withStreaming, held, controlRefusal, wellFormed}
 use Rattle.camera.specs.Items.{puts, itemCount, itemAt, setRefusal, setGives}
 use Rattle.camera.specs.Requests.{sentCount, valueTests, requestRows, requestCode, refused, outcomeBy, requestDone, requested}
 use Rattle.camera.specs.Snapshots.{selectorAt, snapshot, recordItem, itemFor, loadItem, loadTests, loadCode, loadGives, loaded, written, writeCode}
 use Rattle.camera.specs.Calls.{streamed, sensed, Call, request, stream, load, write, sense, outcome, next}
-use Rattle.camera.specs.Demand.{setAccepted, gives, leaves}
-use Rattle.camera.proofs.Laws.Selectors.{Control, ev, face, metadata, hdr, throttle, control-known}
-use Rattle.camera.proofs.Laws.Held.{Each, puts-held, puts-length, puts-profile, puts-streaming}
-use Rattle.camera.proofs.Laws.Kept.{Good, valid-presence, control-there, control-streaming, item-good, all-good, each-proper, puts-formed, formed-profile, kept-formed, formed-kept}
+use Rattle.demands.specs.Lists.{setAccepted, gives, leaves}
+use Rattle.demands.specs.Records.{Ok}
+use Rattle.camera.specs.Selectors.{Control, ev, face, metadata, hdr, throttle}
+use Rattle.camera.proofs.Laws.Selectors.{control-known}
+use Rattle.demands.proofs.Laws.Held.{Each, puts-held, puts-length, puts-profile, puts-streaming}
+use Rattle.camera.proofs.Laws.Record.{valid-presence, formed-profile}
+use Rattle.demands.proofs.Laws.Kept.{Good, control-there, control-streaming, item-good, all-good, each-proper, puts-formed, kept-formed, formed-kept}
 
 and-true : (a b : Bool) → a && b ≡ true → (a ≡ true) × (b ≡ true)
 and-true true b e = (refl, e)
@@ -256,12 +259,6 @@ module _ (p : Profile) (v : profileValid p ≡ true) where
       go false = tt
   gives-good streaming (write out) = tt
   gives-good streaming sense = tt
-
--- a record of the profile p that a call leaves such a record of: valid, well formed, and with all its face places
-pub record Ok (p : Profile) (c : Camera) : Type 0 where
-  pub profile : c .profile ≡ p
-  pub formed : wellFormed c ≡ true
-  pub places : length (c .face) ≡ 15
 
 -- what a call leaves but for the flag
 module _ (p : Profile) (c : Camera) (o : Ok p c) (call : Call) where

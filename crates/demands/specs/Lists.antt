@@ -1,0 +1,62 @@
+-- Document 01, "The list of demand 3": what a list of calls gives, by the profile, the flag and the calls' bytes alone.
+use Prim.Native.Nat.{ℕ}
+use mathlib.Core.List.{List, [], _∷_, _++_}
+use mathlib.Core.Option.{Option}
+use mathlib.Core.Bool.{Bool, cond, _&&_}
+use lib.Dec.{eqb}
+use Rattle.wire.specs.Rows.{firstOf}
+use Rattle.request.specs.Setup.{isSetRequest, selectorOf}
+use Rattle.request.specs.Tests.{requestTests}
+use Rattle.snapshot.specs.Settings.{lastOf, snapshotOf}
+use Rattle.controls.specs.declared.settings.Setting.{Setting}
+use Rattle.camera.specs.declared.profile.Profile.{Profile}
+use Rattle.camera.specs.declared.record.Camera.{Camera}
+use Rattle.camera.specs.Profile.{table}
+use Rattle.camera.specs.Items.{setGives}
+use Rattle.camera.specs.Requests.{valueTests}
+use Rattle.camera.specs.Snapshots.{loadTests, loadGives, row}
+use Rattle.camera.specs.Calls.{Call, request, stream, load, write, sense, next}
+
+-- a SET is accepted by tests 2 to 8, with the profile and the flag at that place
+abbrev pub setAccepted : Profile → Bool → List ℕ → List ℕ → Bool
+setAccepted p streaming setup payload =
+    isSetRequest setup && eqb (firstOf (requestTests (table p) setup payload ++ valueTests p streaming setup payload)) 0
+
+-- the settings that a call gives, in order: an accepted SET's, or those of an accepted load's records; none where it is refused or sets nothing
+unfoldable pub gives : Profile → Bool → Call → List (ℕ × Setting)
+gives p streaming (request setup payload reply) = cond (setAccepted p streaming setup payload) (setGives p (selectorOf setup) payload) []
+gives p streaming (stream on) = []
+gives p streaming (load s) = cond (eqb (firstOf (loadTests p streaming s)) 0) (loadGives p streaming s) []
+gives p streaming (write out) = []
+gives p streaming sense = []
+
+-- the flag after a call
+abbrev pub leaves : Bool → Call → Bool
+leaves streaming (request setup payload reply) = streaming
+leaves streaming (stream on) = on
+leaves streaming (load s) = streaming
+leaves streaming (write out) = streaming
+leaves streaming sense = streaming
+
+-- the flag after a list: the last notice's, or the start's
+abbrev pub flagAfter : Bool → List Call → Bool
+flagAfter streaming [] = streaming
+flagAfter streaming (c ∷ cs) = flagAfter (leaves streaming c) cs
+
+-- all settings that a list gives, in order
+abbrev pub given : Profile → Bool → List Call → List (ℕ × Setting)
+given p streaming [] = []
+given p streaming (c ∷ cs) = gives p streaming c ++ given p (leaves streaming c) cs
+
+-- the setting of each key after a list: the last that names it, or none
+abbrev pub settings : Profile → Bool → List Call → ℕ → Option Setting
+settings p streaming cs = lastOf (given p streaming cs)
+
+-- the snapshot of these settings, 01's "sheet after a list"
+abbrev pub sheet : Profile → Bool → List Call → List ℕ
+sheet p streaming cs = snapshotOf row (settings p streaming cs)
+
+-- the record after a list, call by call
+abbrev pub run : Camera → List Call → Camera
+run c [] = c
+run c (call ∷ cs) = run (next c call) cs
