@@ -7,7 +7,7 @@ use controls::face::FaceLimits;
 use controls::metadata::MetadataLimits;
 use controls::throttle::ThrottleLimits;
 ghost use mathlib.Core.Path.{_≡_};
-ghost use Rattle.bench.specs.Bench.{benchProfile, bench};
+ghost use Rattle.demands.specs.Bench.{benchProfile, bench};
 
 fn profile() -> Profile
     ensures { λ r. ⌜ r ≡ benchProfile ⌝ }

@@ -1,11 +1,11 @@
 -- Document 01, "Profile and camera record": the record, the settings that it holds, and which records are well formed.
-use Prim.Native.Nat.{ℕ, zero, suc, _+_, _-_}
+use Prim.Native.Nat.{ℕ, _+_, _-_}
 use mathlib.Core.List.{List, [], _∷_}
 use mathlib.Core.Option.{Option, none, some}
 use mathlib.Core.Bool.{Bool, true, cond, not, _&&_}
 use lib.Dec.{leb, eqb}
 use lib.ListN.{getD, set, replicate}
-use Rattle.wire.specs.Rows.{Row, _⇒_, firstOf}
+use Rattle.wire.specs.Rows.{_⇒_, firstOf}
 use Rattle.wire.specs.Flags.{choiceOf}
 use Rattle.wire.specs.Uvc.{invalidControl, invalidRequest, invalidValue, outOfRange, wrongState}
 use Rattle.controls.specs.declared.ev.Ev.{Ev}

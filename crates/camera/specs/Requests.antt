@@ -1,7 +1,7 @@
 -- Document 01, "Requests and the order of tests", on a camera.
 use Prim.Native.Nat.{ℕ}
 use mathlib.Core.List.{List, [], _∷_, _++_}
-use mathlib.Core.Bool.{Bool, true, false, cond, not, _&&_}
+use mathlib.Core.Bool.{Bool, cond, not, _&&_}
 use lib.Dec.{ltb, eqb}
 use lib.ListN.{length, take, drop}
 use Rattle.wire.specs.Rows.{Row, _⇒_, firstOf}
@@ -10,7 +10,6 @@ use Rattle.request.specs.Setup.{isSetRequest, wLengthOf}
 use Rattle.request.specs.Setup as setup
 use Rattle.request.specs.Tests.{requestTests}
 use Rattle.request.specs.Reply.{countOf, sentOf}
-use Rattle.controls.specs.declared.settings.Setting.{Setting}
 use Rattle.controls.specs.Ev.{evAnswer}
 use Rattle.controls.specs.Face.{faceAnswer}
 use Rattle.controls.specs.Metadata.{metadataAnswer}

@@ -5,7 +5,7 @@ use controls::Number;
 use controls::ev::Ev;
 use controls::throttle::Throttle;
 ghost use mathlib.Core.Path.{_≡_};
-ghost use Rattle.camera.specs.Record.{fresh, withStreaming};
+ghost use Rattle.camera.specs.Record.{fresh};
 
 // Face settings stand by address, that of 0x81 first: the flag chosen, or 0 for none.
 pub struct Camera {

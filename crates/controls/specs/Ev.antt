@@ -1,7 +1,7 @@
 -- Document 01, "EV": limits, SET's value tests, answers, and the number handed to the sensor.
 use Prim.Native.Nat.{ℕ, suc, _-_, _/_, _^_}
 use mathlib.Core.List.{List, [], _∷_, _++_}
-use mathlib.Core.Bool.{Bool, true, false, cond, _&&_}
+use mathlib.Core.Bool.{Bool, cond, _&&_}
 use lib.Dec.{leb, ltb, eqb}
 use lib.ListN.{getD}
 use lib.IntN.{ℤ, pos, negsuc, _-ℤ_, _*ℤ_}

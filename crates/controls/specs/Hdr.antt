@@ -4,7 +4,7 @@ use mathlib.Core.List.{List, [], _∷_}
 use mathlib.Core.Bool.{Bool, cond, not, _&&_}
 use lib.Dec.{ltb, eqb}
 use Rattle.wire.specs.Number.{leAt, bytesOf}
-use Rattle.wire.specs.Rows.{Row, _⇒_, firstOf}
+use Rattle.wire.specs.Rows.{_⇒_, firstOf}
 use Rattle.wire.specs.Uvc.{getCur, getMax, invalidValue, outOfRange}
 use Rattle.controls.specs.declared.settings.Number.{Number}
 use Rattle.controls.specs.declared.settings.Item.{Item}

@@ -1,5 +1,6 @@
--- The owner's demands on the camera, and the laws under them, one topic to a file.
+-- The owner's demands on the camera, the laws under them, one topic to a file, and the claim of the table.
 pub mod Laws
 pub mod Demand1
 pub mod Demand2
 pub mod Demand3
+pub mod Table

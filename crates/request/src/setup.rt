@@ -4,7 +4,7 @@ use wire::uvc::GET_DEF;
 use wire::uvc::SET_CUR;
 ghost use mathlib.Core.Path.{_≡_};
 ghost use Prim.Native.Nat.{_<_};
-ghost use Rattle.request.specs.Setup.{typeOf, codeOf, selectorOf, wLengthOf, isSetRequest, isGetRequest};
+ghost use Rattle.request.specs.Setup.{codeOf, selectorOf, wLengthOf, isSetRequest, isGetRequest};
 
 pub fn code(setup: &[u8]) -> u8
     ensures { λ r. ⌜ r ≡ codeOf (now (setup .entry)) ⌝ }

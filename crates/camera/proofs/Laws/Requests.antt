@@ -1,20 +1,20 @@
 -- What a request comes to, by the first of its tests that fails. Assumes nothing.
-use mathlib.Core.Path.{_≡_, refl, ap, ap₂, sym, _∙_}
+use mathlib.Core.Path.{_≡_, refl, ap, _∙_}
 use mathlib.Core.List.{List, [], _∷_, _++_, append-assoc}
 use mathlib.Core.Bool.{Bool, true, false, cond, not, _&&_, _||_}
-use Prim.Native.Nat.{ℕ, _≤_, _<_}
+use Prim.Native.Nat.{ℕ, _≤_}
 use native.Mathlib.Omega.{arith}
 use lib.Dec.{eqb, ltb, leb}
 use lib.ListN.{length, take, drop}
 use borrow.Author.Tests.{eq-eqb, ne-eqb, le-ltb, lt-ltb, leb-true, leb-false}
 use Rattle.wire.specs.Flags.{isSet}
-use Rattle.wire.specs.Rows.{Row, _⇒_, firstOf}
+use Rattle.wire.specs.Rows.{_⇒_, firstOf}
 use Rattle.request.specs.Setup.{isSetRequest, wLengthOf}
 use Rattle.request.specs.Setup as setup
 use Rattle.request.specs.Table.{tableOf, hasControl}
 use Rattle.request.specs.Tests.{requestTests}
 use Rattle.request.specs.Reply.{sentOf, replyOf}
-use Rattle.request.proofs.Laws.Tests.{Agree, same-answer, then-rows}
+use Rattle.request.proofs.Laws.Tests.{same-answer, then-rows}
 use Rattle.controls.specs.Ev.{evAnswer}
 use Rattle.controls.specs.Face.{faceAnswer}
 use Rattle.controls.specs.Metadata.{metadataAnswer}
@@ -32,7 +32,7 @@ use Rattle.camera.specs.Items.{puts, setRefusal, setGives}
 use Rattle.camera.specs.Requests.{answerOf, asked, sentCount, valueTests, requestRows, requestCode, refused, requestDone, requested, replied, setDone, getDone}
 use Rattle.camera.specs.Selectors.{Control, ev, face, metadata, hdr, throttle}
 use Rattle.camera.proofs.Laws.Selectors.{control-known}
-use Rattle.camera.proofs.Laws.Record.{valid-presence, formed-profile}
+use Rattle.camera.proofs.Laws.Record.{valid-presence}
 
 -- a SET that passed tests 1 to 6
 module _ (c : Camera) (selector : ℕ) (payload : List ℕ) where

@@ -1,18 +1,16 @@
 -- A valid profile has no control but the five. Assumes nothing.
 use mathlib.Core.Path.{_≡_, refl, ap, sym, _∙_, subst}
 use mathlib.Core.Bool.{Bool, true, false, cond, not, _&&_, _||_, true≢false, and-eq-true-iff}
-use mathlib.Core.List.{List, [], _∷_}
 use Prim.Native.Nat.{ℕ, zero, suc, _+_, _-_, _^_, _≤_, _<_}
 use native.Mathlib.Omega.{arith}
-use lib.Dec.{eqb, leb, ltb, lit<}
+use lib.Dec.{eqb, leb, ltb}
 use borrow.Author.Tests.{eqb-true, eqb-false, leb-true, leb-false, ltb-true}
 use Rattle.wire.specs.Flags.{isSet}
-use Rattle.wire.specs.Rows.{allOf}
 use Rattle.wire.proofs.Laws.Bits.{high-clear}
 use Rattle.request.specs.Table.{hasControl}
 use Rattle.controls.specs.Face.{allBelow}
 use Rattle.camera.specs.Selectors.{Control, ev, face, metadata, hdr, throttle}
-use Rattle.camera.specs.Profile.{bitAt, presenceValid}
+use Rattle.camera.specs.Profile.{presenceValid}
 
 -- what holds of each number below n
 pub all-below : (n : ℕ) (f : ℕ → Bool) → allBelow n f ≡ true → (k : ℕ) → k < n → f k ≡ true

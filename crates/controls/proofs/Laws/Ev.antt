@@ -12,7 +12,7 @@ use lib.IntN.{ℤ, pos, negsuc, _*ℤ_}
 use lib.Signed.{mag, leZ}
 use mir.Syntax.{w32}
 use mir.Val.{SFits}
-use Rattle.wire.specs.Number.{number, leAt, bytesOf}
+use Rattle.wire.specs.Number.{leAt, bytesOf}
 use Rattle.wire.specs.Flags.{choiceOf}
 use Rattle.wire.specs.declared.flags.Choice.{Choice}
 use Rattle.wire.specs.declared.flags.Choice.the-variants.{At, Refused}

@@ -1,13 +1,11 @@
 -- Numbers read from a longer list. Assumes nothing.
-use Prim.Native.Nat.{ℕ, zero, suc, _+_, _*_, _/_, _%_, _^_, _≤_, _<_}
-use mathlib.Core.Path.{_≡_, refl, sym, ap, ap₂, _∙_}
-use mathlib.Core.List.{List, [], _∷_, _++_}
-use native.Mathlib.Nat.{pow-suc}
+use Prim.Native.Nat.{ℕ, _+_, _^_, _≤_, _<_}
+use mathlib.Core.Path.{_≡_}
+use mathlib.Core.List.{List, _++_}
 use native.Mathlib.Omega.{arith}
-use lib.ListN.{length, take, drop, length-take, length-drop}
-use lib.Dec.{lit<}
+use lib.ListN.{length, drop, length-drop}
 use lib.Seq.{take-at, drop-at, take-append-le, drop-append-le}
-use Rattle.wire.specs.Number.{number, leAt, bytesOf}
+use Rattle.wire.specs.Number.{leAt, bytesOf}
 use Rattle.wire.proofs.Laws.Bytes.{length-bytes, number-bytes}
 
 -- a number at the front of bytes

@@ -1,6 +1,6 @@
 -- `profile` is the bench camera's. Assumes nothing.
 use mathlib.Core.Path.{refl}
-use Rattle.bench.specs.Bench.{benchProfile}
+use Rattle.demands.specs.Bench.{benchProfile}
 use Rattle.bench.proofs.profile.profile.Statement.{statement}
 use Rattle.bench.proofs.profile.profile.Tie as tie
 

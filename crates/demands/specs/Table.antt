@@ -11,8 +11,8 @@ use Rattle.frame.specs.Answers.{countOf, payloadOf}
 use Rattle.camera.specs.Requests.{requested}
 use Rattle.camera.specs.Snapshots.{snapshot}
 use Rattle.camera.specs.Calls.{Call, request, sensed}
 use Rattle.demands.specs.Lists.{run}
-use Rattle.bench.specs.Bench.{bench}
+use Rattle.demands.specs.Bench.{bench}
 
 -- what a row tells
 pub data Answer : Type 0 where

@@ -19,8 +19,8 @@ use Rattle.camera.specs.Calls.{sensed}
 use Rattle.frame.specs.Ids.{isKnown}
 use Rattle.frame.specs.Items.{refusal, headOf, itemsIn, itemsFrom, itemsOf}
 use Rattle.frame.specs.Answers as answers
-use Rattle.bench.specs.Bench.{benchProfile}
-use Rattle.bench.specs.Table.{rows, defined, written}
+use Rattle.demands.specs.Bench.{benchProfile}
+use Rattle.demands.specs.Table.{rows, defined, written}
 
 table-holds : map defined rows ≡ map written rows
 unfolding benchProfile number leAt bytesOf isSet bitsOf count first choiceOf requestTests itemOf

@@ -1,2 +1,0 @@
--- The claim of the table.
-pub mod Table
