@@ -2,8 +2,8 @@
 // D0 and D1, HDR without Auto, throttle from 5 to 100 in steps of 5; no metadata control.
 use camera::Camera;
 use camera::Profile;
-use controls::ev::EvLimits;
-use controls::face::FaceLimits;
+use exposure::EvLimits;
+use face::FaceLimits;
 use controls::metadata::MetadataLimits;
 use controls::throttle::ThrottleLimits;
 ghost use mathlib.Core.Path.{_≡_};

@@ -8,7 +8,7 @@ use crate::print::number;
 use crate::print::text;
 use crate::profile::bench;
 use camera::Camera;
-use controls::ev::EvSetting;
+use controls::EvSetting;
 
 fn header(title: &[u8]) {
     text(title);
@@ -19,7 +19,7 @@ fn header(title: &[u8]) {
 
 // A signed number by its 32 bits, which stand in an EV payload behind the flags.
 fn twelfths(value: i32) {
-    let payload = controls::ev::bytes(EvSetting { flags: 0, value });
+    let payload = exposure::bytes(EvSetting { flags: 0, value });
     let bits = wire::le32(&payload, 7) as usize;
     if bits < 0x8000_0000 {
         number(bits, 10);

@@ -5,7 +5,7 @@ use mathlib.Core.Bool.{Bool, cond}
 use lib.IntN.{pos}
 use lib.ListN.{length}
 use Rattle.wire.specs.Uvc.{malformedRecord}
-use Rattle.controls.specs.Ev.{compensation}
+use Rattle.exposure.specs.Ev.{compensation}
 use Rattle.camera.specs.declared.record.Camera.{Camera}
 use Rattle.camera.specs.declared.calls.Outcome.{Outcome}
 use Rattle.camera.specs.declared.calls.Sensed.{Sensed}

@@ -6,8 +6,8 @@ use lib.Dec.{eqb}
 use Rattle.wire.specs.Rows.{allOf}
 use Rattle.request.specs.declared.tests.Unit.{Unit}
 use Rattle.request.specs.Table.{Table, hasControl}
-use Rattle.controls.specs.Ev.{evValid}
-use Rattle.controls.specs.Face.{faceValid, takesFace}
+use Rattle.exposure.specs.Ev.{evValid}
+use Rattle.face.specs.Face.{faceValid, takesFace}
 use Rattle.controls.specs.Metadata.{metadataValid}
 use Rattle.controls.specs.Throttle.{throttleValid}
 use Rattle.camera.specs.declared.profile.Profile.{Profile}

@@ -8,16 +8,16 @@ use lib.ListN.{getD, set, replicate}
 use Rattle.wire.specs.Rows.{_⇒_, firstOf}
 use Rattle.wire.specs.Flags.{choiceOf}
 use Rattle.wire.specs.Uvc.{invalidControl, invalidRequest, invalidValue, outOfRange, wrongState}
-use Rattle.controls.specs.declared.ev.Ev.{Ev}
-use Rattle.controls.specs.declared.ev.Ev.the-variants as E
+use Rattle.exposure.specs.declared.ev.Ev.{Ev}
+use Rattle.exposure.specs.declared.ev.Ev.the-variants as E
 use Rattle.controls.specs.declared.throttle.Throttle.{Throttle}
 use Rattle.controls.specs.declared.throttle.Throttle.the-variants as T
 use Rattle.controls.specs.declared.settings.Number.{Number}
 use Rattle.controls.specs.declared.settings.Number.the-variants as N
 use Rattle.controls.specs.declared.settings.Setting.{Setting}
 use Rattle.controls.specs.declared.settings.Setting.the-variants as S
-use Rattle.controls.specs.Ev.{evRefusal}
-use Rattle.controls.specs.Face.{allBelow, offersOf, isChoice}
+use Rattle.exposure.specs.Ev.{evRefusal}
+use Rattle.face.specs.Face.{allBelow, offersOf, isChoice}
 use Rattle.controls.specs.Metadata.{metadataRefusal}
 use Rattle.controls.specs.Hdr.{hdrRefusal}
 use Rattle.controls.specs.Throttle.{throttleRefusal}

@@ -10,8 +10,8 @@ use Rattle.request.specs.Setup.{isSetRequest, wLengthOf}
 use Rattle.request.specs.Setup as setup
 use Rattle.request.specs.Tests.{requestTests}
 use Rattle.request.specs.Reply.{countOf, sentOf}
-use Rattle.controls.specs.Ev.{evAnswer}
-use Rattle.controls.specs.Face.{faceAnswer}
+use Rattle.exposure.specs.Ev.{evAnswer}
+use Rattle.face.specs.Face.{faceAnswer}
 use Rattle.controls.specs.Metadata.{metadataAnswer}
 use Rattle.controls.specs.Hdr.{hdrAnswer}
 use Rattle.controls.specs.Throttle.{throttleAnswer}

@@ -17,8 +17,8 @@ use Rattle.controls.specs.declared.settings.Item.the-variants.{Absent, Refused}
 use Rattle.controls.specs.declared.settings.Setting.{Setting}
 use Rattle.controls.specs.declared.settings.Setting.the-variants as S
 use Rattle.controls.specs.declared.throttle.ThrottleLimits.{ThrottleLimits}
-use Rattle.controls.specs.Ev.{evBytes}
-use Rattle.controls.specs.Face.{entryOf}
+use Rattle.exposure.specs.Ev.{evBytes}
+use Rattle.face.specs.Face.{entryOf}
 use Rattle.controls.specs.Throttle.{throttleBytes}
 use Rattle.camera.specs.declared.profile.Profile.{Profile}
 use Rattle.camera.specs.declared.record.Camera.{Camera}

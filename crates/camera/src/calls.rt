@@ -59,7 +59,7 @@ impl Camera {
         }
         let limits = self.profile.ev;
         let held = self.ev;
-        let value = controls::ev::sensor_value(limits, held);
+        let value = exposure::sensor_value(limits, held);
         Sensed {
             code: 0,
             value,

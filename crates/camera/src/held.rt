@@ -7,7 +7,7 @@ use crate::setting::value_refusal;
 use controls::Item;
 use controls::Number;
 use controls::Setting;
-use controls::ev::Ev;
+use exposure::Ev;
 use controls::throttle::Throttle;
 ghost use mathlib.Core.Path.{_≡_};
 ghost use Rattle.camera.specs.Record.{evHeld, faceHeld, metadataHeld, hdrHeld, throttleHeld, held, kept, wellFormed};

@@ -1,6 +1,6 @@
 // A camera's profile: who it is, which controls it has, and their limits.
-use controls::ev::EvLimits;
-use controls::face::FaceLimits;
+use exposure::EvLimits;
+use face::FaceLimits;
 use controls::metadata::MetadataLimits;
 use controls::throttle::ThrottleLimits;
 use request::Unit;
@@ -72,8 +72,8 @@ impl Profile {
         let metadata = self.metadata;
         let throttle = self.throttle;
         presence_valid(self.controls)
-            & (!has_control(self, EV) | controls::ev::valid(ev))
-            & (!has_control(self, FACE) | controls::face::valid(face))
+            & (!has_control(self, EV) | exposure::valid(ev))
+            & (!has_control(self, FACE) | face::valid(face))
             & (!has_control(self, METADATA) | controls::metadata::valid(metadata))
             & (!has_control(self, THROTTLE) | controls::throttle::valid(throttle))
     }

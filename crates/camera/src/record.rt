@@ -2,7 +2,7 @@
 // last accepted setting or none.
 use crate::profile::Profile;
 use controls::Number;
-use controls::ev::Ev;
+use exposure::Ev;
 use controls::throttle::Throttle;
 ghost use mathlib.Core.Path.{_≡_};
 ghost use Rattle.camera.specs.Record.{fresh};

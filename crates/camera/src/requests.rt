@@ -91,12 +91,12 @@ impl Camera {
         if selector == EV {
             let l = p.ev;
             let h = self.ev;
-            return controls::ev::answer(l, h, code);
+            return exposure::answer(l, h, code);
         }
         if selector == FACE {
             let l = p.face;
             let h = self.face;
-            return controls::face::answer(l, h, code);
+            return face::answer(l, h, code);
         }
         if selector == METADATA {
             let l = p.metadata;

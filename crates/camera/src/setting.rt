@@ -10,7 +10,7 @@ use crate::record::Camera;
 use controls::Item;
 use controls::Number;
 use controls::Setting;
-use controls::ev::Ev;
+use exposure::Ev;
 use controls::throttle::Throttle;
 use wire::uvc::INVALID_CONTROL;
 use wire::uvc::INVALID_REQUEST;
@@ -58,11 +58,11 @@ fn face_refusal(p: Profile, address: u8, flags: u8) -> u8
     ensures { λ r. ⌜ r ≡ valueRefusal p (Setting.Face address flags) ⌝ }
 {
     let face = p.face;
-    let offers = controls::face::offers_of(face, address);
+    let offers = face::offers_of(face, address);
     if offers == 0 {
         return OUT_OF_RANGE;
     }
-    controls::face::refusal(offers, flags as u64)
+    face::refusal(offers, flags as u64)
 }
 
 // The value tests of a setting.
@@ -73,7 +73,7 @@ pub(crate) fn value_refusal(p: Profile, s: Setting) -> u8
     let metadata = p.metadata;
     let throttle = p.throttle;
     match s {
-        Setting::Ev(e) => controls::ev::refusal(ev, e.flags as u64, e.value),
+        Setting::Ev(e) => exposure::refusal(ev, e.flags as u64, e.value),
         Setting::Face { address, flags } => face_refusal(p, address, flags),
         Setting::Metadata(n) => controls::metadata::refusal(metadata, n),
         Setting::Hdr(n) => controls::hdr::refusal(p.auto, n),
@@ -87,11 +87,11 @@ pub(crate) fn item_at(p: Profile, selector: u8, payload: &[u8], i: u8) -> Item
 {
     if selector == EV {
         let ev = p.ev;
-        return controls::ev::item(ev, payload);
+        return exposure::item(ev, payload);
     }
     if selector == FACE {
         let face = p.face;
-        return controls::face::item(face, payload, i);
+        return face::item(face, payload, i);
     }
     if selector == METADATA {
         let metadata = p.metadata;
@@ -113,7 +113,7 @@ pub(crate) fn takes_of(p: Profile, selector: u8, payload: &[u8]) -> usize
     }
     if selector == FACE {
         let face = p.face;
-        return controls::face::takes(face, payload);
+        return face::takes(face, payload);
     }
     if selector == THROTTLE {
         return 20;

@@ -37,7 +37,7 @@ fn frame(kind: usize, payload: &[u8]) -> Record
 fn face_record(address: u8, flags: u8) -> Record
     ensures { λ r. ⌜ r ≡ recordOf (row 0 (Setting.Face address flags)) ⌝ }
 {
-    let e = controls::face::entry(address, flags);
+    let e = face::entry(address, flags);
     let b = [1, e[0], e[1], e[2], e[3], e[4], e[5], e[6], e[7]];
     frame(0x06, &b)
 }
@@ -48,7 +48,7 @@ fn record_of(s: Setting) -> Record
 {
     match s {
         Setting::Ev(e) => {
-            let b = controls::ev::bytes(e);
+            let b = exposure::bytes(e);
             frame(0x03, &b)
         }
         Setting::Face { address, flags } => face_record(address, flags),

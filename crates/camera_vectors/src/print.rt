@@ -1,5 +1,5 @@
 // What a row's answer is written with.
-use controls::ev::EvSetting;
+use controls::EvSetting;
 
 const STDOUT: i32 = 1;
 
@@ -40,7 +40,7 @@ pub(crate) fn bytes(s: &[u8]) {
 
 // A signed number, by the bytes that a payload has for it.
 pub(crate) fn signed(value: i32) {
-    let b = controls::ev::bytes(EvSetting { flags: 0, value });
+    let b = exposure::bytes(EvSetting { flags: 0, value });
     let n = wire::le32(&b, 7);
     if n < 0x8000_0000 {
         text(b" ");

@@ -1,8 +1,6 @@
--- What document 01 says of the five controls.
+-- What document 01 says of metadata, HDR and throttle, and of settings and answers, whichever control they are of.
 pub mod Answers
 pub mod Settings
-pub mod Ev
-pub mod Face
 pub mod Metadata
 pub mod Hdr
 pub mod Throttle

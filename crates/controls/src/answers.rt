@@ -23,7 +23,7 @@ pub(crate) fn pack(answer: &[u8]) -> Answer
 }
 
 // LEN and INFO by themselves; every other request is answered by the control's bytes.
-pub(crate) fn answer_by(code: u8, len: usize, info: u8, value: &[u8]) -> Answer
+pub fn answer_by(code: u8, len: usize, info: u8, value: &[u8]) -> Answer
     ensures { λ r. ⌜ r ≡ packed (answerBy code len info (now (value .entry))) ⌝ }
 {
     if code == GET_LEN {

@@ -1,8 +1,13 @@
 // Settings, whichever control they are of.
-use crate::ev::EvSetting;
 use crate::throttle::ThrottleSetting;
 ghost use mathlib.Core.Path.{_≡_};
 ghost use Rattle.controls.specs.Settings.{itemOf, numberOr};
+
+// The flag of a step, and a number of such steps.
+pub struct EvSetting {
+    pub flags: u8,
+    pub value: i32,
+}
 
 // One setting, as a SET gives it. A face setting names its endpoint by the address.
 pub enum Setting {

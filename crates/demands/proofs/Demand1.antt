@@ -8,7 +8,7 @@ use lib.IntN.{ℤ, pos}
 use lib.ListN.{length, take, drop}
 use borrow.Author.Tests.{ne-eqb}
 use Rattle.request.specs.Setup.{isSetRequest}
-use Rattle.controls.specs.Ev.{compensation}
+use Rattle.exposure.specs.Ev.{compensation}
 use Rattle.camera.specs.declared.record.Camera.{Camera}
 use Rattle.camera.specs.declared.calls.Outcome.{Outcome}
 use Rattle.camera.specs.Record.{wellFormed}

@@ -17,9 +17,9 @@ use Rattle.snapshot.specs.Records.{decode}
 use Rattle.snapshot.specs.Records as records
 use Rattle.snapshot.specs.Merge.{over}
 use Rattle.snapshot.specs.Settings.{lastOf}
-use Rattle.controls.specs.declared.ev.Ev.{Ev}
-use Rattle.controls.specs.declared.ev.Ev.the-variants as E
-use Rattle.controls.specs.declared.face.FaceLimits.{FaceLimits}
+use Rattle.exposure.specs.declared.ev.Ev.{Ev}
+use Rattle.exposure.specs.declared.ev.Ev.the-variants as E
+use Rattle.face.specs.declared.face.FaceLimits.{FaceLimits}
 use Rattle.controls.specs.declared.throttle.Throttle.{Throttle}
 use Rattle.controls.specs.declared.throttle.Throttle.the-variants as T
 use Rattle.controls.specs.declared.settings.Number.{Number}
@@ -27,12 +27,12 @@ use Rattle.controls.specs.declared.settings.Number.the-variants as N
 use Rattle.controls.specs.declared.settings.Setting.the-variants as S
 use Rattle.controls.specs.Answers.{answerBy}
 use Rattle.controls.specs.Settings.{numberOr}
-use Rattle.controls.specs.Ev as ev
-use Rattle.controls.specs.Face.{endpoints, addressAt, entryAddress, entryFlags, entryOf, heldAt, flagsAt}
+use Rattle.exposure.specs.Ev as ev
+use Rattle.face.specs.Face.{endpoints, addressAt, entryAddress, entryFlags, entryOf, heldAt, flagsAt}
 use Rattle.controls.specs.Metadata.{metadataAt, metadataAnswer}
 use Rattle.controls.specs.Hdr.{hdrAt, hdrAnswer}
 use Rattle.controls.specs.Throttle as throttle
-use Rattle.controls.proofs.Laws.Face.{place-listed, fresh-answer, len-answer, len-taken, len-longest}
+use Rattle.face.proofs.Laws.Face.{place-listed, fresh-answer, len-answer, len-taken, len-longest}
 use Rattle.camera.specs.declared.profile.Profile.{Profile}
 use Rattle.camera.specs.declared.record.Camera.{Camera}
 use Rattle.camera.specs.Profile.{has, takes, table}

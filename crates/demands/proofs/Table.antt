@@ -5,8 +5,8 @@ use Rattle.wire.specs.Number.{number, leAt, bytesOf}
 use Rattle.wire.specs.Flags.{isSet, bitsOf, count, first, choiceOf}
 use Rattle.request.specs.Tests.{requestTests}
 use Rattle.controls.specs.Settings.{itemOf}
-use Rattle.controls.specs.Ev.{signed32, bits32, inRange, refusalAt, evRefusal, evItem, evBytes, scaledAt, scaledOf, compensation}
-use Rattle.controls.specs.Face.{allBelow, addressBefore, endpointValid, faceValid}
+use Rattle.exposure.specs.Ev.{signed32, bits32, inRange, refusalAt, evRefusal, evItem, evBytes, scaledAt, scaledOf, compensation}
+use Rattle.face.specs.Face.{allBelow, addressBefore, endpointValid, faceValid}
 use Rattle.controls.specs.Hdr.{hdrRefusal, hdrItem}
 use Rattle.controls.specs.Throttle.{throttleRefusal, throttleItem, throttleBytes}
 use Rattle.snapshot.specs.Records.{records, encode}

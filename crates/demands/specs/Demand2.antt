@@ -13,7 +13,7 @@ use Rattle.snapshot.specs.Form as form
 use Rattle.snapshot.specs.Records.{decode}
 use Rattle.snapshot.specs.Merge.{over}
 use Rattle.snapshot.specs.Settings.{lastOf}
-use Rattle.controls.specs.Face.{endpoints, addressAt, entryAddress, entryFlags, heldAt, flagsAt}
+use Rattle.face.specs.Face.{endpoints, addressAt, entryAddress, entryFlags, heldAt, flagsAt}
 use Rattle.camera.specs.declared.profile.Profile.{Profile}
 use Rattle.camera.specs.declared.record.Camera.{Camera}
 use Rattle.camera.specs.Selectors.{Control}

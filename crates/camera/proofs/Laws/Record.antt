@@ -13,8 +13,8 @@ use Rattle.wire.specs.Flags.{choiceOf}
 use Rattle.controls.specs.declared.settings.Item.{Item}
 use Rattle.controls.specs.declared.settings.Setting.{Setting}
 use Rattle.controls.specs.declared.settings.Setting.the-variants as S
-use Rattle.controls.specs.Ev.{compensation}
-use Rattle.controls.specs.Face.{allBelow, faceValid, offersOf, isChoice, faceRefusal}
+use Rattle.exposure.specs.Ev.{compensation}
+use Rattle.face.specs.Face.{allBelow, faceValid, offersOf, isChoice, faceRefusal}
 use Rattle.camera.specs.declared.profile.Profile.{Profile}
 use Rattle.camera.specs.declared.record.Camera.{Camera}
 use Rattle.camera.specs.Profile.{has, settable, presenceValid, profileValid}

@@ -15,13 +15,13 @@ use Rattle.request.specs.Table.{tableOf, hasControl}
 use Rattle.request.specs.Tests.{requestTests}
 use Rattle.request.specs.Reply.{sentOf, replyOf}
 use Rattle.request.proofs.Laws.Tests.{same-answer, then-rows}
-use Rattle.controls.specs.Ev.{evAnswer}
-use Rattle.controls.specs.Face.{faceAnswer}
+use Rattle.exposure.specs.Ev.{evAnswer}
+use Rattle.face.specs.Face.{faceAnswer}
 use Rattle.controls.specs.Metadata.{metadataAnswer}
 use Rattle.controls.specs.Hdr.{hdrAnswer}
 use Rattle.controls.specs.Throttle.{throttleAnswer}
-use Rattle.controls.proofs.Laws.Ev.{ev-answer-length}
-use Rattle.controls.proofs.Laws.Face as face-laws
+use Rattle.exposure.proofs.Laws.Ev.{ev-answer-length}
+use Rattle.face.proofs.Laws.Face as face-laws
 use Rattle.controls.proofs.Laws.Plain.{metadata-answer-length, hdr-answer-length, throttle-answer-length}
 use Rattle.camera.specs.declared.profile.Profile.{Profile}
 use Rattle.camera.specs.declared.record.Camera.{Camera}

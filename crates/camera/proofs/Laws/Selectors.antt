@@ -8,7 +8,7 @@ use borrow.Author.Tests.{eqb-true, eqb-false, leb-true, leb-false, ltb-true}
 use Rattle.wire.specs.Flags.{isSet}
 use Rattle.wire.proofs.Laws.Bits.{high-clear}
 use Rattle.request.specs.Table.{hasControl}
-use Rattle.controls.specs.Face.{allBelow}
+use Rattle.face.specs.Face.{allBelow}
 use Rattle.camera.specs.Selectors.{Control, ev, face, metadata, hdr, throttle}
 use Rattle.camera.specs.Profile.{presenceValid}
 

@@ -17,7 +17,7 @@ use Rattle.snapshot.proofs.Laws.Maps.{records-split}
 use Rattle.controls.specs.declared.settings.Setting.{Setting}
 use Rattle.controls.specs.declared.settings.Setting.the-variants as S
 use Rattle.controls.specs.declared.settings.Item.{Item}
-use Rattle.controls.specs.Ev.{evBytes}
+use Rattle.exposure.specs.Ev.{evBytes}
 use Rattle.controls.specs.Throttle.{throttleBytes}
 use Rattle.camera.specs.declared.record.Camera.{Camera}
 use Rattle.camera.specs.declared.writing.Record.{Record}

@@ -14,8 +14,8 @@ use Rattle.snapshot.specs.Settings.{lastOf}
 use Rattle.snapshot.proofs.Laws.Merging.{over-assoc}
 use Rattle.controls.specs.declared.settings.Setting.{Setting}
 use Rattle.controls.specs.declared.settings.Setting.the-variants as S
-use Rattle.controls.specs.declared.ev.Ev.{Ev}
-use Rattle.controls.specs.declared.ev.Ev.the-variants as E
+use Rattle.exposure.specs.declared.ev.Ev.{Ev}
+use Rattle.exposure.specs.declared.ev.Ev.the-variants as E
 use Rattle.controls.specs.declared.settings.Number.{Number}
 use Rattle.controls.specs.declared.throttle.Throttle.{Throttle}
 use Rattle.controls.specs.declared.settings.Number.the-variants as N

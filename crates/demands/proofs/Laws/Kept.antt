@@ -17,13 +17,13 @@ use Rattle.controls.specs.declared.settings.Item.the-variants.{Absent, Refused,
 use Rattle.controls.specs.declared.settings.Setting.{Setting}
 use Rattle.controls.specs.declared.settings.Setting.the-variants as S
 use Rattle.controls.specs.Settings.{itemOf}
-use Rattle.controls.specs.Ev.{evItem, evFlags, evValue, evRefusal}
-use Rattle.controls.specs.Face.{allBelow, faceValid, entryAddress, entryFlags, seenBefore, offersOf, isChoice, entryRefusal, faceItem}
+use Rattle.exposure.specs.Ev.{evItem, evFlags, evValue, evRefusal}
+use Rattle.face.specs.Face.{allBelow, faceValid, entryAddress, entryFlags, seenBefore, offersOf, isChoice, entryRefusal, faceItem}
 use Rattle.controls.specs.Metadata.{metadataItem}
 use Rattle.controls.specs.Hdr.{hdrItem}
 use Rattle.controls.specs.Throttle.{throttleItem}
 use Rattle.controls.proofs.Laws.Settings.{given-is}
-use Rattle.controls.proofs.Laws.Face.{listed}
+use Rattle.face.proofs.Laws.Face.{listed}
 use Rattle.camera.specs.declared.profile.Profile.{Profile}
 use Rattle.camera.specs.declared.record.Camera.{Camera}
 use Rattle.camera.specs.Profile.{has, settable, presenceValid, profileValid}

@@ -11,8 +11,8 @@ use lib.ListN.{length, getD}
 use borrow.Author.Tests.{eq-eqb, eqb-true, eqb-false}
 use Rattle.snapshot.specs.Records as records
 use Rattle.snapshot.proofs.Laws.Lengths.{encode-short}
-use Rattle.controls.specs.declared.face.FaceLimits.{FaceLimits}
-use Rattle.controls.specs.Face.{addressAt, offersAt, offersFrom, offersOf, endpoints}
+use Rattle.face.specs.declared.face.FaceLimits.{FaceLimits}
+use Rattle.face.specs.Face.{addressAt, offersAt, offersFrom, offersOf, endpoints}
 use Rattle.controls.specs.declared.settings.Setting.{Setting}
 use Rattle.controls.specs.declared.settings.Setting.the-variants as S
 use Rattle.camera.specs.declared.record.Camera.{Camera}

@@ -17,17 +17,17 @@ use Rattle.controls.specs.declared.settings.Item.{Item}
 use Rattle.controls.specs.declared.settings.Item.the-variants.{Given}
 use Rattle.controls.specs.declared.settings.Setting.{Setting}
 use Rattle.controls.specs.declared.settings.Setting.the-variants as S
-use Rattle.controls.specs.declared.face.FaceLimits.{FaceLimits}
+use Rattle.face.specs.declared.face.FaceLimits.{FaceLimits}
 use Rattle.controls.specs.Answers.{answerBy}
 use Rattle.controls.specs.Settings.{itemOf, numberOr}
-use Rattle.controls.specs.Ev.{evFlags, evValue, evItem, evHeld, evAt, evAnswer}
-use Rattle.controls.specs.Face.{endpoints, addressAt, offersAt, offersFrom, offersOf, takesFace, entryAddress, entryFlags, seenIn, seenBefore, faceItem, entryOf, heldAt, flagsAt, entriesOf, faceValue, faceAnswer}
+use Rattle.exposure.specs.Ev.{evFlags, evValue, evItem, evHeld, evAt, evAnswer}
+use Rattle.face.specs.Face.{endpoints, addressAt, offersAt, offersFrom, offersOf, takesFace, entryAddress, entryFlags, seenIn, seenBefore, faceItem, entryOf, heldAt, flagsAt, entriesOf, faceValue, faceAnswer}
 use Rattle.controls.specs.Metadata.{metadataItem, metadataAt, metadataAnswer}
 use Rattle.controls.specs.Hdr.{hdrItem, hdrAt, hdrAnswer}
 use Rattle.controls.specs.Throttle.{throttleItem, throttleHeld, throttleAt, throttleBytes, throttleAnswer}
 use Rattle.wire.proofs.Laws.Bytes.{bytes-at}
-use Rattle.controls.proofs.Laws.Ev.{ev-bytes}
-use Rattle.controls.proofs.Laws.Face.{accepted, length-entries}
+use Rattle.exposure.proofs.Laws.Ev.{ev-bytes}
+use Rattle.face.proofs.Laws.Face.{accepted, length-entries}
 use Rattle.controls.proofs.Laws.Plain.{word-bytes}
 use Rattle.camera.specs.declared.profile.Profile.{Profile}
 use Rattle.camera.specs.declared.record.Camera.{Camera}

@@ -14,8 +14,8 @@ use Rattle.snapshot.specs.Settings.{Rows}
 use Rattle.snapshot.proofs.Laws.Controls.{record-ev, record-face, record-metadata, record-hdr, record-throttle}
 use Rattle.controls.specs.declared.settings.Setting.{Setting}
 use Rattle.controls.specs.declared.settings.Setting.the-variants as S
-use Rattle.controls.specs.Ev.{evBytes}
-use Rattle.controls.specs.Face.{entryOf}
+use Rattle.exposure.specs.Ev.{evBytes}
+use Rattle.face.specs.Face.{entryOf}
 use Rattle.controls.specs.Throttle.{throttleBytes, throttleItem, throttleRefusal}
 use Rattle.controls.specs.Metadata.{metadataItem, metadataRefusal}
 use Rattle.controls.specs.Hdr.{hdrItem, hdrRefusal}
@@ -25,8 +25,8 @@ use Rattle.controls.specs.declared.metadata.MetadataLimits.{MetadataLimits}
 use Rattle.controls.specs.declared.throttle.ThrottleLimits.{ThrottleLimits}
 use Rattle.controls.specs.declared.throttle.ThrottleSetting.{ThrottleSetting}
 use Rattle.wire.proofs.Laws.Bytes.{number-bytes}
-use Rattle.controls.proofs.Laws.Ev.{ev-read}
-use Rattle.controls.proofs.Laws.Face.{one-entry}
+use Rattle.exposure.proofs.Laws.Ev.{ev-read}
+use Rattle.face.proofs.Laws.Face.{one-entry}
 use Rattle.controls.proofs.Laws.Plain.{metadata-read, hdr-read, throttle-read}
 use Rattle.camera.specs.declared.profile.Profile.{Profile}
 use Rattle.camera.specs.Record.{keyOf, selectorOf, valueRefusal, controlRefusal}

@@ -1,7 +1,7 @@
 use mathlib.Core.Path.{ap, sym, _∙_}
 use Prim.Native.Nat.{ℕ}
 use borrow.Author.Needs.{needs}
-use Rattle.controls.specs.Face.{faceRefusal}
+use Rattle.face.specs.Face.{faceRefusal}
 use Rattle.camera.proofs.Laws.Record.{face-unlisted, face-listed}
 use Rattle.camera.proofs.setting.face_refusal.Statement.{statement}
 use Rattle.camera.proofs.setting.face_refusal.Tie as tie

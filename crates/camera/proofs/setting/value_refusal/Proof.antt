@@ -3,7 +3,7 @@ use mir.Syntax.{w32}
 use mir.Val.{SFits}
 use mir.Facts.{toZ-ofZ}
 use borrow.Author.Needs.{needs}
-use Rattle.controls.specs.Ev.{evRefusal}
+use Rattle.exposure.specs.Ev.{evRefusal}
 use Rattle.camera.specs.Record.{valueRefusal}
 use Rattle.camera.proofs.setting.value_refusal.Statement.{statement}
 use Rattle.camera.proofs.setting.value_refusal.Tie as tie

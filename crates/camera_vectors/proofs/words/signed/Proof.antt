@@ -1,6 +1,6 @@
 use native.Mathlib.Omega.{arith}
 use borrow.Author.Needs.{needs}
-use Rattle.controls.proofs.Laws.Signed.{signed-fits, high-is}
+use Rattle.exposure.proofs.Laws.Signed.{signed-fits, high-is}
 use Rattle.camera_vectors.proofs.words.signed.Statement.{statement}
 use Rattle.camera_vectors.proofs.words.signed.Tie as tie
 

@@ -1,7 +1,7 @@
 use mathlib.Core.Bool.{not, _||_}
 use borrow.Author.Needs.{needs}
-use Rattle.controls.specs.Ev.{evValid}
-use Rattle.controls.specs.Face.{faceValid}
+use Rattle.exposure.specs.Ev.{evValid}
+use Rattle.face.specs.Face.{faceValid}
 use Rattle.controls.specs.Metadata.{metadataValid}
 use Rattle.controls.specs.Throttle.{throttleValid}
 use Rattle.camera.specs.Profile.{has, presenceValid, profileValid}

@@ -3,7 +3,7 @@ use mathlib.Core.Bool.{_&&_, and-true}
 use Prim.Native.Nat.{ℕ, _≤_, _-_}
 use native.Mathlib.Omega.{arith}
 use borrow.Author.Needs.{needs}
-use Rattle.controls.specs.Face.{allBelow}
+use Rattle.face.specs.Face.{allBelow}
 use Rattle.camera.specs.Profile.{profileValid}
 use Rattle.camera.specs.Record.{held, kept, wellFormed}
 use Rattle.camera.proofs.Laws.Record.{kept-next}

@@ -1,0 +1,2 @@
+pub mod Ev
+pub mod Signed

@@ -1,0 +1,61 @@
+use mathlib.Core.Path.{_≡_, ap, sym, _∙_}
+use lib.IntN.{ℤ}
+use mir.Syntax.{w32}
+use mir.Val.{SFits, toZ, ofZ}
+use mir.Facts.{toZ-ofZ}
+use borrow.Author.Needs.{needs}
+use borrow.Author.Tests.{ne-eqb}
+use Rattle.controls.specs.declared.settings.EvSetting.{EvSetting}
+use Rattle.exposure.specs.Ev.{evAt, evHeld}
+use Rattle.exposure.proofs.ev.at.Statement.{statement}
+use Rattle.exposure.proofs.ev.at.Tie as tie
+
+-- D4 with a limit
+with-limit : (z : ℤ) → SFits w32 z → _≡_ {A = EvSetting} (record { flags = 16; value = toZ w32 (ofZ w32 z) }) (record { flags = 16; value = z })
+with-limit z f = rw (toZ-ofZ f)
+
+returns : tie.Need-returns
+unfolding evAt
+returns c =
+    let a = c .before .before .args in
+    with-limit (a .l .low) (search needs) ∙ sym (ap (evAt (a .l) (a .held)) (c .before .if1 .taken))
+
+returns-2 : tie.Need-returns-2
+unfolding evAt
+returns-2 c =
+    let a = c .before .before .before .args in
+    with-limit (a .l .high) (search needs) ∙ sym (ap (evAt (a .l) (a .held)) (c .before .if2 .taken))
+
+returns-3 : tie.Need-returns-3
+unfolding evAt
+returns-3 c = let a = c .before .before .before .args in sym (ap (evAt (a .l) (a .held)) (c .if3 .taken))
+
+enum-told : tie.Need-enum-told
+enum-told c = search needs
+
+enum-known-held : tie.Need-enum-known-held
+enum-known-held c = search needs
+
+returns-4 : tie.Need-returns-4
+unfolding evAt evHeld
+returns-4 c =
+    let a = c .before .before .before .before .before .before .args in
+    sym (ap (evAt (a .l) (a .held)) (c .before .before .if4 .taken) ∙ ap evHeld (c .enum-told .given .1))
+
+returns-5 : tie.Need-returns-5
+unfolding evAt evHeld
+returns-5 c =
+    let a = c .before .before .before .before .before .before .before .args in
+    sym (ap (evAt (a .l) (a .held)) (c .before .before .before .if4 .taken) ∙ ap evHeld (c .before .held .given .1))
+
+returns-6 : tie.Need-returns-6
+unfolding evAt
+returns-6 c =
+    let b = c .before in
+    let code = b .before .before .before .args .code in
+    rw (ne-eqb code 0x82 (b .before .before .if1 .left), ne-eqb code 0x83 (b .before .if2 .left), ne-eqb code 0x84 (b .if3 .left), ne-eqb code 0x81 (c .if4 .left))
+
+pub at-spec : {M : Type 1} → statement M
+at-spec =
+    tie.close
+    (tie.spec returns returns-2 returns-3 enum-told enum-known-held returns-4 returns-5 returns-6)

@@ -1,0 +1,198 @@
+// Exposure compensation (EV): seven bytes of flags, of which one says the step, then a signed 32-bit value in such steps.
+use controls::Answer;
+use controls::EvSetting;
+use controls::answer_by;
+use controls::Item;
+use controls::Setting;
+use wire::Choice;
+use wire::uvc::GET_CUR;
+use wire::uvc::GET_MAX;
+use wire::uvc::GET_MIN;
+use wire::uvc::GET_RES;
+use wire::uvc::INVALID_VALUE;
+use wire::uvc::OUT_OF_RANGE;
+ghost use mathlib.Core.Path.{_≡_};
+ghost use Rattle.exposure.specs.Ev.{evValid, signed32, bits32, divisor, inRange, evRefusal, evItem, evBytes, evAt, evAnswer, scaledOf, compensation};
+ghost use Rattle.controls.specs.Answers.{packed};
+
+// How many of the sensor's units make a stop: twelfths.
+pub const UNITS: u8 = 12;
+
+// Whole stops, and the steps offered as flags D0 to D4.
+pub struct EvLimits {
+    pub low: i32,
+    pub high: i32,
+    pub steps: u8,
+}
+
+pub enum Ev {
+    Unset,
+    Held(EvSetting),
+}
+
+pub fn valid(l: EvLimits) -> bool
+    ensures { λ r. ⌜ r ≡ evValid l ⌝ }
+{
+    (-128 <= l.low)
+        & (l.low <= 0)
+        & (0 <= l.high)
+        & (l.high <= 127)
+        & (16 <= l.steps)
+        & (l.steps < 32)
+}
+
+// 32 bits as a signed number, and back.
+fn from_bits(n: u32) -> i32
+    ensures { λ r. ⌜ r ≡ signed32 n ⌝ }
+{
+    if n < 0x8000_0000 {
+        n as i32
+    } else {
+        -1 - ((0xFFFF_FFFF - n) as i32)
+    }
+}
+
+fn to_bits(v: i32) -> u32
+    ensures { λ r. ⌜ r ≡ bits32 v ⌝ }
+{
+    if 0 <= v {
+        v as u32
+    } else {
+        0xFFFF_FFFF - ((-1 - v) as u32)
+    }
+}
+
+// Steps to a stop, by the place of the step's flag.
+fn divisor_of(place: u8) -> u8
+    ensures { λ r. ⌜ r ≡ divisor place ⌝ }
+{
+    match place {
+        0 => 6,
+        1 => 4,
+        2 => 3,
+        3 => 2,
+        _ => 1,
+    }
+}
+
+// Whether the value lies between the limits, in steps of which d make a stop.
+fn in_range(l: EvLimits, d: u8, value: i32) -> bool
+    ensures { λ r. ⌜ r ≡ inRange l d value ⌝ }
+{
+    let v = value as i64;
+    ((l.low as i64) * (d as i64) <= v) & (v <= (l.high as i64) * (d as i64))
+}
+
+// SET's value tests on the flags and the value, and those of a setting held: document 01's number, or 0.
+pub fn refusal(l: EvLimits, flags: u64, value: i32) -> u8
+    ensures { λ r. ⌜ r ≡ evRefusal l flags value ⌝ }
+{
+    match wire::one_flag(flags, l.steps) {
+        Choice::Refused => INVALID_VALUE,
+        Choice::At(place) => {
+            if in_range(l, divisor_of(place), value) {
+                0
+            } else {
+                OUT_OF_RANGE
+            }
+        }
+    }
+}
+
+// What a SET's payload comes to.
+pub fn item(l: EvLimits, payload: &[u8]) -> Item
+    ensures { λ r. ⌜ r ≡ evItem l (now (payload .entry)) ⌝ }
+{
+    let flags = wire::flag_word(payload, 0);
+    let value = from_bits(wire::le32(payload, 7));
+    let code = refusal(l, flags, value);
+    if code != 0 {
+        return Item::Refused(code);
+    }
+    Item::Given(Setting::Ev(EvSetting {
+        flags: flags as u8,
+        value,
+    }))
+}
+
+// The payload of a setting.
+pub fn bytes(s: EvSetting) -> [u8; 11]
+    ensures { λ r. ⌜ r ≡ evBytes s ⌝ }
+{
+    let n = wire::bytes32(to_bits(s.value));
+    [s.flags, 0, 0, 0, 0, 0, 0, n[0], n[1], n[2], n[3]]
+}
+
+// The flags and the value that a GET asks for.
+fn at(l: EvLimits, held: Ev, code: u8) -> EvSetting
+    ensures { λ r. ⌜ r ≡ evAt l held code ⌝ }
+{
+    if code == GET_MIN {
+        return EvSetting {
+            flags: 16,
+            value: l.low,
+        };
+    }
+    if code == GET_MAX {
+        return EvSetting {
+            flags: 16,
+            value: l.high,
+        };
+    }
+    if code == GET_RES {
+        return EvSetting {
+            flags: l.steps,
+            value: 0,
+        };
+    }
+    if code == GET_CUR {
+        return match held {
+            Ev::Unset => EvSetting {
+                flags: 16,
+                value: 0,
+            },
+            Ev::Held(s) => s,
+        };
+    }
+    EvSetting {
+        flags: 16,
+        value: 0,
+    }
+}
+
+pub fn answer(l: EvLimits, held: Ev, code: u8) -> Answer
+    ensures { λ r. ⌜ r ≡ packed (evAnswer l held code) ⌝ }
+{
+    let b = bytes(at(l, held, code));
+    answer_by(code, 11, 0x13, &b)
+}
+
+// A setting in twelfths of a stop, exactly.
+fn scaled(l: EvLimits, s: EvSetting) -> i32
+    ensures { λ r. ⌜ r ≡ scaledOf l s ⌝ }
+{
+    if !valid(l) {
+        return 0;
+    }
+    match wire::one_flag(s.flags as u64, l.steps) {
+        Choice::Refused => 0,
+        Choice::At(place) => {
+            let d = divisor_of(place);
+            if in_range(l, d, s.value) {
+                s.value * ((UNITS / d) as i32)
+            } else {
+                0
+            }
+        }
+    }
+}
+
+// What the sensor is handed, in twelfths of a stop: 0 where no setting that SET accepts is held.
+pub fn sensor_value(l: EvLimits, held: Ev) -> i32
+    ensures { λ r. ⌜ r ≡ compensation l held ⌝ }
+{
+    match held {
+        Ev::Unset => 0,
+        Ev::Held(s) => scaled(l, s),
+    }
+}

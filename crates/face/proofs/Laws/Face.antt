@@ -1,0 +1,346 @@
+-- Laws of the face control's definitions. Assumes nothing.
+use mathlib.Core.Path.{_≡_, refl, ap, sym, _∙_}
+use mathlib.Core.List.{List, [], _∷_}
+use mathlib.Core.Bool.{Bool, true, false, cond, not, _||_, and-eq-true-iff}
+use Prim.Native.Nat.{ℕ, zero, suc, _+_, _*_, _-_, _/_, _^_, _≤_, _<_}
+use native.Mathlib.Numerals.{add-one, sub-one}
+use native.Mathlib.Omega.{arith}
+use lib.Dec.{leb, eqb, lit≤}
+use lib.ListN.{length, getD, set, length-append}
+use lib.Seq.{getD-set-same, getD-set-other}
+use borrow.Author.Tests.{eq-eqb, ne-eqb, eqb-true, eqb-false, lt-ltb, ltb-true, le-leb, leb-true}
+use Rattle.wire.specs.Number.{leAt, bytesOf}
+use Rattle.wire.specs.Flags.{choiceOf}
+use Rattle.wire.specs.Rows.{_⇒_, firstOf}
+use Rattle.wire.specs.Overlay.{overlay}
+use Rattle.wire.specs.declared.flags.Choice.{Choice}
+use Rattle.wire.specs.declared.flags.Choice.the-variants as C
+use Rattle.wire.proofs.Laws.Numbers.{Bytes, below}
+use Rattle.wire.proofs.Laws.Bits.{chosen-is}
+use Rattle.wire.proofs.Laws.Overlay.{append}
+use Rattle.face.specs.declared.face.FaceLimits.{FaceLimits}
+use Rattle.controls.specs.declared.settings.Item.the-variants.{Refused, Given}
+use Rattle.controls.specs.declared.settings.Setting.the-variants as S
+use Rattle.controls.specs.Settings.{itemOf}
+use Rattle.controls.specs.Answers.{answerBy}
+use Rattle.face.specs.Face.{endpointLimit, endpoints, addressAt, offersAt, allBelow, offersValid, addressBefore, endpointValid, faceValid, offersFrom, offersOf, takesFace, entryAddress, entryFlags, seenIn, seenBefore, isChoice, faceRefusal, entryRefusal, faceItem, entryOf, heldAt, flagsAt, entriesOf, faceValue, faceAnswer}
+use Rattle.wire.proofs.Laws.Bytes.{number-bytes, bytes-byte}
+use Rattle.controls.proofs.Laws.Settings.{given-is}
+use Rattle.controls.proofs.Laws.Answers.{answer-len, answer-length}
+use Rattle.controls.proofs.Laws.Packed.{blank}
+
+-- a place behind the first comes after the one before it
+pub before-next : (l : FaceLimits) (i : ℕ) → (i ≡ 0 → ⊥) → addressAt l (i - 1) ≡ addressBefore l i
+unfolding addressBefore
+before-next l zero p = absurd (p refl)
+before-next l (suc i) p = rw sub-one
+
+-- looking an address up: at its place, and past another's
+module _ (l : FaceLimits) (address n i : ℕ) (h : i < n) where
+  abbrev left : n - i ≡ suc (n - (i + 1))
+  left = omega arith
+
+  pub offers-here : addressAt l i ≡ address → offersFrom l address (n - i) i ≡ offersAt l i
+  unfolding offersFrom
+  offers-here e = rw (left, eq-eqb (addressAt l i) address e)
+
+  pub offers-next : (addressAt l i ≡ address → ⊥) → offersFrom l address (n - i) i ≡ offersFrom l address (n - (i + 1)) (i + 1)
+  unfolding offersFrom
+  offers-next p = rw (left, ne-eqb (addressAt l i) address p, add-one i)
+
+-- the length that a payload must have, by its first byte
+pub takes-empty : (l : FaceLimits) (s : List ℕ) → length s ≡ 0 → takesFace l s ≡ 1
+unfolding takesFace
+takes-empty l [] h = refl
+takes-empty l (n ∷ s) h = absurd (omega arith)
+
+pub takes-first : (l : FaceLimits) (s : List ℕ) → (length s ≡ 0 → ⊥) → takesFace l s ≡ cond (leb (getD s 0 0) (l .count)) (1 + 8 * getD s 0 0) 0
+unfolding takesFace
+takes-first l [] p = absurd (p refl)
+takes-first l (n ∷ s) p = refl
+
+-- one entry more
+pub seen-next : (s : List ℕ) (i j : ℕ) → seenIn s i (j + 1) ≡ seenIn s i j || eqb (entryAddress s j) (entryAddress s i)
+unfolding seenIn
+seen-next s i j = rw add-one
+
+-- an entry whose flags are one byte
+pub entry-small : (address flags : ℕ) → flags < 256 → entryOf address flags ≡ address ∷ flags ∷ 0 ∷ 0 ∷ 0 ∷ 0 ∷ 0 ∷ 0 ∷ []
+unfolding bytesOf
+entry-small address flags h = ap (λ (l : List ℕ). address ∷ l) (bytes-byte 6 flags h)
+
+-- a setting by itself
+pub refusal-none : (offers flags p : ℕ) → choiceOf offers flags ≡ C.At p → faceRefusal offers flags ≡ 0
+unfolding faceRefusal isChoice
+refusal-none offers flags p e = rw e
+
+pub refusal-flags : (offers flags : ℕ) → choiceOf offers flags ≡ C.Refused → faceRefusal offers flags ≡ 0x08
+unfolding faceRefusal isChoice
+refusal-flags offers flags e = rw e
+
+-- an entry, by the first of its tests that fails; address, offers and flags are what the code reads
+module _ (l : FaceLimits) (s : List ℕ) (i address offers : ℕ) (ha : address ≡ entryAddress s i) (ho : offers ≡ offersOf l address) where
+  offers-are : offersOf l (entryAddress s i) ≡ offers
+  offers-are = ap (offersOf l) (sym ha) ∙ sym ho
+
+  pub item-unlisted : offers ≡ 0 → faceItem l s i ≡ Refused 0x04
+  unfolding faceItem entryRefusal itemOf
+  item-unlisted e = rw (offers-are, eq-eqb offers 0 e)
+
+  module _ (listed : offers ≡ 0 → ⊥) where
+    pub item-seen : seenBefore s i ≡ true → faceItem l s i ≡ Refused 0x08
+    unfolding faceItem entryRefusal itemOf
+    item-seen e = rw (offers-are, ne-eqb offers 0 listed, e)
+
+    module _ (flags : ℕ) (hf : flags ≡ leAt 7 s (1 + 8 * i + 1)) (new : seenBefore s i ≡ false) where
+      flags-are : leAt 7 s (2 + 8 * i) ≡ flags
+      flags-are = let e : 2 + 8 * i ≡ 1 + 8 * i + 1 = omega arith in ap (leAt 7 s) e ∙ sym hf
+
+      pub item-flags : choiceOf offers flags ≡ C.Refused → faceItem l s i ≡ Refused 0x08
+      unfolding faceItem entryRefusal itemOf isChoice
+      item-flags e = rw (offers-are, ne-eqb offers 0 listed, new, flags-are, e)
+
+      pub item-given : (p : ℕ) → choiceOf offers flags ≡ C.At p → faceItem l s i ≡ Given (S.Face address flags)
+      unfolding faceItem entryRefusal itemOf isChoice
+      item-given p e = rw (offers-are, ne-eqb offers 0 listed, new, flags-are, e, ha)
+
+-- the entries of an answer, one after the other
+module _ (l : FaceLimits) (held : List ℕ) (code : ℕ) where
+  pub length-entries : (n : ℕ) → length (entriesOf l held code n) ≡ 8 * n
+  unfolding entriesOf bytesOf
+  length-entries zero = refl
+  length-entries (suc n) = simp length-append (omega (arith, length-entries n))
+
+  pub entries-next : (m i : ℕ) (b : List ℕ) → i < endpointLimit → b ≡ overlay blank 0 (m ∷ entriesOf l held code i) → overlay b (1 + 8 * i) (entryOf (addressAt l i) (flagsAt l held code i)) ≡ overlay blank 0 (m ∷ entriesOf l held code (i + 1))
+  unfolding entriesOf bytesOf
+  entries-next m i b h e =
+      let s = m ∷ entriesOf l held code i in
+      let n : 1 + 8 * i ≡ length s = omega (arith, length-entries i) in
+      rw (e, n, add-one i) (append blank s (entryOf (addressAt l i) (flagsAt l held code i)))
+
+  pub value-length : length (faceValue l held code) ≤ 65
+  unfolding faceValue
+  value-length = go (eqb code 0x82 || eqb code 0x84)
+    where
+      go : (b : Bool) → length (cond b (0 ∷ []) (endpoints l ∷ entriesOf l held code (endpoints l))) ≤ 65
+      go true = lit≤ tt
+      go false = omega (arith, length-entries (endpoints l))
+
+  pub answer-fits : length (faceAnswer l held code) ≤ 65
+  unfolding faceAnswer
+  answer-fits = answer-length code (1 + 8 * endpoints l) 0x03 (faceValue l held code) 65 (lit≤ tt) value-length
+
+-- a listed endpoint of a valid profile
+pub record Listed (address offers : ℕ) : Type 0 where
+  pub first : 0x81 ≤ address
+  pub last : address ≤ 0x8F
+  pub least : 2 ≤ offers
+  pub most : offers ≤ 5
+
+all-at : (n : ℕ) (f : ℕ → Bool) → allBelow n f ≡ true → (i : ℕ) → i < n → f i ≡ true
+unfolding allBelow
+all-at zero f h i p = absurd (omega arith)
+all-at (suc n) f h i p =
+    let both = and-eq-true-iff (allBelow n f) (f n) .0 h in
+    go (eqb i n) refl (both .1) (all-at n f (both .0) i)
+  where
+    go : (b : Bool) → eqb i n ≡ b → f n ≡ true → (i < n → f i ≡ true) → f i ≡ true
+    go true e last before = ap f (eqb-true i n e) ∙ last
+    go false e last before = let q = eqb-false i n e in before (omega arith)
+
+offers-between : (o : ℕ) → offersValid o ≡ true → (2 ≤ o) × (o ≤ 5)
+offers-between o h = go (eqb (o / 2) 1) (eqb (o / 2) 2) refl refl h
+  where
+    go : (a b : Bool) → eqb (o / 2) 1 ≡ a → eqb (o / 2) 2 ≡ b → a || b ≡ true → (2 ≤ o) × (o ≤ 5)
+    go true b e f g = omega (arith, eqb-true (o / 2) 1 e)
+    go false true e f g = omega (arith, eqb-true (o / 2) 2 f)
+    go false false e f g = let z : _≡_ {A = ℕ} 0 1 = cc in absurd (omega arith)
+
+module _ (l : FaceLimits) (valid : faceValid l ≡ true) where
+  pub count-least : 1 ≤ l .count
+  unfolding faceValid
+  count-least = leb-true 1 (l .count) (simp and-eq-true-iff at valid .0 .0)
+
+  pub count-most : l .count ≤ endpointLimit
+  unfolding faceValid
+  count-most = leb-true (l .count) endpointLimit (simp and-eq-true-iff at valid .0 .1)
+
+  place-valid : (i : ℕ) → i < l .count → (addressBefore l i < addressAt l i) × (addressAt l i ≤ 0x8F) × (2 ≤ offersAt l i) × (offersAt l i ≤ 5)
+  unfolding faceValid endpointValid
+  place-valid i h =
+      let v = all-at endpointLimit (endpointValid l) (simp and-eq-true-iff at valid .1) i (omega (arith, count-most)) in
+      let w = simp and-eq-true-iff at (rw (lt-ltb i (l .count) h) at v) in
+      let o = offers-between (offersAt l i) (w .1) in
+      (ltb-true (addressBefore l i) (addressAt l i) (w .0 .0), leb-true (addressAt l i) 0x8F (w .0 .1), o .0, o .1)
+
+  above : (i : ℕ) → i < l .count → 0x80 < addressAt l i
+  unfolding addressBefore
+  above zero h = place-valid zero h .0
+  above (suc i) h = omega (arith, above i (omega arith), place-valid (suc i) h .0)
+
+  pub place-listed : (i : ℕ) → i < l .count → Listed (addressAt l i) (offersAt l i)
+  place-listed i h = let p = place-valid i h in record { first = above i h; last = p .1; least = p .2; most = p .3 }
+
+  -- what a look-up finds is listed
+  found : (address n i : ℕ) → i + n ≤ l .count → (offersFrom l address n i ≡ 0 → ⊥) → Listed address (offersFrom l address n i)
+  unfolding offersFrom
+  found address zero i h p = absurd (p refl)
+  found address (suc n) i h p = go (eqb (addressAt l i) address) refl p (found address n (suc i) (omega arith))
+    where
+      go : (b : Bool) → eqb (addressAt l i) address ≡ b → (cond b (offersAt l i) (offersFrom l address n (suc i)) ≡ 0 → ⊥) → ((offersFrom l address n (suc i) ≡ 0 → ⊥) → Listed address (offersFrom l address n (suc i))) → Listed address (cond b (offersAt l i) (offersFrom l address n (suc i)))
+      go true e q rest = rw (eqb-true (addressAt l i) address e) at (place-listed i (omega arith))
+      go false e q rest = rest q
+
+  pub listed : (address : ℕ) → (offersOf l address ≡ 0 → ⊥) → Listed address (offersOf l address)
+  unfolding offersOf
+  listed address p = found address (endpoints l) 0 (omega (arith, count-most)) p
+
+  -- listed or not, no flag above D2 is offered
+  pub offers-small : (address : ℕ) → offersOf l address < 8
+  offers-small address = go (eqb (offersOf l address) 0) refl
+    where
+      go : (b : Bool) → eqb (offersOf l address) 0 ≡ b → offersOf l address < 8
+      go true e = omega (arith, eqb-true (offersOf l address) 0 e)
+      go false e = omega (arith, listed address (eqb-false (offersOf l address) 0 e) .most)
+
+  -- addresses ascend, so that a place's offers are those of its address
+  pub ascends : (i j : ℕ) → i < j → j < l .count → addressAt l i < addressAt l j
+  unfolding addressBefore
+  ascends i zero h k = absurd (omega arith)
+  ascends i (suc j) h k = go (eqb i j) refl (place-valid (suc j) k .0) (λ q. ascends i j q (omega arith))
+    where
+      go : (b : Bool) → eqb i j ≡ b → addressAt l j < addressAt l (suc j) → (i < j → addressAt l i < addressAt l j) → addressAt l i < addressAt l (suc j)
+      go true e p before = rw (eqb-true i j e) p
+      go false e p before = let n = eqb-false i j e in omega (arith, before (omega arith))
+
+  own-from : (i n k : ℕ) → k ≤ i → i < k + n → i < l .count → offersFrom l (addressAt l i) n k ≡ offersAt l i
+  unfolding offersFrom
+  own-from i zero k p q h = absurd (omega arith)
+  own-from i (suc n) k p q h = go (eqb (addressAt l k) (addressAt l i)) (eqb k i) refl refl (λ r. own-from i n (suc k) r (omega arith) h)
+    where
+      go : (a b : Bool) → eqb (addressAt l k) (addressAt l i) ≡ a → eqb k i ≡ b → (suc k ≤ i → offersFrom l (addressAt l i) n (suc k) ≡ offersAt l i) → cond a (offersAt l k) (offersFrom l (addressAt l i) n (suc k)) ≡ offersAt l i
+      go true true e f next = ap (offersAt l) (eqb-true k i f)
+      go true false e f next = let r = eqb-false k i f in absurd (omega (arith, eqb-true (addressAt l k) (addressAt l i) e, ascends k i (omega arith) h))
+      go false true e f next = absurd (eqb-false (addressAt l k) (addressAt l i) e (ap (addressAt l) (eqb-true k i f)))
+      go false false e f next = let r = eqb-false k i f in next (omega arith)
+
+  pub own-offers : (i : ℕ) → i < l .count → offersOf l (addressAt l i) ≡ offersAt l i
+  unfolding offersOf
+  own-offers i h = own-from i (endpoints l) 0 (omega arith) (omega (arith, count-most)) h
+
+-- an entry's flags, read back
+pub entry-flags : (n address flags : ℕ) → flags < 2 ^ 56 → entryFlags (n ∷ entryOf address flags) 0 ≡ flags
+unfolding leAt bytesOf
+entry-flags n address flags h = number-bytes 7 flags h
+
+-- a payload of one entry, as a snapshot's record has it
+pub one-entry : (l : FaceLimits) (address flags : ℕ) → flags < 256 → faceItem l (1 ∷ entryOf address flags) 0 ≡ itemOf (firstOf ((eqb (offersOf l address) 0 ⇒ 0x04) ∷ (not (isChoice (choiceOf (offersOf l address) flags)) ⇒ 0x08) ∷ [])) (S.Face address flags)
+unfolding faceItem entryRefusal seenIn
+one-entry l address flags h = rw (entry-flags 1 address flags (omega arith))
+
+-- a sound setting of a listed endpoint is accepted in such a payload
+pub setting-given : (l : FaceLimits) (address flags : ℕ) → flags < 256 → (offersOf l address ≡ 0 → ⊥) → faceRefusal (offersOf l address) flags ≡ 0 → faceItem l (1 ∷ entryOf address flags) 0 ≡ Given (S.Face address flags)
+unfolding faceRefusal itemOf
+setting-given l address flags h known e = one-entry l address flags h ∙ rw (ne-eqb (offersOf l address) 0 known) (go (isChoice (choiceOf (offersOf l address) flags)) e)
+  where
+    go : (b : Bool) → _≡_ {A = ℕ} (cond b 0 0x08) 0 → itemOf (firstOf ((not b ⇒ 0x08) ∷ [])) (S.Face address flags) ≡ Given (S.Face address flags)
+    go true f = refl
+    go false f = absurd (omega arith)
+
+-- what an accepted entry gives: its own bytes, for a listed endpoint that no entry before it names and that offers its flags
+pub record Accepted (l : FaceLimits) (s : List ℕ) (i address flags : ℕ) : Type 0 where
+  pub address-read : entryAddress s i ≡ address
+  pub flags-read : entryFlags s i ≡ flags
+  pub known : offersOf l address ≡ 0 → ⊥
+  pub new : seenBefore s i ≡ false
+  pub sound : faceRefusal (offersOf l address) flags ≡ 0
+
+tests-passed : (a b c : Bool) → firstOf ((a ⇒ 0x04) ∷ (b ⇒ 0x08) ∷ (not c ⇒ 0x08) ∷ []) ≡ 0 → (a ≡ false) × (b ≡ false) × (c ≡ true)
+tests-passed true b c e = absurd (omega arith)
+tests-passed false true c e = absurd (omega arith)
+tests-passed false false false e = absurd (omega arith)
+tests-passed false false true e = (refl, refl, refl)
+
+pub accepted : (l : FaceLimits) (s : List ℕ) (i address flags : ℕ) → faceItem l s i ≡ Given (S.Face address flags) → Accepted l s i address flags
+unfolding faceItem entryRefusal faceRefusal
+accepted l s i address flags e =
+    let offers = offersOf l (entryAddress s i) in
+    let g = given-is (entryRefusal l s i) (S.Face (entryAddress s i) (entryFlags s i)) (S.Face address flags) e in
+    let t = tests-passed (eqb offers 0) (seenBefore s i) (isChoice (choiceOf offers (entryFlags s i))) (g .0) in
+    let setting = g .1 in
+    let p : entryAddress s i ≡ address = cc in
+    let q : entryFlags s i ≡ flags = cc in
+    record {
+      address-read = p;
+      flags-read = q;
+      known = rw (← p) (eqb-false offers 0 (t .0));
+      new = t .1;
+      sound = rw (← p, ← q, t .2);
+    }
+
+-- a setting that a valid profile's endpoint offers is one of D0, D1 and D2
+module _ (l : FaceLimits) (valid : faceValid l ≡ true) (address flags : ℕ) (h : flags < 2 ^ 56) where
+  pub chosen-flag : (p : ℕ) → choiceOf (offersOf l address) flags ≡ C.At p → (flags ≡ 2 ^ p) × (p < 3)
+  chosen-flag p e = chosen-is 3 (offersOf l address) flags p (offers-small l valid address) h e
+
+  small : (p : ℕ) → flags ≡ 2 ^ p → p < 3 → (0 < flags) × (flags < 8)
+  small zero e q = omega arith
+  small (suc zero) e q = omega arith
+  small (suc (suc zero)) e q = omega arith
+  small (suc (suc (suc p))) e q = absurd (omega arith)
+
+  pub setting-small : faceRefusal (offersOf l address) flags ≡ 0 → (0 < flags) × (flags < 8)
+  unfolding faceRefusal isChoice
+  setting-small e = go (choiceOf (offersOf l address) flags) refl e
+    where
+      go : (c : Choice) → choiceOf (offersOf l address) flags ≡ c → _≡_ {A = ℕ} (cond (isChoice c) 0 0x08) 0 → (0 < flags) × (flags < 8)
+      go (C.At p) f g = let q = chosen-flag p f in small p (q .0) (q .1)
+      go C.Refused f g = absurd (omega arith)
+
+-- so are the flags that an accepted entry of a payload of bytes gives
+pub accepted-small : (l : FaceLimits) (s : List ℕ) (i address flags : ℕ) → faceValid l ≡ true → Bytes s → faceItem l s i ≡ Given (S.Face address flags) → (0 < flags) × (flags < 8)
+accepted-small l s i address flags valid bytes e =
+    let a = accepted l s i address flags e in
+    let h : flags < 2 ^ 56 = rw (← a .flags-read) (below 7 7 s (2 + 8 * i) bytes (lit≤ tt)) in
+    setting-small l valid address flags h (a .sound)
+
+-- a setting put in at its address is held there, and every other address keeps its own
+pub held-same : (held : List ℕ) (address flags : ℕ) → address - 0x81 < length held → heldAt (set held (address - 0x81) flags) address ≡ flags
+held-same held address flags h = getD-set-same held (address - 0x81) flags 0 h
+
+pub held-other : (held : List ℕ) (address other flags : ℕ) → 0x81 ≤ address → 0x81 ≤ other → (other ≡ address → ⊥) → heldAt (set held (address - 0x81) flags) other ≡ heldAt held other
+held-other held address other flags h k p = getD-set-other held (address - 0x81) (other - 0x81) flags 0 (λ e. p (omega arith))
+
+-- while no setting is held CUR is DEF
+module _ (l : FaceLimits) (held : List ℕ) (none : (address : ℕ) → heldAt held address ≡ 0) where
+  fresh-flags : (i : ℕ) → flagsAt l held 0x81 i ≡ flagsAt l held 0x87 i
+  unfolding flagsAt
+  fresh-flags i = rw (none (addressAt l i))
+
+  fresh-entries : (n : ℕ) → entriesOf l held 0x81 n ≡ entriesOf l held 0x87 n
+  unfolding entriesOf
+  fresh-entries zero = refl
+  fresh-entries (suc n) = rw (fresh-entries n, fresh-flags n)
+
+  pub fresh-answer : faceAnswer l held 0x81 ≡ faceAnswer l held 0x87
+  unfolding faceAnswer answerBy faceValue
+  fresh-answer = rw (fresh-entries (endpoints l))
+
+-- LEN's answer is the length of the longest SET
+pub len-answer : (l : FaceLimits) (held : List ℕ) → faceAnswer l held 0x85 ≡ bytesOf 2 (1 + 8 * endpoints l)
+unfolding faceAnswer
+len-answer l held = answer-len 0x85 (1 + 8 * endpoints l) 0x03 (faceValue l held 0x85) refl
+
+module _ (l : FaceLimits) (valid : faceValid l ≡ true) where
+  pub len-taken : (rest : List ℕ) → takesFace l (l .count ∷ rest) ≡ 1 + 8 * endpoints l
+  unfolding takesFace
+  len-taken rest = let e : l .count ≡ endpoints l = omega (arith, count-most l valid) in rw (le-leb (l .count) (l .count) (omega arith)) (ap (λ (n : ℕ). 1 + 8 * n) e)
+
+  pub len-longest : (s : List ℕ) → takesFace l s ≤ 1 + 8 * endpoints l
+  unfolding takesFace
+  len-longest [] = omega arith
+  len-longest (n ∷ s) = go (leb n (l .count)) refl
+    where
+      go : (b : Bool) → leb n (l .count) ≡ b → cond b (1 + 8 * n) 0 ≤ 1 + 8 * endpoints l
+      go true e = omega (arith, leb-true n (l .count) e, count-most l valid)
+      go false e = omega arith
