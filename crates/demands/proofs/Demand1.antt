@@ -12,7 +12,7 @@ use Rattle.exposure.specs.Ev.{compensation}
 use Rattle.camera.specs.declared.record.Camera.{Camera}
 use Rattle.camera.specs.declared.calls.Outcome.{Outcome}
 use Rattle.camera.specs.Record.{wellFormed}
-use Rattle.camera.specs.Requests.{asked, sentCount, requestCode, refused, outcomeBy, requestDone, requested, replied}
+use Rattle.camera.specs.Requests.{asked, sentCount, requestRows, requestCode, refused, outcomeBy, requestDone, requested, replied}
 use Rattle.camera.specs.Snapshots.{loadCode, loaded, snapshot, writeCode, written, writtenOut}
 use Rattle.camera.specs.Calls.{recordCode, streamed, sensed, Call, request, stream, load, write, sense, outcome}
 use Rattle.demands.specs.Demand1.{Unchanged}
@@ -58,3 +58,12 @@ refused-sensor c n = go (wellFormed c) n
     go : (w : Bool) → (cond {A = ℕ} w 0 0x21 ≡ 0 → ⊥) → cond w (compensation (c .profile .ev) (c .ev)) (pos 0) ≡ pos 0
     go true m = absurd (m refl)
     go false m = refl
+
+-- A record that is not well formed is refused 0x21, by every call that takes it.
+pub malformed-refused : (c : Camera) → wellFormed c ≡ false → (call : Call) → outcome c call .code ≡ 0x21
+unfolding requested requestCode requestRows streamed loaded loadCode written writeCode sensed
+malformed-refused c w (request s payload reply) = rw w
+malformed-refused c w (stream on) = rw w
+malformed-refused c w (load s) = rw w
+malformed-refused c w (write out) = rw w
+malformed-refused c w sense = rw w

@@ -1,4 +1,4 @@
--- The owner's demand 2 on the camera: new settings, GET_CUR, LEN, and what is written reads back. Assumes nothing.
+-- The owner's demand 2 on the camera: new settings, the sensor's number, GET_CUR, LEN, and what is written reads back. Assumes nothing.
 use mathlib.Core.Path.{_≡_, refl, ap, ap₂, sym, _∙_, subst}
 use mathlib.Core.List.{List, [], _∷_, _++_}
 use mathlib.Core.Option.{none, Option·map}
@@ -6,10 +6,12 @@ use mathlib.Core.Bool.{Bool, true, false, not, and-eq-true-iff}
 use Prim.Native.Nat.{ℕ, _+_, _*_, _≤_, _<_, min}
 use native.Mathlib.Omega.{arith}
 use lib.Dec.{eqb}
+use lib.IntN.{pos, _*ℤ_}
 use lib.ListN.{length, getD, take, drop}
 use borrow.Author.Tests.{eq-eqb, eqb-true, le-ltb}
 use Rattle.wire.specs.Number.{bytesOf}
 use Rattle.wire.proofs.Laws.Numbers.{Bytes}
+use Rattle.wire.proofs.Laws.Bits.{chosen-is}
 use Rattle.request.specs.Setup.{typeOf, codeOf, valueLow, selectorOf, wLengthOf, isSetRequest, isGetRequest}
 use Rattle.request.specs.Tests.{requestTests, addressed}
 use Rattle.snapshot.specs.Form as form
@@ -17,6 +19,7 @@ use Rattle.snapshot.specs.Records.{decode}
 use Rattle.snapshot.specs.Records as records
 use Rattle.snapshot.specs.Merge.{over}
 use Rattle.snapshot.specs.Settings.{lastOf}
+use Rattle.controls.specs.declared.settings.EvSetting.{EvSetting}
 use Rattle.exposure.specs.declared.ev.Ev.{Ev}
 use Rattle.exposure.specs.declared.ev.Ev.the-variants as E
 use Rattle.face.specs.declared.face.FaceLimits.{FaceLimits}
@@ -32,23 +35,27 @@ use Rattle.face.specs.Face.{endpoints, addressAt, entryAddress, entryFlags, ent
 use Rattle.controls.specs.Metadata.{metadataAt, metadataAnswer}
 use Rattle.controls.specs.Hdr.{hdrAt, hdrAnswer}
 use Rattle.controls.specs.Throttle as throttle
+use Rattle.exposure.proofs.Laws.Ev.{accepts, scaled-is}
 use Rattle.face.proofs.Laws.Face.{place-listed, fresh-answer, len-answer, len-taken, len-longest}
 use Rattle.camera.specs.declared.profile.Profile.{Profile}
 use Rattle.camera.specs.declared.record.Camera.{Camera}
 use Rattle.camera.specs.Profile.{has, takes, table}
-use Rattle.camera.specs.Record.{fresh, evHeld, metadataHeld, hdrHeld, throttleHeld, held, controlRefusal, wellFormed}
+use Rattle.camera.specs.Record.{fresh, evHeld, metadataHeld, hdrHeld, throttleHeld, held, valueRefusal, controlRefusal, wellFormed}
 use Rattle.camera.specs.Items.{settingOf, allGiven, puts, setRefusal, setGives}
 use Rattle.camera.specs.Requests.{answerOf, asked, sentCount, valueTests, requestRows, requestCode, requestDone, requested, replied}
 use Rattle.camera.specs.Snapshots.{selectorAt, itemFor, loadItem, loadGives, row, snapshot}
-use Rattle.camera.specs.Calls.{Call, request, load, outcome, left, next}
-use Rattle.demands.specs.Lists.{setAccepted, gives, leaves}
-use Rattle.demands.specs.Records.{Ok, Typed, Written}
-use Rattle.demands.specs.Demand2.{NewSettings, FaceLength, bytesBack, entryBytes, FaceReadsBack, ReadsBack, Sends, Gets, SnapshotReadsBack}
+use Rattle.camera.specs.Calls.{sensed, Call, request, load, outcome, left, next}
+use Rattle.demands.specs.Lists.{setAccepted, gives, leaves, run}
+use Rattle.demands.specs.Records.{Ok, Typed, Same, Written}
+use Rattle.demands.specs.Demand2.{NewSettings, Twelfths, SensorExact, CurrentIsHeld, SameAnswers, FaceLength, bytesBack, entryBytes, FaceReadsBack, ReadsBack, Sends, Gets, SnapshotReadsBack}
 use Rattle.demands.proofs.Laws.Longest.{snapshot-short}
 use Rattle.demands.proofs.Laws.Held.{none-never, fresh-held, puts-profile}
 use Rattle.camera.proofs.Laws.Record.{formed-profile, valid-presence, valid-face}
-use Rattle.demands.proofs.Laws.Kept.{control-there}
-use Rattle.demands.proofs.Laws.ReadBack.{answer-back, Taken, entry-taken, After, after, payload-entry, place-at, face-sized, current-entry, current-held, current-same, face-none}
+use Rattle.demands.proofs.Laws.Kept.{control-there, held-good}
+use Rattle.demands.proofs.Laws.Current.{ev-current, face-current, face-default, metadata-current, hdr-current, throttle-current}
+use Rattle.demands.proofs.Laws.Same.{ev-same, face-places-same, metadata-same, hdr-same, throttle-same}
+use Rattle.demands.proofs.Laws.Sensor.{twelfths-whole, twelfths-exact, valid-ev, steps-below}
+use Rattle.demands.proofs.Laws.ReadBack.{answer-back, Taken, entry-taken, After, after, payload-entry, place-at, face-sized, current-entry, current-length, current-held, current-same, face-none}
 use Rattle.camera.specs.Selectors.{Control}
 use Rattle.camera.proofs.Laws.Selectors.{control-known}
 use Rattle.camera.specs.Selectors as selectors
@@ -56,8 +63,8 @@ use Rattle.demands.proofs.Laws.Steps.{step, outcome-code, set-answer, l
 use Rattle.demands.proofs.Demand3.{writes, snapshot-decodes, snapshot-formed, written-item, good-at}
 
 -- new settings, of any call
-pub accepted-settings : (c : Camera) → Ok (c .profile) c → (call : Call) → NewSettings c call
-accepted-settings c o call =
+pub new-settings : (c : Camera) → Ok (c .profile) c → (call : Call) → NewSettings c call
+new-settings c o call =
     let s = step (c .profile) c o call in
     record { settings = s .held-after; streaming = s .streaming-after; profile = s .ok .profile; refused = refused-none c (o .formed) call }
 
@@ -70,6 +77,29 @@ module _ (c : Camera) (w : wellFormed c ≡ true) where
   pub load-gives : (s : List ℕ) → outcome c (load s) .code ≡ 0 → gives (c .profile) (c .streaming) (load s) ≡ loadGives (c .profile) (c .streaming) s
   unfolding gives
   load-gives s e = rw (eq-eqb _ 0 (sym (load-answer c s w) ∙ e))
+
+-- The sensor's number is exact.
+pub sensor-exact : (c : Camera) → wellFormed c ≡ true → SensorExact c
+unfolding sensed ev.compensation held valueRefusal
+sensor-exact c w = record { code = rw w; held = twelfths; unset = λ e. rw (w, e) }
+  where
+    twelfths : (s : EvSetting) → c .ev ≡ E.Held s → Twelfths c s
+    twelfths s e =
+        let l = c .profile .ev in
+        let g = held-good c w 0 (S.Ev s) (rw e) .1 in
+        let v = valid-ev (c .profile) (formed-profile c w) (control-there (c .profile) true 0x03 (g .control)) in
+        let a = accepts l (s .flags) (s .value) (g .value) in
+        let place = a .0 in
+        let n : sensed c .value ≡ ev.scaledOf l s = rw (w, e) in
+        let x = n ∙ scaled-is l s v place (a .1 .0) (a .1 .1) in
+        record {
+          place = place;
+          offered = a .1 .0;
+          flag = λ h. chosen-is 5 (l .steps) (s .flags) place (steps-below l v) h (a .1 .0);
+          value = x;
+          whole = twelfths-whole place;
+          exact = ap (λ z. z *ℤ pos (ev.divisor place)) x ∙ twelfths-exact place (s .value);
+        }
 
 -- GET_CUR is DEF while no setting is held of the selector's control.
 module _ (c : Camera) (l : length (c .face) ≡ 15) where
@@ -113,6 +143,36 @@ fresh-current p streaming selector = go (eqb selector 0x03) (eqb selector 0x06) 
     go false false false true e f g i = rw (e, f, g, i) (known 0x0D selectors.hdr)
     go false false false false e f g i = rw (e, f, g, i) (known 0x0E selectors.throttle)
 
+-- Where a setting is held, GET_CUR is that.
+pub current-is-held : (c : Camera) → wellFormed c ≡ true → CurrentIsHeld c
+current-is-held c w = record {
+  of-ev = ev-current c;
+  of-face = λ j flags h e. face-current c j h flags e;
+  of-unset-face = λ j h g e. face-default c j h w g e;
+  of-metadata = metadata-current c w;
+  of-hdr = hdr-current c;
+  of-throttle = throttle-current c;
+}
+
+-- Two cameras that are the same are one record, as a face place holds none exactly where it is 0; so they answer every later call alike.
+module _ (c d : Camera) (s : Same c d) (l : length (c .face) ≡ 15) (m : length (d .face) ≡ 15) where
+  pub same-camera : c ≡ d
+  unfolding held
+  same-camera =
+      let e = ev-same (c .ev) (d .ev) (s .settings 0) in
+      let f = face-places-same c d s l m in
+      let n = metadata-same (c .metadata) (d .metadata) (s .settings 16) in
+      let h = hdr-same (c .hdr) (d .hdr) (s .settings 17) in
+      let t = throttle-same (c .throttle) (d .throttle) (s .settings 18) in
+      λ i. record { profile = s .profile i; streaming = s .streaming i; ev = e i; face = f i; metadata = n i; hdr = h i; throttle = t i }
+
+  pub same-answers : (calls : List Call) → SameAnswers (run c calls) (run d calls)
+  same-answers calls = record {
+    outcomes = λ call. ap (λ x. outcome (run x calls) call) same-camera;
+    buffers = λ call. ap (λ x. left (run x calls) call) same-camera;
+    sensor = ap (λ x. sensed (run x calls)) same-camera;
+  }
+
 -- LEN's answer is the length that a SET takes, whatever its payload.
 pub length-answer : (c : Camera) (selector : ℕ) → Control selector → (selector ≡ 0x06 → ⊥) → (payload : List ℕ) → answerOf c selector 0x85 ≡ bytesOf 2 (takes (c .profile) selector payload)
 unfolding answerOf ev.evAnswer metadataAnswer hdrAnswer throttle.throttleAnswer answerBy
@@ -129,7 +189,7 @@ face-length c w h =
     let v = valid-face (c .profile) (formed-profile c w) h in
     record { answer = len-answer (c .profile .face) (c .face); longest = len-longest (c .profile .face) v; reached = len-taken (c .profile .face) v }
 
--- Reads back: a SET's verdict is 0 where 01's tests accept it with the record's profile and flag.
+-- A SET's verdict is 0 where 01's tests accept it with the record's profile and flag.
 pub set-verdict : (c : Camera) → wellFormed c ≡ true → (s payload : List ℕ) (room : ℕ) → isSetRequest s ≡ true
     → setAccepted (c .profile) (c .streaming) s payload ≡ eqb (requested c s payload room .code) 0
 set-verdict c w s payload room i = set-answer c s payload room w i
@@ -220,6 +280,17 @@ get-accepted c w s reply g h =
     outcome-code (requestCode c s [] (length reply)) c (requestDone c s []) z
     ∙ rw (w, eq-eqb (length s) 8 (g .eight), g .addresses, g .present, eq-eqb (valueLow s) 0 (g .low), i, g .get, room)
 
+-- GET_CUR of a control after any call is accepted, given room, and sends its full answer.
+get-after : (c : Camera) → Ok (c .profile) c → (call : Call) (g buffer : List ℕ) → Gets (c .profile) g → codeOf g ≡ 0x81 → (full : List ℕ)
+    → answerOf (next c call) (selectorOf g) 0x81 ≡ full → min (wLengthOf g) (length full) ≤ length buffer
+    → (outcome (next c call) (request g [] buffer) .code ≡ 0) × Sends (next c call) g [] buffer full
+get-after c o call g buffer x q full f h =
+    let d = next c call in
+    let t = step (c .profile) c o call .ok in
+    let e : asked d g ≡ full = ap (answerOf d (selectorOf g)) q ∙ f in
+    let z = get-accepted d (t .formed) g buffer (subst (λ p. Gets p g) (sym (t .profile)) x) (rw e h) in
+    (z, subst (λ l. Sends d g [] buffer l) e (get-sends d g [] buffer (get-no-set g (x .get)) z))
+
 -- Call by call: after an accepted SET, GET_CUR of its control is accepted, given room, and sends the bytes that were set.
 pub round-trip : (c : Camera) → Ok (c .profile) c → (s payload reply : List ℕ) → Bytes payload → isSetRequest s ≡ true → outcome c (request s payload reply) .code ≡ 0
     → (selectorOf s ≡ 0x06 → ⊥) → (g buffer : List ℕ) → Gets (c .profile) g → codeOf g ≡ 0x81 → selectorOf g ≡ selectorOf s
@@ -227,11 +298,21 @@ pub round-trip : (c : Camera) → Ok (c .profile) c → (s payload reply : List 
     → let d = next c (request s payload reply) in
     (outcome d (request g [] buffer) .code ≡ 0) × Sends d g [] buffer (bytesBack (c .profile) (selectorOf s) payload)
 round-trip c o s payload reply b i e m g buffer x q f h =
+    get-after c o (request s payload reply) g buffer x q (bytesBack (c .profile) (selectorOf s) payload)
+    (ap (λ (n : ℕ). answerOf (next c (request s payload reply)) n 0x81) f ∙ set-then-get c o s payload reply b i e .answer m) h
+
+-- Of face authentication it sends the list of every endpoint, in which the eight bytes of each entry that was set stand at its endpoint's place.
+pub face-round-trip : (c : Camera) → Ok (c .profile) c → (s payload reply : List ℕ) → Bytes payload → isSetRequest s ≡ true → outcome c (request s payload reply) .code ≡ 0
+    → selectorOf s ≡ 0x06 → (g buffer : List ℕ) → Gets (c .profile) g → codeOf g ≡ 0x81 → selectorOf g ≡ 0x06
+    → min (wLengthOf g) (1 + 8 * endpoints (c .profile .face)) ≤ length buffer
+    → let d = next c (request s payload reply) in
+    (outcome d (request g [] buffer) .code ≡ 0) × Sends d g [] buffer (answerOf d 0x06 0x81) × FaceReadsBack c d payload
+face-round-trip c o s payload reply b i e m g buffer x q f h =
     let d = next c (request s payload reply) in
-    let t = step (c .profile) c o (request s payload reply) .ok in
-    let full : asked d g ≡ bytesBack (c .profile) (selectorOf s) payload = ap₂ (answerOf d) f q ∙ set-then-get c o s payload reply b i e .answer m in
-    let z = get-accepted d (t .formed) g buffer (subst (λ p. Gets p g) (sym (t .profile)) x) (rw full h) in
-    (z, subst (λ l. Sends d g [] buffer l) full (get-sends d g [] buffer (get-no-set g (x .get)) z))
+    let n : length (answerOf d 0x06 0x81) ≡ 1 + 8 * endpoints (c .profile .face) =
+    current-length d ∙ ap (λ p. 1 + 8 * endpoints (p .face)) (step (c .profile) c o (request s payload reply) .ok .profile) in
+    let r = get-after c o (request s payload reply) g buffer x q (answerOf d 0x06 0x81) (ap (λ (n : ℕ). answerOf d n 0x81) f) (rw n h) in
+    (r .0, r .1, set-then-get c o s payload reply b i e .of-face m)
 
 pub snapshot-read-back : (c : Camera) → wellFormed c ≡ true → Typed c → SnapshotReadsBack c
 snapshot-read-back c w t =

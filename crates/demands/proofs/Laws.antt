@@ -1,3 +1,4 @@
+pub mod Current
 pub mod Held
 pub mod Kept
 pub mod Lists
@@ -5,4 +6,6 @@ pub mod Loads
 pub mod Longest
 pub mod ReadBack
 pub mod Records
+pub mod Same
+pub mod Sensor
 pub mod Steps

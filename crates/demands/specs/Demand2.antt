@@ -1,19 +1,28 @@
--- What the owner's demand 2 says of the camera: new settings, GET_CUR, LEN, and what is written reads back.
-use Prim.Native.Nat.{ℕ, _+_, _*_, _≤_, _<_, min}
+-- What the owner's demand 2 says of the camera: new settings, the sensor's number, GET_CUR, LEN, and what is written reads back.
+use Prim.Native.Nat.{ℕ, _+_, _-_, _*_, _/_, _^_, _≤_, _<_, min}
 use mathlib.Core.Path.{_≡_}
 use mathlib.Core.List.{List, [], _∷_, _++_}
-use mathlib.Core.Option.{Option·map}
+use mathlib.Core.Option.{none, some, Option·map}
 use mathlib.Core.Bool.{true, cond}
 use lib.Dec.{eqb}
+use lib.IntN.{pos, _*ℤ_}
 use lib.ListN.{length, getD, take, drop}
 use Rattle.wire.specs.Number.{bytesOf}
+use Rattle.wire.specs.Flags.{choiceOf}
+use Rattle.wire.specs.declared.flags.Choice.the-variants.{At}
 use Rattle.request.specs.Setup.{valueLow, selectorOf, wLengthOf, isGetRequest}
 use Rattle.request.specs.Tests.{addressed}
 use Rattle.snapshot.specs.Form as form
 use Rattle.snapshot.specs.Records.{decode}
 use Rattle.snapshot.specs.Merge.{over}
 use Rattle.snapshot.specs.Settings.{lastOf}
-use Rattle.face.specs.Face.{endpoints, addressAt, entryAddress, entryFlags, heldAt, flagsAt}
+use Rattle.controls.specs.declared.settings.EvSetting.{EvSetting}
+use Rattle.exposure.specs.declared.ev.Ev.the-variants as E
+use Rattle.controls.specs.declared.throttle.ThrottleSetting.{ThrottleSetting}
+use Rattle.controls.specs.declared.settings.Setting.the-variants as S
+use Rattle.exposure.specs.Ev.{divisor, evBytes}
+use Rattle.face.specs.Face.{endpoints, addressAt, entryAddress, entryFlags, entryOf, heldAt, flagsAt}
+use Rattle.controls.specs.Throttle.{throttleBytes}
 use Rattle.camera.specs.declared.profile.Profile.{Profile}
 use Rattle.camera.specs.declared.record.Camera.{Camera}
 use Rattle.camera.specs.Selectors.{Control}
@@ -22,7 +31,7 @@ use Rattle.camera.specs.Record.{held}
 use Rattle.camera.specs.Items.{settingOf}
 use Rattle.camera.specs.Requests.{answerOf}
 use Rattle.camera.specs.Snapshots.{loadItem, row, snapshot}
-use Rattle.camera.specs.Calls.{Call, request, outcome, left, next}
+use Rattle.camera.specs.Calls.{sensed, Call, request, outcome, left, next}
 use Rattle.demands.specs.Lists.{gives, leaves}
 use Rattle.demands.specs.Records.{Written}
 
@@ -34,6 +43,44 @@ pub record NewSettings (c : Camera) (call : Call) : Type 0 where
   pub profile : next c call .profile ≡ c .profile
   pub refused : (outcome c call .code ≡ 0 → ⊥) → gives (c .profile) (c .streaming) call ≡ []
 
+-- The sensor's number of the EV setting s that is held, in twelfths of a stop. The setting has one flag, which is offered and says the step:
+-- d = divisor place of them make a stop. The number is value · (12 / d), where d divides 12; so it is as many stops as the value, unrounded.
+pub record Twelfths (c : Camera) (s : EvSetting) : Type 0 where
+  pub place : ℕ
+  pub offered : choiceOf (c .profile .ev .steps) (s .flags) ≡ At place
+  pub flag : s .flags < 2 ^ 56 → (s .flags ≡ 2 ^ place) × (place < 5)
+  pub value : sensed c .value ≡ s .value *ℤ pos (12 / divisor place)
+  pub whole : divisor place * (12 / divisor place) ≡ 12
+  pub exact : sensed c .value *ℤ pos (divisor place) ≡ s .value *ℤ pos 12
+
+-- What the sensor is handed, exactly; 0 while no setting is held.
+pub record SensorExact (c : Camera) : Type 0 where
+  pub code : sensed c .code ≡ 0
+  pub held : (s : EvSetting) → c .ev ≡ E.Held s → Twelfths c s
+  pub unset : c .ev ≡ E.Unset → sensed c .value ≡ pos 0
+
+-- the eight bytes of entry i, in a payload as in an answer that lists every endpoint
+abbrev pub entryBytes : List ℕ → ℕ → List ℕ
+entryBytes s i = take 8 (drop (1 + 8 * i) s)
+
+-- CUR is the setting held, control by control: the full answer to GET_CUR is its bytes, behind a throttle's the profile's limits. Of face
+-- authentication an endpoint's entry has the setting held of its address, or is DEF's while there is none.
+pub record CurrentIsHeld (c : Camera) : Type 0 where
+  pub of-ev : (s : EvSetting) → held c 0 ≡ some (S.Ev s) → answerOf c 0x03 0x81 ≡ evBytes s
+  pub of-face : (j flags : ℕ) → j < endpoints (c .profile .face) → let address = addressAt (c .profile .face) j in
+      held c (address - 0x80) ≡ some (S.Face address flags) → entryBytes (answerOf c 0x06 0x81) j ≡ entryOf address flags
+  pub of-unset-face : (j : ℕ) → j < endpoints (c .profile .face) → has (c .profile) 0x06 ≡ true → held c (addressAt (c .profile .face) j - 0x80) ≡ none
+      → entryBytes (answerOf c 0x06 0x81) j ≡ entryBytes (answerOf c 0x06 0x87) j
+  pub of-metadata : (n : ℕ) → held c 16 ≡ some (S.Metadata n) → answerOf c 0x09 0x81 ≡ bytesOf 4 n
+  pub of-hdr : (n : ℕ) → held c 17 ≡ some (S.Hdr n) → answerOf c 0x0D 0x81 ≡ bytesOf 4 n
+  pub of-throttle : (s : ThrottleSetting) → held c 18 ≡ some (S.Throttle s) → answerOf c 0x0E 0x81 ≡ throttleBytes s (c .profile .throttle)
+
+-- Two cameras that answer alike: what each call answers and leaves of the record, the lent bytes, and the sensor's number.
+pub record SameAnswers (c d : Camera) : Type 0 where
+  pub outcomes : (call : Call) → outcome c call ≡ outcome d call
+  pub buffers : (call : Call) → left c call ≡ left d call
+  pub sensor : sensed c ≡ sensed d
+
 -- LEN of face authentication: the longest payload, which one that names every endpoint has.
 pub record FaceLength (c : Camera) : Type 0 where
   pub answer : answerOf c 0x06 0x85 ≡ bytesOf 2 (1 + 8 * endpoints (c .profile .face))
@@ -44,10 +91,6 @@ pub record FaceLength (c : Camera) : Type 0 where
 abbrev pub bytesBack : Profile → ℕ → List ℕ → List ℕ
 bytesBack p selector payload =
     cond (eqb selector 0x0E) (take 8 payload ++ bytesOf 4 (p .throttle .minimum) ++ bytesOf 4 (p .throttle .maximum) ++ bytesOf 4 (p .throttle .step)) payload
-
--- the eight bytes of entry i, in a payload as in an answer that lists every endpoint
-abbrev pub entryBytes : List ℕ → ℕ → List ℕ
-entryBytes s i = take 8 (drop (1 + 8 * i) s)
 
 -- What an accepted SET of face authentication makes of the record c: d.
 pub record FaceReadsBack (c d : Camera) (payload : List ℕ) : Type 0 where

@@ -44,17 +44,22 @@ pub good-kept : (p : Profile) (s : Setting) → Good p s → kept p (some s) ≡
 unfolding kept
 good-kept p s g = rw (eq-eqb (controlRefusal p true (selectorOf s)) 0 (g .control), eq-eqb (valueRefusal p s) 0 (g .value))
 
--- a control whose tests before the values hold is there
-pub control-there : (p : Profile) (streaming : Bool) (selector : ℕ) → controlRefusal p streaming selector ≡ 0 → has p selector ≡ true
-unfolding controlRefusal
-control-there p streaming selector e = go (has p selector) refl e
-  where
-    rest : ℕ
-    rest = cond (not (settable p selector)) 0x07 (cond (eqb selector 0x0E && not streaming) 0x02 0)
+-- a control whose tests before the values hold is there, and takes a SET
+module _ (p : Profile) (streaming : Bool) (selector : ℕ) (e : controlRefusal p streaming selector ≡ 0) where
+  there : (has p selector ≡ true) × (settable p selector ≡ true)
+  unfolding controlRefusal
+  there = go (has p selector) (settable p selector) e
+    where
+      go : (a b : Bool) → cond {A = ℕ} (not a) 0x06 (cond (not b) 0x07 (cond (eqb selector 0x0E && not streaming) 0x02 0)) ≡ 0 → (a ≡ true) × (b ≡ true)
+      go true true z = (refl, refl)
+      go true false z = absurd (omega arith)
+      go false b z = absurd (omega arith)
 
-    go : (b : Bool) → has p selector ≡ b → cond (not b) 0x06 rest ≡ 0 → has p selector ≡ true
-    go true q z = q
-    go false q z = absurd (omega arith)
+  pub control-there : has p selector ≡ true
+  control-there = there .0
+
+  pub control-settable : settable p selector ≡ true
+  control-settable = there .1
 
 -- the throttle apart, they hold at either flag
 pub control-streaming : (p : Profile) (streaming : Bool) (selector : ℕ) → controlRefusal p streaming selector ≡ 0 → controlRefusal p true selector ≡ 0

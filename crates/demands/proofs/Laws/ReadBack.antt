@@ -207,11 +207,22 @@ face-sized l (n ∷ rest) e = go (leb n (l .count)) e
     go true q = q
     go false q = absurd (omega arith)
 
--- the entry of an endpoint in the answer to GET_CUR
-pub current-entry : (c : Camera) (j : ℕ) → j < endpoints (c .profile .face)
-    → entryBytes (answerOf c 0x06 0x81) j ≡ entryOf (addressAt (c .profile .face) j) (flagsAt (c .profile .face) (c .face) 0x81 j)
-unfolding answerOf faceAnswer answerBy faceValue
-current-entry c j h = let l = c .profile .face in answer-entry l (c .face) 0x81 (endpoints l) (endpoints l) j h
+-- the entry of an endpoint in the answers to GET_CUR and GET_DEF, and the length of the first
+module _ (c : Camera) where
+  abbrev limits : FaceLimits
+  limits = c .profile .face
+
+  pub current-entry : (j : ℕ) → j < endpoints limits → entryBytes (answerOf c 0x06 0x81) j ≡ entryOf (addressAt limits j) (flagsAt limits (c .face) 0x81 j)
+  unfolding answerOf faceAnswer answerBy faceValue
+  current-entry j h = answer-entry limits (c .face) 0x81 (endpoints limits) (endpoints limits) j h
+
+  pub default-entry : (j : ℕ) → j < endpoints limits → entryBytes (answerOf c 0x06 0x87) j ≡ entryOf (addressAt limits j) (flagsAt limits (c .face) 0x87 j)
+  unfolding answerOf faceAnswer answerBy faceValue
+  default-entry j h = answer-entry limits (c .face) 0x87 (endpoints limits) (endpoints limits) j h
+
+  pub current-length : length (answerOf c 0x06 0x81) ≡ 1 + 8 * endpoints limits
+  unfolding answerOf faceAnswer answerBy faceValue
+  current-length = omega (arith, length-entries limits (c .face) 0x81 (endpoints limits))
 
 -- its flags are the setting held
 module _ (l : FaceLimits) (held : List ℕ) (j : ℕ) where
@@ -219,12 +230,16 @@ module _ (l : FaceLimits) (held : List ℕ) (j : ℕ) where
   unfolding flagsAt
   current-held flags e h = rw (e, ne-eqb flags 0 (omega arith))
 
+  pub current-unset : heldAt held (addressAt l j) ≡ 0 → flagsAt l held 0x81 j ≡ flagsAt l held 0x87 j
+  unfolding flagsAt
+  current-unset e = rw e
+
   pub current-same : (before : List ℕ) → heldAt held (addressAt l j) ≡ heldAt before (addressAt l j) → flagsAt l held 0x81 j ≡ flagsAt l before 0x81 j
   unfolding flagsAt
   current-same before e = rw e
 
 -- where no setting is held of any endpoint, none is held of any address
-face-unset : (address flags : ℕ) → faceHeld address flags ≡ none → flags ≡ 0
+pub face-unset : (address flags : ℕ) → faceHeld address flags ≡ none → flags ≡ 0
 face-unset address flags e = go (eqb flags 0) refl e
   where
     go : (b : Bool) → eqb flags 0 ≡ b → cond b none (some (S.Face address flags)) ≡ none → flags ≡ 0

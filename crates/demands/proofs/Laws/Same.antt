@@ -1,0 +1,68 @@
+-- What is held of a control says how the record keeps it. Assumes nothing.
+use mathlib.Core.Path.{_≡_, refl, ap, sym, _∙_}
+use mathlib.Core.Option.{none, some}
+use mathlib.Core.Bool.{Bool, true, false, cond}
+use Prim.Native.Nat.{ℕ, _+_, _-_, _<_}
+use native.Mathlib.Omega.{arith}
+use lib.Dec.{eqb}
+use lib.ListN.{length, getD}
+use lib.Seq.{ext-getD}
+use borrow.Author.Tests.{eqb-true}
+use Rattle.controls.specs.declared.settings.Setting.{Setting}
+use Rattle.controls.specs.declared.settings.Setting.the-variants as S
+use Rattle.exposure.specs.declared.ev.Ev.{Ev}
+use Rattle.exposure.specs.declared.ev.Ev.the-variants as E
+use Rattle.controls.specs.declared.settings.Number.{Number}
+use Rattle.controls.specs.declared.settings.Number.the-variants as N
+use Rattle.controls.specs.declared.throttle.Throttle.{Throttle}
+use Rattle.controls.specs.declared.throttle.Throttle.the-variants as T
+use Rattle.camera.specs.declared.record.Camera.{Camera}
+use Rattle.camera.specs.Record.{evHeld, faceHeld, numberHeld, metadataHeld, hdrHeld, throttleHeld}
+use Rattle.demands.specs.Records.{Same}
+use Rattle.demands.proofs.Laws.Held.{none-never, held-face}
+
+pub ev-same : (a b : Ev) → evHeld a ≡ evHeld b → a ≡ b
+ev-same E.Unset E.Unset e = refl
+ev-same E.Unset (E.Held t) e = absurd (none-never (S.Ev t) e)
+ev-same (E.Held s) E.Unset e = absurd (none-never (S.Ev s) (sym e))
+ev-same (E.Held s) (E.Held t) e = cc
+
+number-same : (control : ℕ → Setting) → ((m n : ℕ) → control m ≡ control n → m ≡ n) → (a b : Number) → numberHeld control a ≡ numberHeld control b → a ≡ b
+number-same control f N.Unset N.Unset e = refl
+number-same control f N.Unset (N.Held n) e = absurd (none-never (control n) e)
+number-same control f (N.Held m) N.Unset e = absurd (none-never (control m) (sym e))
+number-same control f (N.Held m) (N.Held n) e = ap N.Held (f m n (cc))
+
+pub metadata-same : (a b : Number) → metadataHeld a ≡ metadataHeld b → a ≡ b
+metadata-same = number-same S.Metadata (λ m n e. cc)
+
+pub hdr-same : (a b : Number) → hdrHeld a ≡ hdrHeld b → a ≡ b
+hdr-same = number-same S.Hdr (λ m n e. cc)
+
+pub throttle-same : (a b : Throttle) → throttleHeld a ≡ throttleHeld b → a ≡ b
+throttle-same T.Unset T.Unset e = refl
+throttle-same T.Unset (T.Held t) e = absurd (none-never (S.Throttle t) e)
+throttle-same (T.Held s) T.Unset e = absurd (none-never (S.Throttle s) (sym e))
+throttle-same (T.Held s) (T.Held t) e = cc
+
+-- of a face place none is held exactly where it is 0
+pub face-same : (address m n : ℕ) → faceHeld address m ≡ faceHeld address n → m ≡ n
+face-same address m n e = go (eqb m 0) (eqb n 0) refl refl e
+  where
+    go : (a b : Bool) → eqb m 0 ≡ a → eqb n 0 ≡ b → cond a none (some (S.Face address m)) ≡ cond b none (some (S.Face address n)) → m ≡ n
+    go true true p q z = eqb-true m 0 p ∙ sym (eqb-true n 0 q)
+    go true false p q z = absurd (none-never (S.Face address n) z)
+    go false true p q z = absurd (none-never (S.Face address m) (sym z))
+    go false false p q z = cc
+
+module _ (c d : Camera) (s : Same c d) where
+  place-same : (i : ℕ) → i < 15 → getD (c .face) i 0 ≡ getD (d .face) i 0
+  place-same i h =
+      let k = 1 + i in
+      let e : k - 1 ≡ i = omega arith in
+      let f : getD (c .face) (k - 1) 0 ≡ getD (d .face) (k - 1) 0 =
+      face-same (0x80 + k) _ _ (sym (held-face c k (omega arith) (omega arith)) ∙ s .settings k ∙ held-face d k (omega arith) (omega arith)) in
+      rw e at f
+
+  pub face-places-same : length (c .face) ≡ 15 → length (d .face) ≡ 15 → c .face ≡ d .face
+  face-places-same l m = ext-getD 0 (c .face) (d .face) (l ∙ sym m) (λ i h. place-same i (omega arith))
