@@ -2,10 +2,10 @@
 // D0 and D1, HDR without Auto, throttle from 5 to 100 in steps of 5; no metadata control.
 use camera::Camera;
 use camera::Profile;
-use exposure::EvLimits;
-use face::FaceLimits;
 use controls::metadata::MetadataLimits;
 use controls::throttle::ThrottleLimits;
+use exposure::EvLimits;
+use face::FaceLimits;
 ghost use mathlib.Core.Path.{_≡_};
 ghost use Rattle.demands.specs.Bench.{benchProfile, bench};
 

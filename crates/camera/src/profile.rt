@@ -1,8 +1,8 @@
 // A camera's profile: who it is, which controls it has, and their limits.
-use exposure::EvLimits;
-use face::FaceLimits;
 use controls::metadata::MetadataLimits;
 use controls::throttle::ThrottleLimits;
+use exposure::EvLimits;
+use face::FaceLimits;
 use request::Unit;
 ghost use mathlib.Core.Path.{_≡_};
 ghost use Prim.Native.Nat.{_≤_};

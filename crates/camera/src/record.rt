@@ -2,8 +2,8 @@
 // last accepted setting or none.
 use crate::profile::Profile;
 use controls::Number;
-use exposure::Ev;
 use controls::throttle::Throttle;
+use exposure::Ev;
 ghost use mathlib.Core.Path.{_≡_};
 ghost use Rattle.camera.specs.Record.{fresh};
 

@@ -1,9 +1,9 @@
 // Exposure compensation (EV): seven bytes of flags, of which one says the step, then a signed 32-bit value in such steps.
 use controls::Answer;
 use controls::EvSetting;
-use controls::answer_by;
 use controls::Item;
 use controls::Setting;
+use controls::answer_by;
 use wire::Choice;
 use wire::uvc::GET_CUR;
 use wire::uvc::GET_MAX;

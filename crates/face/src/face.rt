@@ -1,9 +1,9 @@
 // Face authentication: a count n, then n entries of an endpoint's address and seven bytes of flags.
 use controls::Answer;
-use controls::LONGEST;
-use controls::answer_by;
 use controls::Item;
+use controls::LONGEST;
 use controls::Setting;
+use controls::answer_by;
 use wire::Choice;
 use wire::uvc::GET_CUR;
 use wire::uvc::GET_MAX;

@@ -1,0 +1,100 @@
+// Calls on blocks of frame metadata and on payload headers.
+use crate::buffers::first;
+use crate::print;
+use crate::words::called;
+use crate::words::decode;
+use crate::words::number;
+use crate::words::place;
+use crate::words::word;
+use frame::Part;
+
+fn part(p: Part) {
+    print::count(p.at);
+    print::count(p.len);
+}
+
+fn tally(block: &[u8]) {
+    let c = frame::count(block);
+    print::code(c.code);
+    print::count(c.items);
+}
+
+// An item without its payload: number, id, the payload's place and length.
+fn entry(block: &[u8], k: usize) {
+    let f = frame::item(block, k);
+    print::code(f.code);
+    print::hex(f.id as u64, 8);
+    let p = f.payload;
+    part(p);
+}
+
+fn count(call: &[u8]) {
+    let mut bytes = [0u8; 256];
+    let n = decode(word(call, 1), &mut bytes);
+    tally(wire::head(&bytes, n));
+}
+
+// An item with its payload.
+fn item(call: &[u8]) {
+    let mut bytes = [0u8; 256];
+    let n = decode(word(call, 2), &mut bytes);
+    let block = wire::head(&bytes, n);
+    let k = place(word(call, 1));
+    entry(block, k);
+    print::part(frame::payload(block, k));
+}
+
+// A block that is too long to show: its first item, and how many it has.
+fn long_block(call: &[u8]) {
+    let mut bytes = [0u8; 65536];
+    decode(word(call, 2), &mut bytes);
+    let block = wire::head(&bytes, place(word(call, 1)));
+    entry(block, 0);
+    tally(block);
+}
+
+// The number, the end, and the buffer's bytes from a place on.
+fn append(call: &[u8]) {
+    let mut bytes = [0u8; 256];
+    let n = decode(word(call, 4), &mut bytes);
+    let payload = wire::head(&bytes, n);
+    let mut room = [0xEEu8; 65536];
+    let buf = first(&mut room, place(word(call, 1)));
+    let a = frame::append(buf, place(word(call, 2)), number(word(call, 3), 0), payload);
+    print::code(a.code);
+    print::count(a.end);
+    print::bytes(wire::tail(buf, place(word(call, 5))));
+}
+
+// Number, flags, the metadata's place and length, and the metadata.
+fn header(call: &[u8]) {
+    let mut bytes = [0u8; 256];
+    let n = decode(word(call, 1), &mut bytes);
+    let packet = wire::head(&bytes, n);
+    let h = frame::header(packet);
+    print::code(h.code);
+    print::hex(h.flags as u64, 2);
+    let p = h.metadata;
+    part(p);
+    print::part(frame::metadata(packet));
+}
+
+// count BLOCK, item K BLOCK, long-block LENGTH BLOCK (zeros behind it up to the length), append ROOM PLACE ID PAYLOAD [FROM] (shown
+// from there on), header PACKET.
+pub(crate) fn run(call: &[u8]) {
+    if called(call, b"count") {
+        count(call);
+    }
+    if called(call, b"item") {
+        item(call);
+    }
+    if called(call, b"long-block") {
+        long_block(call);
+    }
+    if called(call, b"append") {
+        append(call);
+    }
+    if called(call, b"header") {
+        header(call);
+    }
+}
