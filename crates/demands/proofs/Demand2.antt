@@ -60,7 +60,7 @@ use Rattle.camera.specs.Selectors.{Control}
 use Rattle.camera.proofs.Laws.Selectors.{control-known}
 use Rattle.camera.specs.Selectors as selectors
 use Rattle.demands.proofs.Laws.Steps.{step, outcome-code, set-answer, load-answer, refused-none, request-next, accepted-control, accepted-length, accepted-values, set-control}
-use Rattle.demands.proofs.Demand3.{writes, snapshot-decodes, snapshot-formed, written-item, good-at}
+use Rattle.demands.proofs.Demand3.{writes, snapshot-decodes, snapshot-formed, written-item}
 
 -- new settings, of any call
 pub new-settings : (c : Camera) → Ok (c .profile) c → (call : Call) → NewSettings c call
@@ -316,10 +316,9 @@ face-round-trip c o s payload reply b i e m g buffer x q f h =
 
 pub snapshot-read-back : (c : Camera) → wellFormed c ≡ true → Typed c → SnapshotReadsBack c
 snapshot-read-back c w t =
-    let g : records.Good (λ k. Option·map (row k) (held c k)) = λ k. good-at c w t k (held c k) refl in
-    let d = snapshot-decodes c g in
+    let d = snapshot-decodes c w in
     record {
-      formed = snapshot-formed c g;
+      formed = snapshot-formed c w;
       records = λ k. ap (λ m. m k) d;
       settings = λ k. ap (λ m. settingOf (itemFor (c .profile) true k (m k))) d ∙ written-item c w t k (held c k) refl;
       written = λ out h. writes c out w h;

@@ -1,49 +1,75 @@
 -- The owner's demand 3. Assumes nothing.
-use mathlib.Core.Path.{_≡_, refl, ap, ap₂, sym, _∙_, subst, fun-ext}
+use mathlib.Core.Path.{_≡_, refl, ap, ap₂, sym, _∙_, subst}
 use mathlib.Core.List.{List, [], _∷_, _++_}
 use mathlib.Core.Option.{Option, none, some, Option·map}
-use mathlib.Core.Bool.{Bool, true, false, cond, not, true≢false}
+use mathlib.Core.Bool.{Bool, true, false, cond}
 use Prim.Native.Nat.{ℕ, _≤_}
 use native.Mathlib.Omega.{arith}
-use lib.Dec.{eqb, ltb}
+use lib.Dec.{eqb}
 use lib.ListN.{length, drop}
 use borrow.Author.Tests.{eq-eqb, eqb-true, eqb-false, le-ltb}
 use Rattle.wire.specs.Rows.{firstOf}
 use Rattle.snapshot.specs.Form as form
-use Rattle.snapshot.specs.Records.{decode, encode, GoodAt}
-use Rattle.snapshot.specs.Records as records
+use Rattle.snapshot.specs.Records.{decode}
 use Rattle.snapshot.specs.Merge.{over, merged}
 use Rattle.snapshot.specs.Settings.{lastOf, snapshotOf, Rows}
 use Rattle.snapshot.proofs.Laws.Maps.{decode-encode}
 use Rattle.snapshot.proofs.Laws.Form.{encode-formed}
 use Rattle.snapshot.proofs.Laws.Merging.{over-assoc, over-none}
-use Rattle.snapshot.proofs.Laws.Settings.{last-append, rows-append, snapshot-append}
-use Rattle.controls.specs.declared.settings.Item.the-variants.{Absent, Given}
+use Rattle.snapshot.proofs.Laws.Answers.{Answer}
+use Rattle.snapshot.proofs.Laws.Answers as answers
+use Rattle.snapshot.proofs.Laws.Settings.{rows-append, snapshot-append}
 use Rattle.controls.specs.declared.settings.Setting.{Setting}
 use Rattle.camera.specs.declared.profile.Profile.{Profile}
 use Rattle.camera.specs.declared.record.Camera.{Camera}
 use Rattle.camera.specs.declared.calls.Outcome.{Outcome}
 use Rattle.camera.specs.Profile.{profileValid}
-use Rattle.camera.specs.Record.{fresh, keyOf, held, kept, wellFormed}
+use Rattle.camera.specs.Record.{fresh, held, wellFormed}
 use Rattle.camera.specs.Items.{settingOf, codeOf, puts}
-use Rattle.camera.specs.Requests.{refused, outcomeBy}
-use Rattle.camera.specs.Snapshots.{loadTests, loadCode, loadGives, loaded, itemFor, loadItem, row, snapshot, writeCode, written, writtenOut}
+use Rattle.camera.specs.Requests.{refused}
+use Rattle.camera.specs.Snapshots.{loadTests, loadCode, loadGives, loaded, itemFor, row, snapshot, writeCode, written, writtenOut}
 use Rattle.camera.specs.Calls.{Call, load}
-use Rattle.demands.specs.Lists.{gives, leaves, flagAfter, given, settings, sheet, run}
-use Rattle.demands.specs.Records.{Ok, Fitting, Typed, Same, Written}
-use Rattle.demands.specs.Demand3.{Whole, Merges, Restores}
+use Rattle.demands.specs.Lists.{gives, leaves, flagAfter, given, sheet, run}
+use Rattle.demands.specs.Records.{Ok, Typed, Written}
+use Rattle.demands.specs.Demand3.{MergesTo, Whole, Merges, Restores}
 use Rattle.demands.proofs.Laws.Held.{fresh-held}
 use Rattle.camera.proofs.Laws.Record.{formed-profile}
-use Rattle.demands.proofs.Laws.Kept.{Good, formed-kept, held-good}
+use Rattle.demands.proofs.Laws.Kept.{held-good}
+use Rattle.demands.proofs.Laws.Fits.{held-fitting}
 use Rattle.demands.proofs.Laws.Steps.{step, gives-good}
 use Rattle.demands.proofs.Laws.Lists.{given-append, run-ok, fresh-ok, held-after, flag-after}
-use Rattle.demands.proofs.Laws.Records.{rows, row-record, row-taken}
+use Rattle.demands.proofs.Laws.Records.{rows, held-rows, row-taken}
 use Rattle.demands.proofs.Laws.Loads.{Accepted, load-settings, load-accepted, accepted-load, merged-accepted, merged-settings}
 
 -- writing, where there is room
 pub writes : (c : Camera) (out : List ℕ) → wellFormed c ≡ true → length (snapshot c) ≤ length out → Written c (snapshot c) out
 unfolding written writtenOut writeCode
 writes c out w h = record { outcome = rw (w, le-ltb (length out) (length (snapshot c)) h); buffer = rw (w, le-ltb (length out) (length (snapshot c)) h) }
+
+-- a camera's snapshot decodes to its settings' records
+module _ (c : Camera) (w : wellFormed c ≡ true) where
+  pub snapshot-decodes : decode (snapshot c) ≡ (λ k. Option·map (row k) (held c k))
+  unfolding snapshot
+  snapshot-decodes = decode-encode _ (held-rows c w)
+
+  pub snapshot-formed : form.wellFormed (snapshot c) ≡ true
+  unfolding snapshot
+  snapshot-formed = encode-formed _ (held-rows c w)
+
+-- the program's merge of two cameras' snapshots
+merges-to : (c d : Camera) (s : List ℕ) → wellFormed c ≡ true → wellFormed d ≡ true → s ≡ merged (snapshot c) (snapshot d) → MergesTo (snapshot c) (snapshot d) s
+merges-to c d s w v e =
+    let a = snapshot-formed c w in
+    let b = snapshot-formed d v in
+    let t : (out : List ℕ) → length s ≤ length out → Answer (snapshot c) (snapshot d) out 0 (length s) (s ++ drop (length s) out) =
+    λ out h. rw e (answers.accepted (snapshot c) (snapshot d) out a b (rw e at h)) in
+    record {
+      first-formed = a;
+      second-formed = b;
+      code = λ out h. sym (t out h .0);
+      count = λ out h. sym (t out h .1 .0);
+      buffer = λ out h. sym (t out h .1 .1);
+    }
 
 module _ (p : Profile) (v : profileValid p ≡ true) where
   given-rows : (f : Bool) (cs : List Call) → Rows row (given p f cs)
@@ -64,16 +90,21 @@ module _ (p : Profile) (v : profileValid p ≡ true) where
   pub whole : (f : Bool) (xs ys : List Call) → Whole p f xs ys
   whole f xs ys =
       let s = snapshot-after f (xs ++ ys) in
-      let w = run-ok p (fresh p f) (fresh-ok p v f) (xs ++ ys) .formed in
+      let formed : (g : Bool) (cs : List Call) → wellFormed (run (fresh p g) cs) ≡ true = λ g cs. run-ok p (fresh p g) (fresh-ok p v g) cs .formed in
+      let w = formed f (xs ++ ys) in
+      let first = run (fresh p f) xs in
+      let second = run (fresh p (first .streaming)) ys in
+      let m : snapshot (run (fresh p f) (xs ++ ys)) ≡ merged (snapshot first) (snapshot second) =
+      s ∙ cut f xs ys
+      ∙ sym (ap₂ merged (snapshot-after f xs) (ap (λ g. snapshot (run (fresh p g) ys)) (flag-after p v f xs) ∙ snapshot-after (flagAfter f xs) ys)) in
       record {
         is-held = held-after p v f (xs ++ ys);
         is-streaming = flag-after p v f (xs ++ ys);
         is-formed = w;
         is-sheet = s;
         is-written = λ out h. subst (λ l. Written (run (fresh p f) (xs ++ ys)) l out) s (writes (run (fresh p f) (xs ++ ys)) out w (rw s h));
-        is-merged =
-            s ∙ cut f xs ys
-            ∙ sym (ap₂ merged (snapshot-after f xs) (ap (λ g. snapshot (run (fresh p g) ys)) (flag-after p v f xs) ∙ snapshot-after (flagAfter f xs) ys));
+        is-merged = m;
+        is-merge = merges-to first second _ (formed f xs) (formed (first .streaming) ys) m;
       }
 
 -- what an accepted load says of the camera and of the snapshot
@@ -145,31 +176,17 @@ load-merged c h a b ea eb =
       };
     }
 
--- a camera's snapshot decodes to its settings' records
-module _ (c : Camera) (g : records.Good (λ k. Option·map (row k) (held c k))) where
-  pub snapshot-decodes : decode (snapshot c) ≡ (λ k. Option·map (row k) (held c k))
-  unfolding snapshot
-  snapshot-decodes = decode-encode (λ k. Option·map (row k) (held c k)) g
-
-  pub snapshot-formed : form.wellFormed (snapshot c) ≡ true
-  unfolding snapshot
-  snapshot-formed = encode-formed (λ k. Option·map (row k) (held c k)) g
-
 -- the record of what a well-formed camera holds of a key
 module _ (c : Camera) (w : wellFormed c ≡ true) (t : Typed c) where
   pub written-item : (k : ℕ) (o : Option Setting) → held c k ≡ o → settingOf (itemFor (c .profile) true k (Option·map (row k) o)) ≡ o
   unfolding itemFor
   written-item k none e = refl
-  written-item k (some s) e = let g = held-good c w k s e in ap settingOf (row-taken (c .profile) k s (t .fitting k s e) (g .0) (g .1))
+  written-item k (some s) e = let g = held-good c w k s e in ap settingOf (row-taken (c .profile) k s (held-fitting c w t k s e) (g .0) (g .1))
 
   written-code : (k : ℕ) (o : Option Setting) → held c k ≡ o → codeOf (itemFor (c .profile) true k (Option·map (row k) o)) ≡ 0
   unfolding itemFor codeOf
   written-code k none e = refl
-  written-code k (some s) e = let g = held-good c w k s e in ap codeOf (row-taken (c .profile) k s (t .fitting k s e) (g .0) (g .1))
-
-  pub good-at : (k : ℕ) (o : Option Setting) → held c k ≡ o → GoodAt k (Option·map (row k) o)
-  good-at k none e = tt
-  good-at k (some s) e = let g = held-good c w k s e in row-record k s (g .0) (g .1 .proper)
+  written-code k (some s) e = let g = held-good c w k s e in ap codeOf (row-taken (c .profile) k s (held-fitting c w t k s e) (g .0) (g .1))
 
 -- a fresh streaming camera accepts every snapshot that a camera of its profile wrote, and then holds the settings that camera held
 pub load-written : (c : Camera) → wellFormed c ≡ true → Typed c → Restores c
@@ -177,9 +194,8 @@ unfolding fresh
 load-written c w t =
     let p = c .profile in
     let m : ℕ → Option (List ℕ) = λ k. Option·map (row k) (held c k) in
-    let g : records.Good m = λ k. good-at c w t k (held c k) refl in
-    let d : decode (snapshot c) ≡ m = snapshot-decodes c g in
-    let x : Accepted p true (snapshot c) = record { formed = snapshot-formed c g; each = λ k. rw d (written-code c w t k (held c k) refl) } in
+    let d : decode (snapshot c) ≡ m = snapshot-decodes c w in
+    let x : Accepted p true (snapshot c) = record { formed = snapshot-formed c w; each = λ k. rw d (written-code c w t k (held c k) refl) } in
     let o = fresh-ok p (formed-profile c w) true in
     let l : Load (fresh p true) (snapshot c) = record { formed = o .formed; tests = accepted-load p true (snapshot c) x } in
     record {

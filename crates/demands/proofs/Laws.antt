@@ -1,4 +1,5 @@
 pub mod Current
+pub mod Fits
 pub mod Held
 pub mod Kept
 pub mod Lists
@@ -8,4 +9,5 @@ pub mod ReadBack
 pub mod Records
 pub mod Same
 pub mod Sensor
+pub mod Sets
 pub mod Steps

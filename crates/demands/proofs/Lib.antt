@@ -3,4 +3,5 @@ pub mod Laws
 pub mod Demand1
 pub mod Demand2
 pub mod Demand3
+pub mod Loading
 pub mod Table

@@ -3,8 +3,9 @@ use Prim.Native.Nat.{ℕ, _≤_}
 use mathlib.Core.Path.{_≡_}
 use mathlib.Core.List.{List, _++_}
 use mathlib.Core.Bool.{Bool, true}
-use lib.ListN.{length}
-use Rattle.snapshot.specs.Merge.{merged}
+use lib.ListN.{length, drop}
+use Rattle.snapshot.specs.Form as form
+use Rattle.snapshot.specs.Merge.{merged, mergeCode, mergeLen, mergeOut}
 use Rattle.camera.specs.declared.profile.Profile.{Profile}
 use Rattle.camera.specs.declared.record.Camera.{Camera}
 use Rattle.camera.specs.Record.{fresh, held, wellFormed}
@@ -12,6 +13,15 @@ use Rattle.camera.specs.Snapshots.{loaded, snapshot}
 use Rattle.camera.specs.Calls.{Call}
 use Rattle.demands.specs.Lists.{flagAfter, settings, sheet, run}
 use Rattle.demands.specs.Records.{Written, Same}
+
+-- The program's merge of the snapshots a and b is s: both are well formed, and with room for s it is accepted, reports the length of s, and
+-- leaves s at the buffer's start and every byte behind it as it was.
+pub record MergesTo (a b s : List ℕ) : Type 0 where
+  pub first-formed : form.wellFormed a ≡ true
+  pub second-formed : form.wellFormed b ≡ true
+  pub code : (out : List ℕ) → length s ≤ length out → mergeCode a b out ≡ 0
+  pub count : (out : List ℕ) → length s ≤ length out → mergeLen a b out ≡ length s
+  pub buffer : (out : List ℕ) → length s ≤ length out → mergeOut a b out ≡ s ++ drop (length s) out
 
 -- Demand 3 on every list, cut in two anywhere: what it leaves of a fresh camera of the profile p, streaming or not.
 pub record Whole (p : Profile) (streaming : Bool) (xs ys : List Call) : Type 0 where
@@ -28,6 +38,11 @@ pub record Whole (p : Profile) (streaming : Bool) (xs ys : List Call) : Type 0 w
       let first = run (fresh p streaming) xs in
       let second = run (fresh p (first .streaming)) ys in
       snapshot (run (fresh p streaming) (xs ++ ys)) ≡ merged (snapshot first) (snapshot second)
+  -- which is what the program's merge gives
+  pub is-merge :
+      let first = run (fresh p streaming) xs in
+      let second = run (fresh p (first .streaming)) ys in
+      MergesTo (snapshot first) (snapshot second) (snapshot (run (fresh p streaming) (xs ++ ys)))
 
 -- Demand 3 on two snapshots that a camera accepts: it accepts their merge, which leaves the same camera as the two in turn.
 pub record Merges (c : Camera) (a b : List ℕ) : Type 0 where

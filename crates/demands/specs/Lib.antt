@@ -4,5 +4,6 @@ pub mod Records
 pub mod Demand1
 pub mod Demand2
 pub mod Demand3
+pub mod Loading
 pub mod Bench
 pub mod Table

@@ -5,8 +5,6 @@ use mathlib.Core.List.{List, _++_}
 use mathlib.Core.Option.{some}
 use mathlib.Core.Bool.{true}
 use lib.ListN.{length, drop}
-use mir.Syntax.{w32}
-use mir.Val.{SFits}
 use Rattle.controls.specs.declared.settings.Setting.{Setting}
 use Rattle.controls.specs.declared.settings.Setting.the-variants as S
 use Rattle.camera.specs.declared.profile.Profile.{Profile}
@@ -20,18 +18,19 @@ pub record Ok (p : Profile) (c : Camera) : Type 0 where
   pub formed : wellFormed c ≡ true
   pub places : length (c .face) ≡ 15
 
--- The numbers of a setting fit the types that the record keeps them in, as those of every record do that a program holds.
-abbrev pub Fitting : Setting → Type 0
-Fitting (S.Ev s) = (s .flags < 2 ^ 8) × SFits w32 (s .value)
-Fitting (S.Face address flags) = flags < 2 ^ 8
-Fitting (S.Metadata n) = n < 2 ^ 32
-Fitting (S.Hdr n) = n < 2 ^ 32
-Fitting (S.Throttle s) = (s .mode < 2 ^ 32) × (s .percent < 2 ^ 32)
+-- the flags of a setting, 0 where it has none
+abbrev pub flagsOf : Setting → ℕ
+flagsOf (S.Ev s) = s .flags
+flagsOf (S.Face address flags) = flags
+flagsOf (S.Metadata n) = 0
+flagsOf (S.Hdr n) = 0
+flagsOf (S.Throttle s) = 0
 
--- a record as a program holds one: an array of 15 face settings, and numbers that fit
+-- What the types of a record say of one that a program holds, as far as its being well formed does not: flags are of a byte, and the
+-- profile's metadata maximum is of four.
 pub record Typed (c : Camera) : Type 0 where
-  pub places : length (c .face) ≡ 15
-  pub fitting : (k : ℕ) (s : Setting) → held c k ≡ some s → Fitting s
+  pub flags : (k : ℕ) (s : Setting) → held c k ≡ some s → flagsOf s < 2 ^ 8
+  pub maximum : c .profile .metadata .maximum < 2 ^ 32
 
 -- writing the snapshot s of a camera into `out`, which has room for it
 pub record Written (c : Camera) (s out : List ℕ) : Type 0 where

@@ -1,27 +1,19 @@
 -- A valid profile has no control but the five. Assumes nothing.
-use mathlib.Core.Path.{_≡_, refl, ap, sym, _∙_, subst}
+use mathlib.Core.Path.{_≡_, refl, sym, _∙_, subst}
 use mathlib.Core.Bool.{Bool, true, false, cond, not, _&&_, _||_, true≢false, and-eq-true-iff}
 use Prim.Native.Nat.{ℕ, zero, suc, _+_, _-_, _^_, _≤_, _<_}
 use native.Mathlib.Omega.{arith}
 use lib.Dec.{eqb, leb, ltb}
-use borrow.Author.Tests.{eqb-true, eqb-false, leb-true, leb-false, ltb-true}
+use borrow.Author.Tests.{eqb-true, leb-true, leb-false, ltb-true}
 use Rattle.wire.specs.Flags.{isSet}
 use Rattle.wire.proofs.Laws.Bits.{high-clear}
 use Rattle.request.specs.Table.{hasControl}
 use Rattle.face.specs.Face.{allBelow}
+use Rattle.face.proofs.Laws.Face.{all-at}
 use Rattle.camera.specs.Selectors.{Control, ev, face, metadata, hdr, throttle}
 use Rattle.camera.specs.Profile.{presenceValid}
 
--- what holds of each number below n
-pub all-below : (n : ℕ) (f : ℕ → Bool) → allBelow n f ≡ true → (k : ℕ) → k < n → f k ≡ true
-unfolding allBelow
-all-below zero f e k h = absurd (omega arith)
-all-below (suc n) f e k h = let p = simp and-eq-true-iff at e in go (eqb k n) refl (p .1) (λ l. all-below n f (p .0) k l)
-  where
-    go : (b : Bool) → eqb k n ≡ b → f n ≡ true → (k < n → f k ≡ true) → f k ≡ true
-    go true q s ih = ap f (eqb-true k n q) ∙ s
-    go false q s ih = ih (let m = eqb-false k n q in omega arith)
-
+-- what holds of each number below n holds of all
 pub below-all : (n : ℕ) (f : ℕ → Bool) → ((k : ℕ) → k < n → f k ≡ true) → allBelow n f ≡ true
 unfolding allBelow
 below-all zero f h = refl
@@ -65,7 +57,7 @@ bit-known n k o h = let p = simp and-eq-true-iff at o in go (leb 14 k) refl (p .
 
     go : (b : Bool) → leb 14 k ≡ b → ltb n (2 ^ 14) ≡ true → allBelow 14 (λ k. not (isSet n k) || known k) ≡ true → known k ≡ true
     go true e small each = absurd (true≢false (sym h ∙ high-clear 14 n k (ltb-true n (2 ^ 14) small) (leb-true 14 k e)))
-    go false e small each = or-known (isSet n k) (known k) h (all-below 14 _ each k (leb-false 14 k e))
+    go false e small each = or-known (isSet n k) (known k) h (all-at 14 _ each k (leb-false 14 k e))
 
 control-at : (k : ℕ) → known k ≡ true → Control (suc k)
 control-at k h = go (eqb k 2) (eqb k 5) (eqb k 8) (eqb k 12) (eqb k 13) refl refl refl refl refl h

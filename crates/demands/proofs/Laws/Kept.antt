@@ -2,8 +2,8 @@
 use mathlib.Core.Path.{_≡_, refl, ap, sym, _∙_, subst}
 use mathlib.Core.List.{List, [], _∷_, _++_}
 use mathlib.Core.Option.{Option, none, some}
-use mathlib.Core.Bool.{Bool, true, false, cond, not, _&&_, _||_, true≢false, and-eq-true-iff}
-use Prim.Native.Nat.{ℕ, zero, suc, _≤_, _<_}
+use mathlib.Core.Bool.{Bool, true, false, cond, not, _&&_, true≢false, and-eq-true-iff}
+use Prim.Native.Nat.{ℕ, zero, suc, _<_}
 use native.Mathlib.Omega.{arith}
 use lib.Dec.{eqb, leb}
 use lib.ListN.{length}
@@ -17,21 +17,21 @@ use Rattle.controls.specs.declared.settings.Item.the-variants.{Absent, Refused,
 use Rattle.controls.specs.declared.settings.Setting.{Setting}
 use Rattle.controls.specs.declared.settings.Setting.the-variants as S
 use Rattle.controls.specs.Settings.{itemOf}
-use Rattle.exposure.specs.Ev.{evItem, evFlags, evValue, evRefusal}
+use Rattle.exposure.specs.Ev.{evItem, evFlags, evValue}
 use Rattle.face.specs.Face.{allBelow, faceValid, entryAddress, entryFlags, seenBefore, offersOf, isChoice, entryRefusal, faceItem}
 use Rattle.controls.specs.Metadata.{metadataItem}
 use Rattle.controls.specs.Hdr.{hdrItem}
 use Rattle.controls.specs.Throttle.{throttleItem}
 use Rattle.controls.proofs.Laws.Settings.{given-is}
-use Rattle.face.proofs.Laws.Face.{listed}
+use Rattle.face.proofs.Laws.Face.{all-at, listed}
 use Rattle.camera.specs.declared.profile.Profile.{Profile}
 use Rattle.camera.specs.declared.record.Camera.{Camera}
-use Rattle.camera.specs.Profile.{has, settable, presenceValid, profileValid}
+use Rattle.camera.specs.Profile.{has, settable, profileValid}
 use Rattle.camera.specs.Record.{keyOf, selectorOf, held, valueRefusal, controlRefusal, kept, wellFormed}
-use Rattle.camera.specs.Items.{codeOf, givenOf, allGiven, itemAt, puts}
+use Rattle.camera.specs.Items.{givenOf, allGiven, itemAt, puts}
 use Rattle.camera.specs.Selectors.{Control, ev, face, metadata, hdr, throttle}
 use Rattle.camera.proofs.Laws.Record.{valid-face, formed-profile}
-use Rattle.camera.proofs.Laws.Selectors.{control-known, all-below, below-all}
+use Rattle.camera.proofs.Laws.Selectors.{below-all}
 use Rattle.demands.proofs.Laws.Held.{Proper, Each, held-none, held-named, puts-held, puts-profile}
 
 -- a setting that its SET takes if streaming, and that a record can hold
@@ -156,7 +156,7 @@ formed-kept c w k = let q = simp and-eq-true-iff at w in go (leb 19 k) refl (q .
   where
     go : (b : Bool) → leb 19 k ≡ b → allBelow 19 (λ k. kept (c .profile) (held c k)) ≡ true → kept (c .profile) (held c k) ≡ true
     go true e a = rw (held-none c k (leb-true 19 k e))
-    go false e a = all-below 19 (λ k. kept (c .profile) (held c k)) a k (leb-false 19 k e)
+    go false e a = all-at 19 (λ k. kept (c .profile) (held c k)) a k (leb-false 19 k e)
 
 pub kept-formed : (c : Camera) → profileValid (c .profile) ≡ true → ((k : ℕ) → kept (c .profile) (held c k) ≡ true) → wellFormed c ≡ true
 unfolding wellFormed

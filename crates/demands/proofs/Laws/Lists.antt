@@ -1,26 +1,22 @@
 -- Lists of calls on records of one profile. Assumes nothing.
 use mathlib.Core.Path.{_≡_, refl, ap, ap₂, sym, _∙_, fun-ext}
 use mathlib.Core.List.{List, [], _∷_, _++_, append-assoc}
-use mathlib.Core.Option.{Option}
 use mathlib.Core.Bool.{Bool, true}
 use Prim.Native.Nat.{ℕ}
-use Rattle.snapshot.specs.Records.{Record}
-use Rattle.snapshot.specs.Merge.{over, merged}
-use Rattle.snapshot.specs.Settings.{lastOf, snapshotOf, Rows}
+use Rattle.snapshot.specs.Merge.{over}
+use Rattle.snapshot.specs.Settings.{lastOf}
 use Rattle.snapshot.proofs.Laws.Merging.{over-assoc, over-none}
-use Rattle.snapshot.proofs.Laws.Settings.{last-append, rows-append, snapshot-append}
-use Rattle.controls.specs.declared.settings.Setting.{Setting}
+use Rattle.snapshot.proofs.Laws.Settings.{last-append}
 use Rattle.camera.specs.declared.profile.Profile.{Profile}
 use Rattle.camera.specs.declared.record.Camera.{Camera}
 use Rattle.camera.specs.Profile.{profileValid}
-use Rattle.camera.specs.Record.{fresh, keyOf, held, kept}
-use Rattle.camera.specs.Snapshots.{row}
+use Rattle.camera.specs.Record.{fresh, held, kept}
 use Rattle.camera.specs.Calls.{Call, next}
 use Rattle.demands.specs.Lists.{gives, leaves, flagAfter, given, settings, run}
 use Rattle.demands.specs.Records.{Ok}
-use Rattle.demands.proofs.Laws.Held.{Each, fresh-held}
-use Rattle.demands.proofs.Laws.Kept.{Good, kept-formed}
-use Rattle.demands.proofs.Laws.Steps.{step, gives-good}
+use Rattle.demands.proofs.Laws.Held.{fresh-held}
+use Rattle.demands.proofs.Laws.Kept.{kept-formed}
+use Rattle.demands.proofs.Laws.Steps.{step}
 
 -- the settings and the flag of a list of two parts
 pub given-append : (p : Profile) (f : Bool) (xs ys : List Call) → given p f (xs ++ ys) ≡ given p f xs ++ given p (flagAfter f xs) ys

@@ -1,28 +1,27 @@
 -- Loading a snapshot: what it answers and gives, record by record. Assumes nothing.
-use mathlib.Core.Path.{_≡_, refl, ap, ap₂, sym, _∙_, subst, fun-ext}
-use mathlib.Core.List.{List, [], _∷_, _++_}
+use mathlib.Core.Path.{_≡_, refl, ap, ap₂, sym, _∙_}
+use mathlib.Core.List.{List}
 use mathlib.Core.Option.{Option, none, some}
-use mathlib.Core.Bool.{Bool, true, false, cond, not, _&&_, true≢false}
+use mathlib.Core.Bool.{Bool, true, false, cond, not, true≢false}
 use Prim.Native.Nat.{ℕ, zero, suc, _+_, _-_, _≤_, _<_}
 use native.Mathlib.Nat.{add-zero}
 use native.Mathlib.Omega.{arith}
 use lib.Dec.{eqb, leb}
-use lib.ListN.{length, getD, drop}
+use lib.ListN.{getD, drop}
 use lib.Seq.{getD-drop}
 use borrow.Author.Tests.{eq-eqb, ne-eqb, eqb-true, eqb-false, leb-true, leb-false}
-use Rattle.wire.specs.Rows.{Row, _⇒_, firstOf}
+use Rattle.wire.specs.Rows.{firstOf}
 use Rattle.snapshot.specs.Form as form
-use Rattle.snapshot.specs.Records.{stands, decode, GoodAt, Record}
+use Rattle.snapshot.specs.Records.{decode, GoodAt, Record}
 use Rattle.snapshot.specs.Merge.{over, merged}
 use Rattle.snapshot.specs.Settings.{lastOf}
-use Rattle.snapshot.proofs.Laws.Sound.{stands-below}
+use Rattle.snapshot.proofs.Laws.Sound.{stands-sound}
 use Rattle.snapshot.proofs.Laws.Maps.{decode-good, none-above}
 use Rattle.snapshot.proofs.Laws.Merging.{decode-merged, merged-formed, over-none}
 use Rattle.snapshot.proofs.Laws.Settings.{last-append}
 use Rattle.controls.specs.declared.settings.Item.{Item}
 use Rattle.controls.specs.declared.settings.Item.the-variants.{Absent, Refused, Given}
 use Rattle.controls.specs.declared.settings.Setting.{Setting}
-use Rattle.controls.specs.declared.settings.Setting.the-variants as S
 use Rattle.controls.specs.Settings.{itemOf}
 use Rattle.exposure.specs.Ev.{evItem}
 use Rattle.face.specs.Face.{faceItem}
@@ -36,11 +35,8 @@ use Rattle.camera.specs.Items.{settingOf, codeOf, givenOf, firstRefusal, allGiv
 use Rattle.camera.specs.Snapshots.{selectorAt, recordItem, itemFor, loadItem, loadTests, loadGives}
 use Rattle.camera.proofs.Laws.Items.{refusal-none, none-refused}
 use Rattle.camera.specs.Selectors.{Control, ev, face, metadata, hdr, throttle}
+use Rattle.demands.proofs.Laws.Sets.{is-kind}
 use Rattle.demands.proofs.Laws.Steps.{isGiven, key-control}
-
-and-true : (a b : Bool) → a && b ≡ true → (a ≡ true) × (b ≡ true)
-and-true true b e = (refl, e)
-and-true false b e = absurd (true≢false (sym e))
 
 -- items whose settings stand under the number of the item
 abbrev pub Keyed : (ℕ → Item) → Type 0
@@ -104,41 +100,22 @@ pub taken : (code : ℕ) (s : Setting) → codeOf (itemOf code s) ≡ 0 → item
 unfolding itemOf
 taken code s e = rw (eq-eqb code 0 (sym (by-number code s) ∙ e))
 
--- the key of a face record is its address, less 0x80
-face-key : (kind address k : ℕ) → form.keyFor kind address ≡ k → 1 ≤ k → k ≤ 15 → address - 0x80 ≡ k
-face-key kind address k e l h = go (eqb kind 0x03) (eqb kind 0x06) (eqb kind 0x09) (eqb kind 0x0D) e
-  where
-    go : (a b c d : Bool) → cond a 0 (cond b (address - 0x80) (cond c 16 (cond d 17 18))) ≡ k → address - 0x80 ≡ k
-    go true b c d z = absurd (omega arith)
-    go false true c d z = z
-    go false false true d z = absurd (omega arith)
-    go false false false true z = absurd (omega arith)
-    go false false false false z = absurd (omega arith)
+-- the setting that a control's payload gives stands under the key of its kind and address
+item-key : (p : Profile) (r : List ℕ) (s : Setting) (selector : ℕ) → Control selector → itemAt p selector (drop 4 r) 0 ≡ Given s → keyOf s ≡ form.keyFor selector (getD r 5 0)
+unfolding itemAt evItem faceItem metadataItem hdrItem throttleItem
+item-key p r s _ ev e = ap keyOf (sym (given-is _ _ s e .1))
+item-key p r s _ face e = ap keyOf (sym (given-is _ _ s e .1)) ∙ ap (λ (a : ℕ). a - 0x80) (getD-drop 4 r 1 0)
+item-key p r s _ metadata e = ap keyOf (sym (given-is _ _ s e .1))
+item-key p r s _ hdr e = ap keyOf (sym (given-is _ _ s e .1))
+item-key p r s _ throttle e = ap keyOf (sym (given-is _ _ s e .1))
 
--- the setting that a record gives stands under the record's key
+-- so the setting that a record gives stands under the record's key
 record-keyed : (p : Profile) (k : ℕ) (r : List ℕ) (s : Setting) → Record k r → itemAt p (selectorAt k) (drop 4 r) 0 ≡ Given s → keyOf s ≡ k
-unfolding itemAt evItem faceItem metadataItem hdrItem throttleItem stands form.keyAt
-record-keyed p k r s q e = go (eqb k 0) (leb k 15) (eqb k 16) (eqb k 17) refl refl refl refl e
-  where
-    is-key : form.keyFor (form.kindAt r) (getD r 5 0) ≡ k
-    is-key = eqb-true _ k (and-true (form.sound r) _ (q .is) .1)
-
-    go : (a b c d : Bool) → eqb k 0 ≡ a → leb k 15 ≡ b → eqb k 16 ≡ c → eqb k 17 ≡ d
-        → itemAt p (cond a 0x03 (cond b 0x06 (cond c 0x09 (cond d 0x0D 0x0E)))) (drop 4 r) 0 ≡ Given s → keyOf s ≡ k
-    go true b c d t u v w i = ap keyOf (sym (given-is _ _ s i .1)) ∙ sym (eqb-true k 0 t)
-    go false true c d t u v w i =
-        ap keyOf (sym (given-is _ _ s i .1))
-        ∙ ap (λ (a : ℕ). a - 0x80) (getD-drop 4 r 1 0)
-        ∙ face-key (form.kindAt r) (getD r 5 0) k is-key (let n = eqb-false k 0 t in omega arith) (leb-true k 15 u)
-    go false false true d t u v w i = ap keyOf (sym (given-is _ _ s i .1)) ∙ sym (eqb-true k 16 v)
-    go false false false true t u v w i = ap keyOf (sym (given-is _ _ s i .1)) ∙ sym (eqb-true k 17 w)
-    go false false false false t u v w i =
-        let n = leb-false k 15 u in
-        let below = stands-below k r (q .is) in
-        let l16 = eqb-false k 16 v in
-        let l17 = eqb-false k 17 w in
-        let h : 18 ≡ k = omega arith in
-        ap keyOf (sym (given-is _ _ s i .1)) ∙ h
+unfolding form.keyAt
+record-keyed p k r s q e =
+    item-key p r s (selectorAt k) (key-control k) e
+    ∙ ap (λ (n : ℕ). form.keyFor n (getD r 5 0)) (is-kind k r q)
+    ∙ stands-sound k r (q .is) .1
 
 -- a control's item is by its tests' number
 item-taken : (p : Profile) (selector : ℕ) (payload : List ℕ) (i : ℕ) → Control selector → codeOf (itemAt p selector payload i) ≡ 0 → isGiven (itemAt p selector payload i) ≡ true

@@ -2,13 +2,13 @@
 use mathlib.Core.Path.{_≡_, refl, ap, sym, _∙_}
 use mathlib.Core.List.{List}
 use mathlib.Core.Option.{Option, none, some, Option·map}
-use mathlib.Core.Bool.{Bool, true, false, cond, not, _||_, true≢false}
-use Prim.Native.Nat.{ℕ, zero, suc, _+_, _-_, _≤_, _<_}
+use mathlib.Core.Bool.{Bool, true, false, cond, _||_}
+use Prim.Native.Nat.{ℕ, zero, suc, _+_, _-_, _≤_}
 use native.Mathlib.Nat.{zero-add, add-zero}
 use native.Mathlib.Omega.{arith}
 use lib.Dec.{eqb}
 use lib.ListN.{length, getD}
-use borrow.Author.Tests.{eq-eqb, eqb-true, eqb-false}
+use borrow.Author.Tests.{eqb-true, eqb-false}
 use Rattle.snapshot.specs.Records as records
 use Rattle.snapshot.proofs.Laws.Lengths.{encode-short}
 use Rattle.face.specs.declared.face.FaceLimits.{FaceLimits}
@@ -16,11 +16,11 @@ use Rattle.face.specs.Face.{addressAt, offersAt, offersFrom, offersOf, endpoint
 use Rattle.controls.specs.declared.settings.Setting.{Setting}
 use Rattle.controls.specs.declared.settings.Setting.the-variants as S
 use Rattle.camera.specs.declared.record.Camera.{Camera}
-use Rattle.camera.specs.Record.{faceHeld, held, valueRefusal, wellFormed}
+use Rattle.camera.specs.Record.{held, valueRefusal, wellFormed}
 use Rattle.camera.specs.Snapshots.{row, snapshot}
 use Rattle.demands.proofs.Laws.Held.{held-face, none-never}
 use Rattle.demands.proofs.Laws.Kept.{held-good}
-use Rattle.demands.proofs.Laws.Records.{row-record}
+use Rattle.demands.proofs.Laws.Records.{held-rows}
 
 -- how many of the n numbers from k on f holds of
 tally : ℕ → ℕ → (ℕ → Bool) → ℕ
@@ -131,13 +131,6 @@ module _ (c : Camera) (w : wellFormed c ≡ true) where
   pub few-held : records.held 15 1 rows ≤ 8
   few-held = omega (arith, held-tally 15 1 (omega arith) (omega arith), tally-listed limits (endpoints limits) 15 1)
 
-  rows-good : records.Good rows
-  rows-good k = go (held c k) refl
-    where
-      go : (o : Option Setting) → held c k ≡ o → records.GoodAt k (Option·map (row k) o)
-      go none e = tt
-      go (some s) e = let g = held-good c w k s e in row-record k s (g .0) (g .1 .proper)
-
   pub snapshot-short : length (snapshot c) ≤ 159
   unfolding snapshot
-  snapshot-short = encode-short rows rows-good few-held
+  snapshot-short = encode-short rows (held-rows c w) few-held

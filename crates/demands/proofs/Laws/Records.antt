@@ -1,40 +1,35 @@
 -- The records of settings: each is a record of its key, and read as a SET gives its setting back. Assumes nothing.
-use mathlib.Core.Path.{_≡_, refl, ap, sym, _∙_, subst}
-use mathlib.Core.List.{List, [], _∷_, _++_}
-use mathlib.Core.Option.{Option, none, some}
-use mathlib.Core.Bool.{Bool, true, false, cond, not}
-use Prim.Native.Nat.{ℕ, _+_, _-_, _≤_, _<_, _^_}
+use mathlib.Core.Path.{_≡_, refl, sym, _∙_, subst}
+use mathlib.Core.List.{List, [], _∷_}
+use mathlib.Core.Option.{Option, none, some, Option·map}
+use mathlib.Core.Bool.{true}
+use Prim.Native.Nat.{ℕ, _+_, _-_}
 use native.Mathlib.Omega.{arith}
-use lib.Dec.{eqb}
 use borrow.Author.Tests.{eq-eqb, ne-eqb, le-leb}
-use lib.ListN.{length, drop}
-use Rattle.wire.specs.Number.{number, leAt, bytesOf}
-use Rattle.snapshot.specs.Records.{Record}
+use lib.ListN.{drop}
+use Rattle.wire.specs.Number.{bytesOf}
+use Rattle.snapshot.specs.Records.{Record, GoodAt}
+use Rattle.snapshot.specs.Records as records
 use Rattle.snapshot.specs.Settings.{Rows}
 use Rattle.snapshot.proofs.Laws.Controls.{record-ev, record-face, record-metadata, record-hdr, record-throttle}
 use Rattle.controls.specs.declared.settings.Setting.{Setting}
 use Rattle.controls.specs.declared.settings.Setting.the-variants as S
 use Rattle.exposure.specs.Ev.{evBytes}
 use Rattle.face.specs.Face.{entryOf}
-use Rattle.controls.specs.Throttle.{throttleBytes, throttleItem, throttleRefusal}
-use Rattle.controls.specs.Metadata.{metadataItem, metadataRefusal}
-use Rattle.controls.specs.Hdr.{hdrItem, hdrRefusal}
+use Rattle.controls.specs.Throttle.{throttleBytes}
 use Rattle.controls.specs.Settings.{itemOf}
 use Rattle.controls.specs.declared.settings.Item.the-variants.{Given}
-use Rattle.controls.specs.declared.metadata.MetadataLimits.{MetadataLimits}
-use Rattle.controls.specs.declared.throttle.ThrottleLimits.{ThrottleLimits}
-use Rattle.controls.specs.declared.throttle.ThrottleSetting.{ThrottleSetting}
-use Rattle.wire.proofs.Laws.Bytes.{number-bytes}
 use Rattle.exposure.proofs.Laws.Ev.{ev-read}
 use Rattle.face.proofs.Laws.Face.{one-entry}
 use Rattle.controls.proofs.Laws.Plain.{metadata-read, hdr-read, throttle-read}
 use Rattle.camera.specs.declared.profile.Profile.{Profile}
-use Rattle.camera.specs.Record.{keyOf, selectorOf, valueRefusal, controlRefusal}
+use Rattle.camera.specs.declared.record.Camera.{Camera}
+use Rattle.camera.specs.Record.{keyOf, selectorOf, held, valueRefusal, controlRefusal, wellFormed}
 use Rattle.camera.specs.Items.{itemAt}
 use Rattle.camera.specs.Snapshots.{row, noLimits, selectorAt, recordItem}
-use Rattle.demands.specs.Records.{Fitting}
 use Rattle.demands.proofs.Laws.Held.{Proper, Each}
-use Rattle.demands.proofs.Laws.Kept.{Good}
+use Rattle.demands.proofs.Laws.Kept.{Good, held-good}
+use Rattle.demands.proofs.Laws.Fits.{Fitting}
 
 -- a setting's record, under its key
 pub row-record : (k : ℕ) (s : Setting) → keyOf s ≡ k → Proper s → Record k (row k s)
@@ -51,6 +46,14 @@ row-record k (S.Throttle s) e p = subst (λ j. Record j (row k (S.Throttle s))) 
 pub rows : (p : Profile) (l : List (ℕ × Setting)) → Each (Good p) l → Rows row l
 rows p [] g = tt
 rows p (x ∷ l) g = (row-record (x .0) (x .1) (sym (g .0)) (g .1 .proper), rows p l (g .2))
+
+-- the records of what a well-formed camera holds are records of their keys
+pub held-rows : (c : Camera) → wellFormed c ≡ true → records.Good (λ k. Option·map (row k) (held c k))
+held-rows c w k = go (held c k) refl
+  where
+    go : (o : Option Setting) → held c k ≡ o → GoodAt k (Option·map (row k) o)
+    go none e = tt
+    go (some s) e = let g = held-good c w k s e in row-record k s (g .0) (g .1 .proper)
 
 -- the record's payload, read as a SET, comes to its setting by the value tests of that setting
 row-item : (p : Profile) (k : ℕ) (s : Setting) → Fitting s → itemAt p (selectorOf s) (drop 4 (row k s)) 0 ≡ itemOf (valueRefusal p s) s

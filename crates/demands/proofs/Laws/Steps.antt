@@ -1,19 +1,18 @@
 -- What one call leaves of a well-formed record: the settings that it gives are put in, and the flag is set. Assumes nothing.
-use mathlib.Core.Path.{_≡_, refl, ap, ap₂, sym, _∙_, subst}
+use mathlib.Core.Path.{_≡_, refl, ap, sym, _∙_, subst}
 use mathlib.Core.List.{List, [], _∷_, _++_}
 use mathlib.Core.Option.{Option, none, some}
-use mathlib.Core.Bool.{Bool, true, false, cond, not, _&&_, _||_, true≢false, and-eq-true-iff}
-use Prim.Native.Nat.{ℕ, zero, suc, _≤_, _<_}
+use mathlib.Core.Bool.{Bool, true, false, cond, not, _&&_, true≢false, and-eq-true-iff}
+use Prim.Native.Nat.{ℕ, suc}
 use native.Mathlib.Omega.{arith}
 use lib.Dec.{eqb, ltb, leb}
 use lib.ListN.{length, drop}
-use borrow.Author.Tests.{eq-eqb, ne-eqb, eqb-true, eqb-false}
+use borrow.Author.Tests.{ne-eqb, eqb-true, eqb-false}
 use Rattle.wire.specs.Rows.{Row, _⇒_, firstOf}
 use Rattle.request.specs.Setup.{isSetRequest}
 use Rattle.request.specs.Setup as setup
 use Rattle.request.specs.Tests.{requestTests, addressed, understood, sized}
 use Rattle.request.proofs.Laws.Tests.{then-rows}
-use Rattle.snapshot.specs.Form as form
 use Rattle.snapshot.specs.Records.{decode}
 use Rattle.snapshot.specs.Merge.{over}
 use Rattle.snapshot.specs.Settings.{lastOf}
@@ -35,11 +34,7 @@ use Rattle.camera.specs.Selectors.{Control, ev, face, metadata, hdr, throttle}
 use Rattle.camera.proofs.Laws.Selectors.{control-known}
 use Rattle.demands.proofs.Laws.Held.{Each, puts-held, puts-length, puts-profile, puts-streaming}
 use Rattle.camera.proofs.Laws.Record.{valid-presence, formed-profile}
-use Rattle.demands.proofs.Laws.Kept.{Good, control-there, control-streaming, item-good, all-good, each-proper, puts-formed, kept-formed, formed-kept}
-
-and-true : (a b : Bool) → a && b ≡ true → (a ≡ true) × (b ≡ true)
-and-true true b e = (refl, e)
-and-true false b e = absurd (true≢false (sym e))
+use Rattle.demands.proofs.Laws.Kept.{Good, control-streaming, item-good, all-good, each-proper, puts-formed, kept-formed, formed-kept}
 
 -- rows whose tests all fail add nothing
 first-quiet : (a b : List Row) → firstOf b ≡ 0 → firstOf (a ++ b) ≡ firstOf a
@@ -109,10 +104,11 @@ request-next c s payload reply w = go (isSetRequest s) refl
     go : (b : Bool) → isSetRequest s ≡ b → requested c s payload (length reply) .camera ≡ puts c (gives (c .profile) (c .streaming) (request s payload reply))
     go true e =
         let n = set-code c s payload (length reply) w e in
-        rw (e, n) (taken (firstOf (requestTests (table (c .profile)) s payload ++ valueTests (c .profile) (c .streaming) s payload)) (eqb (firstOf (requestTests (table (c .profile)) s payload ++ valueTests (c .profile) (c .streaming) s payload)) 0))
+        let code = firstOf (requestTests (table (c .profile)) s payload ++ valueTests (c .profile) (c .streaming) s payload) in
+        rw (e, n) (taken code (eqb code 0))
     go false e = rw e (get (eqb (requestCode c s payload (length reply)) 0) (record { code = 0; count = sentCount c s; camera = c }) (refused (requestCode c s payload (length reply)) c) refl refl)
 
-load-next : (c : Camera) (s : List ℕ) → wellFormed c ≡ true → loaded c s .camera ≡ puts c (gives (c .profile) (c .streaming) (load s))
+pub load-next : (c : Camera) (s : List ℕ) → wellFormed c ≡ true → loaded c s .camera ≡ puts c (gives (c .profile) (c .streaming) (load s))
 unfolding loaded loadCode gives puts
 load-next c s w = rw w (go (eqb (firstOf (loadTests (c .profile) (c .streaming) s)) 0))
   where
@@ -145,10 +141,10 @@ not-off false e = absurd (true≢false e)
 -- what tests 2 to 8 of an accepted SET say
 module _ (p : Profile) (streaming : Bool) (s payload : List ℕ) (a : setAccepted p streaming s payload ≡ true) where
   pub accepted-set : isSetRequest s ≡ true
-  accepted-set = and-true (isSetRequest s) _ a .0
+  accepted-set = and-eq-true-iff (isSetRequest s) _ .0 a .0
 
   accepted-tests : (firstOf (requestTests (table p) s payload) ≡ 0) × (firstOf (valueTests p streaming s payload) ≡ 0)
-  accepted-tests = go (eqb (firstOf (requestTests (table p) s payload)) 0) refl (sym (then-rows (table p) s payload (valueTests p streaming s payload)) ∙ eqb-true _ 0 (and-true (isSetRequest s) _ a .1))
+  accepted-tests = go (eqb (firstOf (requestTests (table p) s payload)) 0) refl (sym (then-rows (table p) s payload (valueTests p streaming s payload)) ∙ eqb-true _ 0 (and-eq-true-iff (isSetRequest s) _ .0 a .1))
     where
       go : (b : Bool) → eqb (firstOf (requestTests (table p) s payload)) 0 ≡ b
           → cond b (firstOf (valueTests p streaming s payload)) (firstOf (requestTests (table p) s payload)) ≡ 0
@@ -173,14 +169,14 @@ module _ (p : Profile) (streaming : Bool) (s payload : List ℕ) (a : setAccepte
   -- its control is there and takes a SET
   pub accepted-control : (has p (setup.selectorOf s) ≡ true) × (settable p (setup.selectorOf s) ≡ true)
   accepted-control =
-      let u = and-true (eqb (setup.valueLow s) 0) _ (accepted-rows .1) .1 in
+      let u = and-eq-true-iff (eqb (setup.valueLow s) 0) _ .0 (accepted-rows .1) .1 in
       (accepted-rows .0, rw accepted-set at u)
 
   -- the payload has the control's length
   pub accepted-length : length payload ≡ takes p (setup.selectorOf s) payload
   accepted-length =
       let z = rw accepted-set at (accepted-rows .2) in
-      eqb-true (length payload) _ (and-true (eqb (length payload) (setup.wLengthOf s)) _ z .1)
+      eqb-true (length payload) _ (and-eq-true-iff (eqb (length payload) (setup.wLengthOf s)) _ .0 z .1)
 
   -- and no value test refuses it
   pub accepted-values : setRefusal p (setup.selectorOf s) payload ≡ 0

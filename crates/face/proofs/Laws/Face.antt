@@ -137,7 +137,8 @@ pub record Listed (address offers : ℕ) : Type 0 where
   pub least : 2 ≤ offers
   pub most : offers ≤ 5
 
-all-at : (n : ℕ) (f : ℕ → Bool) → allBelow n f ≡ true → (i : ℕ) → i < n → f i ≡ true
+-- what holds of each number below n
+pub all-at : (n : ℕ) (f : ℕ → Bool) → allBelow n f ≡ true → (i : ℕ) → i < n → f i ≡ true
 unfolding allBelow
 all-at zero f h i p = absurd (omega arith)
 all-at (suc n) f h i p =

@@ -1,0 +1,60 @@
+-- The numbers of the settings that a well-formed record holds fit the bytes of their records. Assumes nothing.
+use mathlib.Core.Path.{_≡_}
+use mathlib.Core.Option.{some}
+use mathlib.Core.Bool.{true, and-eq-true-iff}
+use Prim.Native.Nat.{ℕ, _^_, _≤_, _<_}
+use native.Mathlib.Nat.{lt-trans}
+use native.Mathlib.Omega.{arith}
+use lib.Dec.{lit<}
+use mir.Syntax.{w32}
+use mir.Val.{SFits}
+use borrow.Author.Tests.{leb-true}
+use Rattle.controls.specs.declared.settings.Setting.{Setting}
+use Rattle.controls.specs.declared.settings.Setting.the-variants as S
+use Rattle.exposure.specs.Ev.{evValid}
+use Rattle.exposure.proofs.Laws.Ev.{accepts, range-small}
+use Rattle.controls.proofs.Laws.Plain.{metadata-within, hdr-within, throttle-within}
+use Rattle.camera.specs.declared.profile.Profile.{Profile}
+use Rattle.camera.specs.declared.record.Camera.{Camera}
+use Rattle.camera.specs.Profile.{has, profileValid}
+use Rattle.camera.specs.Record.{held, valueRefusal, wellFormed}
+use Rattle.camera.proofs.Laws.Record.{formed-profile}
+use Rattle.demands.specs.Records.{flagsOf, Typed}
+use Rattle.demands.proofs.Laws.Kept.{Good, control-there, held-good}
+
+-- flags of a byte, and values of four
+abbrev pub Fitting : Setting → Type 0
+Fitting (S.Ev s) = (s .flags < 2 ^ 8) × SFits w32 (s .value)
+Fitting (S.Face address flags) = flags < 2 ^ 8
+Fitting (S.Metadata n) = n < 2 ^ 32
+Fitting (S.Hdr n) = n < 2 ^ 32
+Fitting (S.Throttle s) = (s .mode < 2 ^ 32) × (s .percent < 2 ^ 32)
+
+module _ (p : Profile) (v : profileValid p ≡ true) where
+  valid-ev : has p 0x03 ≡ true → evValid (p .ev) ≡ true
+  unfolding profileValid
+  valid-ev h = let q = simp and-eq-true-iff at v in rw h at (q .1 .0)
+
+  throttle-maximum : has p 0x0E ≡ true → p .throttle .maximum ≤ 100
+  unfolding profileValid
+  throttle-maximum h =
+      let q = simp and-eq-true-iff at v in
+      let t = simp and-eq-true-iff at (rw h at (q .1 .1 .1 .1 .0)) in
+      leb-true (p .throttle .maximum) 100 (t .0 .0 .0 .1)
+
+  -- a SET's own tests bound all but the flags, which they read 56 bits of, and a metadata setting by the profile's maximum
+  good-fitting : (s : Setting) → Good p s → flagsOf s < 2 ^ 8 → p .metadata .maximum < 2 ^ 32 → Fitting s
+  unfolding valueRefusal
+  good-fitting (S.Ev s) g f m =
+      let a = accepts (p .ev) (s .flags) (s .value) (g .value) in
+      (f, record { sfits = lt-trans (range-small (p .ev) (valid-ev (control-there p true 0x03 (g .control))) (a .0) (s .value) (a .1 .1)) (lit< tt) })
+  good-fitting (S.Face address flags) g f m = f
+  good-fitting (S.Metadata n) g f m = omega (arith, metadata-within (p .metadata) n (g .value))
+  good-fitting (S.Hdr n) g f m = omega (arith, hdr-within (p .auto) n (g .value))
+  good-fitting (S.Throttle s) g f m =
+      let w = throttle-within (p .throttle) (s .mode) (s .percent) (g .value) in
+      let h = throttle-maximum (control-there p true 0x0E (g .control)) in
+      (omega arith, omega arith)
+
+pub held-fitting : (c : Camera) → wellFormed c ≡ true → Typed c → (k : ℕ) (s : Setting) → held c k ≡ some s → Fitting s
+held-fitting c w t k s e = good-fitting (c .profile) (formed-profile c w) s (held-good c w k s e .1) (t .flags k s e) (t .maximum)

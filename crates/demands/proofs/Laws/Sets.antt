@@ -1,0 +1,187 @@
+-- A snapshot's record in form, tested as a SET and taken as one. Assumes nothing.
+use mathlib.Core.Path.{_≡_, refl, ap, sym, _∙_}
+use mathlib.Core.List.{List, [], _∷_, append-nil}
+use mathlib.Core.Bool.{Bool, true, false, cond, not, _&&_, true≢false, and-eq-true-iff}
+use Prim.Native.Nat.{ℕ, _+_, _-_, _^_, _≤_, _<_}
+use native.Mathlib.Omega.{arith}
+use lib.Dec.{eqb}
+use lib.ListN.{length, getD, drop, length-drop}
+use lib.Seq.{getD-drop}
+use borrow.Author.Tests.{eq-eqb, ne-eqb, le-leb, eqb-true, eqb-false}
+use Rattle.wire.specs.Number.{leAt, bytesOf}
+use Rattle.wire.specs.Rows.{_⇒_, firstOf}
+use Rattle.wire.proofs.Laws.Bytes.{number-bytes}
+use Rattle.request.specs.Setup as setup
+use Rattle.request.specs.Tests.{requestTests}
+use Rattle.snapshot.specs.Form as form
+use Rattle.snapshot.specs.Records.{Record}
+use Rattle.snapshot.proofs.Laws.Sound.{Sound, Kind, ev, face, metadata, hdr, throttle, kind-of, sound-address, stands-sound, stands-size}
+use Rattle.controls.specs.declared.settings.Item.{Item}
+use Rattle.controls.specs.declared.settings.Item.the-variants.{Absent, Refused, Given}
+use Rattle.face.proofs.Laws.Face.{takes-first, count-least}
+use Rattle.camera.specs.declared.profile.Profile.{Profile}
+use Rattle.camera.specs.Profile.{has, settable, takes, profileValid}
+use Rattle.camera.specs.Record.{controlRefusal}
+use Rattle.camera.specs.Items.{codeOf, givenOf, firstRefusal, allGiven, itemCount, itemAt, setRefusal, setGives}
+use Rattle.camera.specs.Requests.{valueTests}
+use Rattle.camera.specs.Snapshots.{selectorAt, recordItem}
+use Rattle.camera.proofs.Laws.Record.{valid-face}
+use Rattle.demands.specs.Lists.{gives}
+use Rattle.demands.specs.Loading.{setOf, setCode, AsSet}
+
+-- a row that answers its own number, where that is not 0
+pub row-number : (n : ℕ) → firstOf ((not (eqb n 0) ⇒ n) ∷ []) ≡ n
+row-number n = go (eqb n 0) refl
+  where
+    go : (b : Bool) → eqb n 0 ≡ b → cond (not b) n 0 ≡ n
+    go true e = sym (eqb-true n 0 e)
+    go false e = refl
+
+-- an item with a number gives nothing
+refused-nothing : (i : Item) → eqb (codeOf i) 0 ≡ false → givenOf i ≡ []
+unfolding codeOf givenOf
+refused-nothing Absent e = refl
+refused-nothing (Refused code) e = refl
+refused-nothing (Given s) e = absurd (true≢false e)
+
+-- of face authentication, a sound record has one entry
+sound-count : (r : List ℕ) → Sound r → form.kindAt r ≡ 0x06 → getD r 4 0 ≡ 1
+sound-count r s e =
+    let f = rw e at (s .face) in
+    let q = simp and-eq-true-iff at f in
+    eqb-true (getD r 4 0) 1 (q .0)
+
+-- the selector of a record's key is its kind
+key-kind : (k : ℕ) (r : List ℕ) → Sound r → form.keyAt r ≡ k → Kind (form.kindAt r) → selectorAt k ≡ form.kindAt r
+unfolding form.keyAt
+key-kind k r s e (ev q) = let z : 0 ≡ k = rw q at e in rw (← z, q)
+key-kind k r s e (face q) =
+    let z : getD r 5 0 - 0x80 ≡ k = rw q at e in
+    let b = sound-address r s q in
+    rw (q, ne-eqb k 0 (omega arith), le-leb k 15 (omega arith))
+key-kind k r s e (metadata q) = let z : 16 ≡ k = rw q at e in rw (← z, q)
+key-kind k r s e (hdr q) = let z : 17 ≡ k = rw q at e in rw (← z, q)
+key-kind k r s e (throttle q) = let z : 18 ≡ k = rw q at e in rw (← z, q)
+
+module _ (k : ℕ) (r : List ℕ) (g : Record k r) where
+  record-sound : Sound r
+  record-sound = stands-sound k r (g .is) .0
+
+  pub is-kind : selectorAt k ≡ form.kindAt r
+  is-kind = key-kind k r record-sound (stands-sound k r (g .is) .1) (kind-of (form.kindAt r) (record-sound .known))
+
+  kind : Kind (selectorAt k)
+  kind = kind-of (selectorAt k) (rw is-kind (record-sound .known))
+
+  -- its payload has the length that its kind gives it
+  payload-length : (n : ℕ) → selectorAt k ≡ n → 4 + length (drop 4 r) ≡ form.lengthOf n
+  payload-length n e =
+      let m = g .long ∙ stands-size k r (g .is) ∙ record-sound .right ∙ ap form.lengthOf (sym is-kind ∙ e) in
+      let l : length (drop 4 r) ≡ length r - 4 = length-drop 4 r in
+      omega (arith, record-sound .four)
+
+  -- a face record has one entry
+  one-entry : selectorAt k ≡ 0x06 → getD (drop 4 r) 0 0 ≡ 1
+  one-entry e = getD-drop 4 r 0 0 ∙ sound-count r record-sound (sym is-kind ∙ e)
+
+  -- so a SET of any record has one item
+  one-item : itemCount (selectorAt k) (drop 4 r) ≡ 1
+  one-item = go (eqb (selectorAt k) 0x06) refl
+    where
+      go : (b : Bool) → eqb (selectorAt k) 0x06 ≡ b → cond b (getD (drop 4 r) 0 0) 1 ≡ 1
+      go true e = one-entry (eqb-true (selectorAt k) 0x06 e)
+      go false e = refl
+
+  set-refusal : (p : Profile) → setRefusal p (selectorAt k) (drop 4 r) ≡ codeOf (itemAt p (selectorAt k) (drop 4 r) 0)
+  unfolding setRefusal firstRefusal
+  set-refusal p = rw one-item (go (eqb (codeOf (itemAt p (selectorAt k) (drop 4 r) 0)) 0) refl)
+    where
+      go : (b : Bool) → eqb (codeOf (itemAt p (selectorAt k) (drop 4 r) 0)) 0 ≡ b
+          → cond b 0 (codeOf (itemAt p (selectorAt k) (drop 4 r) 0)) ≡ codeOf (itemAt p (selectorAt k) (drop 4 r) 0)
+      go true e = sym (eqb-true _ 0 e)
+      go false e = refl
+
+  set-gives : (p : Profile) → setGives p (selectorAt k) (drop 4 r) ≡ givenOf (itemAt p (selectorAt k) (drop 4 r) 0)
+  unfolding setGives allGiven
+  set-gives p = rw one-item (append-nil (givenOf (itemAt p (selectorAt k) (drop 4 r) 0)))
+
+  -- test 6: the payload has the control's length. Of face authentication, one entry is no more than a valid profile's endpoints.
+  takes-payload : (p : Profile) → profileValid p ≡ true → has p (selectorAt k) ≡ true → takes p (selectorAt k) (drop 4 r) ≡ length (drop 4 r)
+  takes-payload p v h = go kind
+    where
+      go : Kind (selectorAt k) → takes p (selectorAt k) (drop 4 r) ≡ length (drop 4 r)
+      go (ev e) = rw e (omega (arith, payload-length 0x03 e))
+      go (face e) =
+          let n = payload-length 0x06 e in
+          let few : 1 ≤ p .face .count = count-least (p .face) (valid-face p v (rw e at h)) in
+          rw e (takes-first (p .face) (drop 4 r) (λ z. omega arith) ∙ rw (one-entry e, le-leb 1 (p .face .count) few) (omega arith))
+      go (metadata e) = rw e (omega (arith, payload-length 0x09 e))
+      go (hdr e) = rw e (omega (arith, payload-length 0x0D e))
+      go (throttle e) = rw e (omega (arith, payload-length 0x0E e))
+
+  -- wLength says that length
+  length-said : (p : Profile) → setup.wLengthOf (setOf p k r) ≡ length (drop 4 r)
+  unfolding leAt bytesOf
+  length-said p = number-bytes 2 (length (drop 4 r)) (go kind)
+    where
+      go : Kind (selectorAt k) → length (drop 4 r) < 256 ^ 2
+      go (ev e) = omega (arith, payload-length 0x03 e)
+      go (face e) = omega (arith, payload-length 0x06 e)
+      go (metadata e) = omega (arith, payload-length 0x09 e)
+      go (hdr e) = omega (arith, payload-length 0x0D e)
+      go (throttle e) = omega (arith, payload-length 0x0E e)
+
+  -- tests 2 to 8
+  module _ (p : Profile) (v : profileValid p ≡ true) (streaming : Bool) where
+    abbrev stopped : Bool
+    stopped = eqb (selectorAt k) 0x0E && not streaming
+
+    -- where the control is there, test 6 holds
+    set-tests : (b : Bool) → has p (selectorAt k) ≡ b → setCode p streaming k r
+        ≡ cond (not b) 0x06 (cond (not (settable p (selectorAt k))) 0x07 (cond stopped 0x02 (codeOf (itemAt p (selectorAt k) (drop 4 r) 0))))
+    unfolding requestTests valueTests bytesOf
+    set-tests true h =
+        let z = takes-payload p v h in
+        let w = length-said p in
+        rw (eq-eqb (p .unit) (p .unit) refl, eq-eqb (p .interface) (p .interface) refl, h, w, z, eq-eqb (length (drop 4 r)) (length (drop 4 r)) refl, set-refusal p)
+        (ap (λ (n : ℕ). cond (not (settable p (selectorAt k))) 0x07 (cond stopped 0x02 n)) (row-number (codeOf (itemAt p (selectorAt k) (drop 4 r) 0))))
+    set-tests false h = rw (eq-eqb (p .unit) (p .unit) refl, eq-eqb (p .interface) (p .interface) refl, h)
+
+    record-code : codeOf (recordItem p streaming k r)
+        ≡ cond (not (has p (selectorAt k))) 0x06 (cond (not (settable p (selectorAt k))) 0x07 (cond stopped 0x02 (codeOf (itemAt p (selectorAt k) (drop 4 r) 0))))
+    unfolding recordItem controlRefusal codeOf
+    record-code = go (has p (selectorAt k)) (settable p (selectorAt k)) stopped
+      where
+        code : Bool → Bool → Bool → ℕ
+        code a b t = cond (not a) 0x06 (cond (not b) 0x07 (cond t 0x02 0))
+
+        go : (a b t : Bool) → codeOf (cond (eqb (code a b t) 0) (itemAt p (selectorAt k) (drop 4 r) 0) (Refused (code a b t)))
+            ≡ cond (not a) 0x06 (cond (not b) 0x07 (cond t 0x02 (codeOf (itemAt p (selectorAt k) (drop 4 r) 0))))
+        go true true true = refl
+        go true true false = refl
+        go true false t = refl
+        go false b t = refl
+
+    set-code : setCode p streaming k r ≡ codeOf (recordItem p streaming k r)
+    set-code = set-tests (has p (selectorAt k)) refl ∙ sym record-code
+
+    -- where no test refuses the record, its item is its payload's
+    record-item : codeOf (recordItem p streaming k r) ≡ 0 → recordItem p streaming k r ≡ itemAt p (selectorAt k) (drop 4 r) 0
+    unfolding recordItem codeOf
+    record-item e = go (eqb code 0) refl e
+      where
+        code : ℕ
+        code = controlRefusal p streaming (selectorAt k)
+
+        go : (b : Bool) → eqb code 0 ≡ b → codeOf (cond b (itemAt p (selectorAt k) (drop 4 r) 0) (Refused code)) ≡ 0
+            → cond b (itemAt p (selectorAt k) (drop 4 r) 0) (Refused code) ≡ itemAt p (selectorAt k) (drop 4 r) 0
+        go true q z = refl
+        go false q z = absurd (eqb-false code 0 q z)
+
+    set-settings : (b : Bool) → eqb (codeOf (recordItem p streaming k r)) 0 ≡ b → cond b (setGives p (selectorAt k) (drop 4 r)) [] ≡ givenOf (recordItem p streaming k r)
+    set-settings true e = set-gives p ∙ ap givenOf (sym (record-item (eqb-true _ 0 e)))
+    set-settings false e = sym (refused-nothing (recordItem p streaming k r) e)
+
+    pub record-as-set : AsSet p streaming k r
+    unfolding gives
+    record-as-set = record { code = set-code; settings = λ reply. rw set-code (set-settings _ refl) }
