@@ -1,19 +1,19 @@
 -- The owner's demand 1 on the calls that take the record, all at once. Assumes nothing.
-use mathlib.Core.Path.{_≡_, refl, ap, sym, _∙_}
-use mathlib.Core.List.{List, _++_}
-use mathlib.Core.Bool.{Bool, true, false, cond, not, _&&_}
+use mathlib.Core.Path.{_≡_, refl, ap}
+use mathlib.Core.List.{List}
+use mathlib.Core.Bool.{Bool, true, false, cond}
 use Prim.Native.Nat.{ℕ}
 use lib.Dec.{eqb}
-use lib.IntN.{ℤ, pos}
-use lib.ListN.{length, take, drop}
+use lib.IntN.{pos}
+use lib.ListN.{length}
 use borrow.Author.Tests.{ne-eqb}
 use Rattle.request.specs.Setup.{isSetRequest}
 use Rattle.exposure.specs.Ev.{compensation}
 use Rattle.camera.specs.declared.record.Camera.{Camera}
 use Rattle.camera.specs.declared.calls.Outcome.{Outcome}
 use Rattle.camera.specs.Record.{wellFormed}
-use Rattle.camera.specs.Requests.{asked, sentCount, requestRows, requestCode, refused, outcomeBy, requestDone, requested, replied}
-use Rattle.camera.specs.Snapshots.{loadCode, loaded, snapshot, writeCode, written, writtenOut}
+use Rattle.camera.specs.Requests.{requestRows, requestCode, refused, outcomeBy, requestDone, requested, replied}
+use Rattle.camera.specs.Snapshots.{loadCode, loaded, writeCode, written, writtenOut}
 use Rattle.camera.specs.Calls.{recordCode, streamed, sensed, Call, request, stream, load, write, sense, outcome}
 use Rattle.demands.specs.Demand1.{Unchanged}
 

@@ -1,24 +1,19 @@
 -- The owner's demand 2 on the camera: new settings, the sensor's number, GET_CUR, LEN, and what is written reads back. Assumes nothing.
 use mathlib.Core.Path.{_≡_, refl, ap, ap₂, sym, _∙_, subst}
-use mathlib.Core.List.{List, [], _∷_, _++_}
-use mathlib.Core.Option.{none, Option·map}
-use mathlib.Core.Bool.{Bool, true, false, not, and-eq-true-iff}
+use mathlib.Core.List.{List, []}
+use mathlib.Core.Option.{none}
+use mathlib.Core.Bool.{Bool, true, false, and-eq-true-iff}
 use Prim.Native.Nat.{ℕ, _+_, _*_, _≤_, _<_, min}
 use native.Mathlib.Omega.{arith}
 use lib.Dec.{eqb}
 use lib.IntN.{pos, _*ℤ_}
-use lib.ListN.{length, getD, take, drop}
+use lib.ListN.{length, getD}
 use borrow.Author.Tests.{eq-eqb, eqb-true, le-ltb}
 use Rattle.wire.specs.Number.{bytesOf}
 use Rattle.wire.proofs.Laws.Numbers.{Bytes}
 use Rattle.wire.proofs.Laws.Bits.{chosen-is}
 use Rattle.request.specs.Setup.{typeOf, codeOf, valueLow, selectorOf, wLengthOf, isSetRequest, isGetRequest}
-use Rattle.request.specs.Tests.{requestTests, addressed}
-use Rattle.snapshot.specs.Form as form
-use Rattle.snapshot.specs.Records.{decode}
-use Rattle.snapshot.specs.Records as records
-use Rattle.snapshot.specs.Merge.{over}
-use Rattle.snapshot.specs.Settings.{lastOf}
+use Rattle.request.specs.Tests.{requestTests}
 use Rattle.controls.specs.declared.settings.EvSetting.{EvSetting}
 use Rattle.exposure.specs.declared.ev.Ev.{Ev}
 use Rattle.exposure.specs.declared.ev.Ev.the-variants as E
@@ -39,13 +34,13 @@ use Rattle.exposure.proofs.Laws.Ev.{accepts, scaled-is}
 use Rattle.face.proofs.Laws.Face.{place-listed, fresh-answer, len-answer, len-taken, len-longest}
 use Rattle.camera.specs.declared.profile.Profile.{Profile}
 use Rattle.camera.specs.declared.record.Camera.{Camera}
-use Rattle.camera.specs.Profile.{has, takes, table}
+use Rattle.camera.specs.Profile.{has, takes}
 use Rattle.camera.specs.Record.{fresh, evHeld, metadataHeld, hdrHeld, throttleHeld, held, valueRefusal, controlRefusal, wellFormed}
 use Rattle.camera.specs.Items.{settingOf, allGiven, puts, setRefusal, setGives}
 use Rattle.camera.specs.Requests.{answerOf, asked, sentCount, valueTests, requestRows, requestCode, requestDone, requested, replied}
-use Rattle.camera.specs.Snapshots.{selectorAt, itemFor, loadItem, loadGives, row, snapshot}
+use Rattle.camera.specs.Snapshots.{selectorAt, itemFor, loadGives, snapshot}
 use Rattle.camera.specs.Calls.{sensed, Call, request, load, outcome, left, next}
-use Rattle.demands.specs.Lists.{setAccepted, gives, leaves, run}
+use Rattle.demands.specs.Lists.{setAccepted, gives, run}
 use Rattle.demands.specs.Records.{Ok, Typed, Same, Written}
 use Rattle.demands.specs.Demand2.{NewSettings, Twelfths, SensorExact, CurrentIsHeld, SameAnswers, FaceLength, bytesBack, entryBytes, FaceReadsBack, ReadsBack, Sends, Gets, SnapshotReadsBack}
 use Rattle.demands.proofs.Laws.Longest.{snapshot-short}

@@ -66,7 +66,7 @@ pub record CountsAsSets (c : Camera) (s : List ℕ) : Type 0 where
 abbrev pub OwnSet : Profile → ℕ → Setting → Type 0
 OwnSet p k s = gives p true (request (setOf p k (row k s)) (drop 4 (row k s)) []) ≡ (k, s) ∷ []
 
--- 01 refuses a record "with a setting its own SET rules would refuse if streaming": a record of a valid profile is well formed exactly where
+-- The record test goes by the own SET of each setting: a record of a valid profile is well formed exactly where, if streaming,
 -- the own SET of each setting held gives it.
 pub record KeepsSetRules (c : Camera) : Type 0 where
   pub formed-sets : wellFormed c ≡ true → (k : ℕ) (s : Setting) → held c k ≡ some s → OwnSet (c .profile) k s

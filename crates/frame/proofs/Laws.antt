@@ -1,4 +1,3 @@
-pub mod Rows
 pub mod Heads
 pub mod Fuel
 pub mod Walk

@@ -4,7 +4,7 @@ use mathlib.Core.Bool.{cond}
 use mathlib.Core.List.{List, [], _∷_}
 use mathlib.Core.Option.{Option, none, some, Option·map}
 use lib.Dec.{eqb}
-use Rattle.snapshot.specs.Records.{Entry, Record, encode}
+use Rattle.snapshot.specs.Records.{Record, encode}
 use Rattle.snapshot.specs.Merge.{over}
 
 -- a setting that is given: its key, and its value
@@ -24,8 +24,3 @@ snapshotOf row held = encode (λ k. Option·map (row k) (held k))
 abbrev pub Rows : {Value : Type 0} → (ℕ → Value → List ℕ) → List (Setting Value) → Type 0
 Rows row [] = Unit {0}
 Rows row (p ∷ l) = Record (p .0) (row (p .0) (p .1)) × Rows row l
-
--- the settings that records give, where `value k r` is what the record r of the key k sets
-abbrev pub valuesOf : {Value : Type 0} → (ℕ → List ℕ → Value) → List Entry → List (Setting Value)
-valuesOf value [] = []
-valuesOf value (e ∷ l) = (e .0, value (e .0) (e .1)) ∷ valuesOf value l

@@ -2,3 +2,4 @@ pub mod Bits
 pub mod Bytes
 pub mod Numbers
 pub mod Overlay
+pub mod Rows

@@ -1,17 +1,14 @@
 -- Answers: their length, and what is packed. Assumes nothing.
-use mathlib.Core.Path.{_≡_, sym}
+use mathlib.Core.Path.{_≡_}
 use mathlib.Core.List.{List, [], _∷_}
 use mathlib.Core.Bool.{Bool, true, false, cond}
-use Prim.Native.Nat.{ℕ, _≤_, min}
+use Prim.Native.Nat.{ℕ, _≤_}
 use native.Mathlib.Omega.{arith}
-use native.Mathlib.Nat.{min-eq-left}
 use lib.Dec.{eqb}
-use lib.ListN.{length, take, replicate}
-use lib.Seq.{take-at}
+use lib.ListN.{length}
 use borrow.Author.Tests.{eq-eqb, ne-eqb}
 use Rattle.wire.specs.Number.{bytesOf}
-use Rattle.wire.proofs.Laws.Overlay.{fits}
-use Rattle.controls.specs.Answers.{answerBy, packed}
+use Rattle.controls.specs.Answers.{answerBy}
 
 -- LEN, INFO and the rest
 module _ (code len info : ℕ) (value : List ℕ) where
@@ -37,13 +34,3 @@ module _ (code len info : ℕ) (value : List ℕ) where
       go true b = h
       go false true = omega arith
       go false false = g
-
--- an answer that has room is packed whole
-module _ (l : List ℕ) (h : length l ≤ 65) where
-  pub packed-length : packed l .len ≡ length l
-  unfolding packed
-  packed-length = min-eq-left h
-
-  pub packed-whole : take (packed l .len) (packed l .bytes) ≡ l
-  unfolding packed
-  packed-whole = rw (fits (replicate 65 0) 0 l (omega arith)) (take-at l _ (min (length l) 65) (sym (min-eq-left h)))

@@ -1,14 +1,15 @@
 -- The controls whose payloads are numbers of four bytes: metadata, HDR and throttle. Assumes nothing.
-use mathlib.Core.Path.{_≡_, refl, ap₂, sym, _∙_}
-use mathlib.Core.List.{List, _++_}
-use mathlib.Core.Bool.{Bool, true, false, true≢false, cond, not, _||_}
-use Prim.Native.Nat.{ℕ, suc, _^_, _<_, _≤_}
+use mathlib.Core.Path.{_≡_, refl, _∙_}
+use mathlib.Core.List.{List}
+use mathlib.Core.Bool.{Bool, true, false, true≢false, not, _||_}
+use Prim.Native.Nat.{ℕ, _^_, _<_, _≤_}
 use native.Mathlib.Omega.{arith}
 use lib.Dec.{lit≤, ltb}
-use lib.ListN.{length, take}
-use lib.Seq.{take-all, take-add}
+use lib.ListN.{length}
+use lib.Seq.{take-all}
 use borrow.Author.Tests.{ltb-false}
 use Rattle.wire.specs.Number.{leAt, bytesOf}
+use Rattle.wire.proofs.Laws.Rows.{passes}
 use Rattle.wire.proofs.Laws.Numbers.{Bytes}
 use Rattle.controls.specs.declared.metadata.MetadataLimits.{MetadataLimits}
 use Rattle.controls.specs.declared.throttle.ThrottleLimits.{ThrottleLimits}
@@ -58,34 +59,24 @@ module _ (s : ThrottleSetting) (tail : ThrottleLimits) where
   unfolding throttleItem
   throttle-read l m p = rw (throttle-mode m, throttle-percent p)
 
--- the first eight bytes of a payload are those of the setting it reads as
-pub throttle-front : (payload : List ℕ) (tail : ThrottleLimits) → 8 ≤ length payload → Bytes payload → take 8 (throttleBytes (record { mode = leAt 4 payload 0; percent = leAt 4 payload 4 }) tail) ≡ take 8 payload
-unfolding throttleBytes bytesOf
-throttle-front payload tail n b = ap₂ _++_ (bytes-at 4 payload 0 (omega arith) b) (bytes-at 4 payload 4 (omega arith) b) ∙ sym (take-add 4 4 payload)
-
 neither : (a b : Bool) → (a || b) ≡ false → (a ≡ false) × (b ≡ false)
 neither true b h = absurd (true≢false h)
 neither false b h = (refl, h)
 
--- a table that gives 0 has a first test that does not hold
-passed : (test : Bool) (code rest : ℕ) → cond test (suc code) rest ≡ 0 → (test ≡ false) × (rest ≡ 0)
-passed true code rest h = absurd (omega arith)
-passed false code rest h = (refl, h)
-
 -- what is accepted lies within the limits
 pub metadata-within : (l : MetadataLimits) (n : ℕ) → metadataRefusal l n ≡ 0 → n ≤ l .maximum
 unfolding metadataRefusal
-metadata-within l n h = ltb-false (l .maximum) n (passed (ltb (l .maximum) n) 3 _ h .0)
+metadata-within l n h = ltb-false (l .maximum) n (passes (ltb (l .maximum) n) 4 _ (λ z. omega arith) h .0)
 
 pub hdr-within : (auto : Bool) (n : ℕ) → hdrRefusal auto n ≡ 0 → n ≤ 2
 unfolding hdrRefusal
-hdr-within auto n h = ltb-false 2 n (passed (ltb 2 n) 3 _ h .0)
+hdr-within auto n h = ltb-false 2 n (passes (ltb 2 n) 4 _ (λ z. omega arith) h .0)
 
 pub throttle-within : (l : ThrottleLimits) (mode percent : ℕ) → throttleRefusal l mode percent ≡ 0 → (mode ≤ 1) × (percent ≤ l .maximum)
 unfolding throttleRefusal
 throttle-within l mode percent h =
-    let p = passed (ltb percent (l .minimum) || ltb (l .maximum) percent) 3 _ h in
-    let q = passed (ltb 1 mode || not (divides (l .step) percent)) 7 _ (p .1) in
+    let p = passes (ltb percent (l .minimum) || ltb (l .maximum) percent) 4 _ (λ z. omega arith) h in
+    let q = passes (ltb 1 mode || not (divides (l .step) percent)) 8 _ (λ z. omega arith) (p .1) in
     (ltb-false 1 mode (neither (ltb 1 mode) _ (q .0) .0), ltb-false (l .maximum) percent (neither (ltb percent (l .minimum)) _ (p .0) .1))
 
 -- every answer has room

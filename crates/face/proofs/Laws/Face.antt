@@ -6,17 +6,13 @@ use Prim.Native.Nat.{ℕ, zero, suc, _+_, _*_, _-_, _/_, _^_, _≤_, _<_}
 use native.Mathlib.Numerals.{add-one, sub-one}
 use native.Mathlib.Omega.{arith}
 use lib.Dec.{leb, eqb, lit≤}
-use lib.ListN.{length, getD, set, length-append}
-use lib.Seq.{getD-set-same, getD-set-other}
+use lib.ListN.{length, getD, length-append}
 use borrow.Author.Tests.{eq-eqb, ne-eqb, eqb-true, eqb-false, lt-ltb, ltb-true, le-leb, leb-true}
 use Rattle.wire.specs.Number.{leAt, bytesOf}
 use Rattle.wire.specs.Flags.{choiceOf}
 use Rattle.wire.specs.Rows.{_⇒_, firstOf}
 use Rattle.wire.specs.Overlay.{overlay}
-use Rattle.wire.specs.declared.flags.Choice.{Choice}
 use Rattle.wire.specs.declared.flags.Choice.the-variants as C
-use Rattle.wire.proofs.Laws.Numbers.{Bytes, below}
-use Rattle.wire.proofs.Laws.Bits.{chosen-is}
 use Rattle.wire.proofs.Laws.Overlay.{append}
 use Rattle.face.specs.declared.face.FaceLimits.{FaceLimits}
 use Rattle.controls.specs.declared.settings.Item.the-variants.{Refused, Given}
@@ -196,39 +192,6 @@ module _ (l : FaceLimits) (valid : faceValid l ≡ true) where
   unfolding offersOf
   listed address p = found address (endpoints l) 0 (omega (arith, count-most)) p
 
-  -- listed or not, no flag above D2 is offered
-  pub offers-small : (address : ℕ) → offersOf l address < 8
-  offers-small address = go (eqb (offersOf l address) 0) refl
-    where
-      go : (b : Bool) → eqb (offersOf l address) 0 ≡ b → offersOf l address < 8
-      go true e = omega (arith, eqb-true (offersOf l address) 0 e)
-      go false e = omega (arith, listed address (eqb-false (offersOf l address) 0 e) .most)
-
-  -- addresses ascend, so that a place's offers are those of its address
-  pub ascends : (i j : ℕ) → i < j → j < l .count → addressAt l i < addressAt l j
-  unfolding addressBefore
-  ascends i zero h k = absurd (omega arith)
-  ascends i (suc j) h k = go (eqb i j) refl (place-valid (suc j) k .0) (λ q. ascends i j q (omega arith))
-    where
-      go : (b : Bool) → eqb i j ≡ b → addressAt l j < addressAt l (suc j) → (i < j → addressAt l i < addressAt l j) → addressAt l i < addressAt l (suc j)
-      go true e p before = rw (eqb-true i j e) p
-      go false e p before = let n = eqb-false i j e in omega (arith, before (omega arith))
-
-  own-from : (i n k : ℕ) → k ≤ i → i < k + n → i < l .count → offersFrom l (addressAt l i) n k ≡ offersAt l i
-  unfolding offersFrom
-  own-from i zero k p q h = absurd (omega arith)
-  own-from i (suc n) k p q h = go (eqb (addressAt l k) (addressAt l i)) (eqb k i) refl refl (λ r. own-from i n (suc k) r (omega arith) h)
-    where
-      go : (a b : Bool) → eqb (addressAt l k) (addressAt l i) ≡ a → eqb k i ≡ b → (suc k ≤ i → offersFrom l (addressAt l i) n (suc k) ≡ offersAt l i) → cond a (offersAt l k) (offersFrom l (addressAt l i) n (suc k)) ≡ offersAt l i
-      go true true e f next = ap (offersAt l) (eqb-true k i f)
-      go true false e f next = let r = eqb-false k i f in absurd (omega (arith, eqb-true (addressAt l k) (addressAt l i) e, ascends k i (omega arith) h))
-      go false true e f next = absurd (eqb-false (addressAt l k) (addressAt l i) e (ap (addressAt l) (eqb-true k i f)))
-      go false false e f next = let r = eqb-false k i f in next (omega arith)
-
-  pub own-offers : (i : ℕ) → i < l .count → offersOf l (addressAt l i) ≡ offersAt l i
-  unfolding offersOf
-  own-offers i h = own-from i (endpoints l) 0 (omega arith) (omega (arith, count-most)) h
-
 -- an entry's flags, read back
 pub entry-flags : (n address flags : ℕ) → flags < 2 ^ 56 → entryFlags (n ∷ entryOf address flags) 0 ≡ flags
 unfolding leAt bytesOf
@@ -238,15 +201,6 @@ entry-flags n address flags h = number-bytes 7 flags h
 pub one-entry : (l : FaceLimits) (address flags : ℕ) → flags < 256 → faceItem l (1 ∷ entryOf address flags) 0 ≡ itemOf (firstOf ((eqb (offersOf l address) 0 ⇒ 0x04) ∷ (not (isChoice (choiceOf (offersOf l address) flags)) ⇒ 0x08) ∷ [])) (S.Face address flags)
 unfolding faceItem entryRefusal seenIn
 one-entry l address flags h = rw (entry-flags 1 address flags (omega arith))
-
--- a sound setting of a listed endpoint is accepted in such a payload
-pub setting-given : (l : FaceLimits) (address flags : ℕ) → flags < 256 → (offersOf l address ≡ 0 → ⊥) → faceRefusal (offersOf l address) flags ≡ 0 → faceItem l (1 ∷ entryOf address flags) 0 ≡ Given (S.Face address flags)
-unfolding faceRefusal itemOf
-setting-given l address flags h known e = one-entry l address flags h ∙ rw (ne-eqb (offersOf l address) 0 known) (go (isChoice (choiceOf (offersOf l address) flags)) e)
-  where
-    go : (b : Bool) → _≡_ {A = ℕ} (cond b 0 0x08) 0 → itemOf (firstOf ((not b ⇒ 0x08) ∷ [])) (S.Face address flags) ≡ Given (S.Face address flags)
-    go true f = refl
-    go false f = absurd (omega arith)
 
 -- what an accepted entry gives: its own bytes, for a listed endpoint that no entry before it names and that offers its flags
 pub record Accepted (l : FaceLimits) (s : List ℕ) (i address flags : ℕ) : Type 0 where
@@ -278,39 +232,6 @@ accepted l s i address flags e =
       new = t .1;
       sound = rw (← p, ← q, t .2);
     }
-
--- a setting that a valid profile's endpoint offers is one of D0, D1 and D2
-module _ (l : FaceLimits) (valid : faceValid l ≡ true) (address flags : ℕ) (h : flags < 2 ^ 56) where
-  pub chosen-flag : (p : ℕ) → choiceOf (offersOf l address) flags ≡ C.At p → (flags ≡ 2 ^ p) × (p < 3)
-  chosen-flag p e = chosen-is 3 (offersOf l address) flags p (offers-small l valid address) h e
-
-  small : (p : ℕ) → flags ≡ 2 ^ p → p < 3 → (0 < flags) × (flags < 8)
-  small zero e q = omega arith
-  small (suc zero) e q = omega arith
-  small (suc (suc zero)) e q = omega arith
-  small (suc (suc (suc p))) e q = absurd (omega arith)
-
-  pub setting-small : faceRefusal (offersOf l address) flags ≡ 0 → (0 < flags) × (flags < 8)
-  unfolding faceRefusal isChoice
-  setting-small e = go (choiceOf (offersOf l address) flags) refl e
-    where
-      go : (c : Choice) → choiceOf (offersOf l address) flags ≡ c → _≡_ {A = ℕ} (cond (isChoice c) 0 0x08) 0 → (0 < flags) × (flags < 8)
-      go (C.At p) f g = let q = chosen-flag p f in small p (q .0) (q .1)
-      go C.Refused f g = absurd (omega arith)
-
--- so are the flags that an accepted entry of a payload of bytes gives
-pub accepted-small : (l : FaceLimits) (s : List ℕ) (i address flags : ℕ) → faceValid l ≡ true → Bytes s → faceItem l s i ≡ Given (S.Face address flags) → (0 < flags) × (flags < 8)
-accepted-small l s i address flags valid bytes e =
-    let a = accepted l s i address flags e in
-    let h : flags < 2 ^ 56 = rw (← a .flags-read) (below 7 7 s (2 + 8 * i) bytes (lit≤ tt)) in
-    setting-small l valid address flags h (a .sound)
-
--- a setting put in at its address is held there, and every other address keeps its own
-pub held-same : (held : List ℕ) (address flags : ℕ) → address - 0x81 < length held → heldAt (set held (address - 0x81) flags) address ≡ flags
-held-same held address flags h = getD-set-same held (address - 0x81) flags 0 h
-
-pub held-other : (held : List ℕ) (address other flags : ℕ) → 0x81 ≤ address → 0x81 ≤ other → (other ≡ address → ⊥) → heldAt (set held (address - 0x81) flags) other ≡ heldAt held other
-held-other held address other flags h k p = getD-set-other held (address - 0x81) (other - 0x81) flags 0 (λ e. p (omega arith))
 
 -- while no setting is held CUR is DEF
 module _ (l : FaceLimits) (held : List ℕ) (none : (address : ℕ) → heldAt held address ≡ 0) where

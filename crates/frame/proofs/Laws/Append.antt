@@ -14,7 +14,7 @@ use Rattle.wire.proofs.Laws.Overlay.{fits, same-length}
 use Rattle.frame.specs.declared.writer.Appended.{Appended}
 use Rattle.frame.specs.Ids.{isKnown}
 use Rattle.frame.specs.Writer.{itemBytes, endOf, appendRefusal, appendedOf, writtenOf}
-use Rattle.frame.proofs.Laws.Rows.{passes}
+use Rattle.wire.proofs.Laws.Rows.{passes}
 
 module _ (room at id len : ℕ) where
   pub id-unknown : isKnown id ≡ false → 0x41 ≡ appendRefusal room at id len

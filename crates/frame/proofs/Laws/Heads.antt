@@ -11,7 +11,7 @@ use Rattle.frame.specs.declared.items.Head.{Head}
 use Rattle.frame.specs.declared.items.Head.the-variants.{Bad, Whole}
 use Rattle.frame.specs.Ids.{isKnown}
 use Rattle.frame.specs.Items.{idOf, sizeOf, refusal, headOf}
-use Rattle.frame.proofs.Laws.Rows.{passes}
+use Rattle.wire.proofs.Laws.Rows.{passes}
 
 module _ (s : List ℕ) where
   pub head-short : length s < 8 → Bad 0x40 ≡ headOf s

@@ -10,7 +10,7 @@ use borrow.Author.Tests.{lt-ltb, le-ltb, ltb-false, eqb-true}
 use Rattle.wire.specs.Flags.{isSet}
 use Rattle.frame.specs.declared.packet.PayloadHeader.{PayloadHeader}
 use Rattle.frame.specs.Packet.{lengthOf, flagsOf, fieldLength, fieldsLength, headerRefusal, refusedHeader, headerOf}
-use Rattle.frame.proofs.Laws.Rows.{passes}
+use Rattle.wire.proofs.Laws.Rows.{passes}
 
 pub field-there : (flags flag len : ℕ) → isSet flags flag ≡ true → len ≡ fieldLength flags flag len
 field-there flags flag len e = simp e

@@ -8,7 +8,7 @@ use Rattle.wire.specs.Rows.{Row, firstOf}
 use Rattle.request.specs.Setup.{selectorOf}
 use Rattle.request.specs.Table.{Table}
 use Rattle.request.specs.Tests.{requestTests}
-use Rattle.request.proofs.Laws.Rows.{first-append}
+use Rattle.wire.proofs.Laws.Rows.{first-append}
 
 -- two tables that agree on what a request looks at
 pub record Agree (t u : Table) (setup payload : List ℕ) : Type 0 where

@@ -1,15 +1,15 @@
 -- The list of a snapshot's records in order agrees with the record of each key. Assumes nothing.
 use Prim.Native.Nat.{ℕ, zero, suc, _+_, _≤_, _<_}
 use native.Mathlib.Omega.{arith}
-use mathlib.Core.Path.{_≡_, refl, sym, ap, _∙_, subst}
-use mathlib.Core.Bool.{Bool, true, false, cond}
+use mathlib.Core.Path.{_≡_, refl, sym, ap, _∙_}
+use mathlib.Core.Bool.{Bool, true, false}
 use mathlib.Core.List.{List, [], _∷_, _++_}
 use mathlib.Core.Option.{Option, none, some}
 use lib.ListN.{length, take, drop, length-drop}
 use lib.Dec.{leb, eqb}
 use borrow.Author.Tests.{leb-true, leb-false, eqb-true, eqb-false, ne-eqb}
 use Rattle.snapshot.specs.Form.{sizeOf, sound, formed, wellFormed}
-use Rattle.snapshot.specs.Records.{stands, skip, from, recordAt, decode, bytes, records, encode, Entry, split, recordsOf, find, Ascending, joined, Each}
+use Rattle.snapshot.specs.Records.{stands, skip, from, recordAt, decode, bytes, records, encode, Entry, split, recordsOf, find, Ascending, joined}
 use Rattle.snapshot.proofs.Laws.Sound.{parts-sound, stands-sound, stands-size, stands-long, stands-some}
 use Rattle.snapshot.proofs.Laws.Maps.{decode-good, none-above}
 use Rattle.snapshot.proofs.Laws.Form.{empty-nil, formed-end, formed-at, formed-not, encode-decode}
@@ -128,31 +128,3 @@ entries-joined (suc n) k m = go (m k) (entries-joined n (suc k) m)
 pub records-joined : (s : List ℕ) → wellFormed s ≡ true → joined (recordsOf s) ≡ s
 unfolding encode
 records-joined s w = ap joined (records-entries s w) ∙ entries-joined 19 0 (decode s) ∙ encode-decode s w
-
-each-entries : (P : ℕ → List ℕ → Type 0) (n k : ℕ) (m : ℕ → Option (List ℕ)) → ((j : ℕ) (r : List ℕ) → m j ≡ some r → P j r) → Each P (entries n k m)
-unfolding entries
-each-entries P zero k m h = tt
-each-entries P (suc n) k m h = go (m k) refl (each-entries P n (suc k) m h)
-  where
-    go : (o : Option (List ℕ)) → m k ≡ o → Each P (entries n (suc k) m) → Each P (entryAt k o ++ entries n (suc k) m)
-    go none e q = q
-    go (some r) e q = (h k r e, q)
-
--- what holds of the record of each key holds of each record of the list
-pub decode-each : (P : ℕ → List ℕ → Type 0) (s : List ℕ) → wellFormed s ≡ true → ((k : ℕ) (r : List ℕ) → decode s k ≡ some r → P k r) → Each P (recordsOf s)
-decode-each P s w h = rw (records-entries s w) (each-entries P 19 0 (decode s) h)
-
-some-same : {A : Type 0} (a b : A) → _≡_ {A = Option A} (some a) (some b) → a ≡ b
-some-same a b e = cc
-
-each-find : (P : ℕ → List ℕ → Type 0) (l : List Entry) → Each P l → (k : ℕ) (r : List ℕ) → find k l ≡ some r → P k r
-each-find P [] p k r e = absurd (let z : _≡_ {A = ℕ} 0 1 = cc in omega arith)
-each-find P (x ∷ l) p k r e = go (eqb (x .0) k) refl e (each-find P l (p .1) k r)
-  where
-    go : (b : Bool) → eqb (x .0) k ≡ b → cond b (some (x .1)) (find k l) ≡ some r → (find k l ≡ some r → P k r) → P k r
-    go true q e ih = subst (λ j. P j r) (eqb-true (x .0) k q) (subst (λ y. P (x .0) y) (some-same (x .1) r e) (p .0))
-    go false q e ih = ih e
-
--- and back
-pub each-decode : (P : ℕ → List ℕ → Type 0) (s : List ℕ) → wellFormed s ≡ true → Each P (recordsOf s) → (k : ℕ) (r : List ℕ) → decode s k ≡ some r → P k r
-each-decode P s w p k r e = each-find P (recordsOf s) p k r (find-records s w k ∙ e)

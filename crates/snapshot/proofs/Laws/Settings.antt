@@ -1,19 +1,16 @@
 -- The snapshot of two runs of settings is the first's merged with the second's, and the settings of a snapshot's records are their values.
 -- Assumes nothing.
-use Prim.Native.Nat.{ℕ, suc, _+_, _<_}
-use native.Mathlib.Omega.{arith}
+use Prim.Native.Nat.{ℕ, _+_}
 use mathlib.Core.Path.{_≡_, refl, sym, ap, ap₂, _∙_, subst, fun-ext}
 use mathlib.Core.Bool.{Bool, true, false, cond}
 use mathlib.Core.List.{List, [], _∷_, _++_}
 use mathlib.Core.Option.{Option, none, some, Option·map}
 use lib.Dec.{eqb}
-use borrow.Author.Tests.{eqb-true, ne-eqb}
-use Rattle.snapshot.specs.Form.{wellFormed}
-use Rattle.snapshot.specs.Records.{decode, encode, Record, GoodAt, Good, Entry, recordsOf, find, Ascending}
+use borrow.Author.Tests.{eqb-true}
+use Rattle.snapshot.specs.Records.{encode, Record, GoodAt, Good}
 use Rattle.snapshot.specs.Merge.{over, overs, merged}
-use Rattle.snapshot.specs.Settings.{Setting, lastOf, snapshotOf, Rows, valuesOf}
+use Rattle.snapshot.specs.Settings.{Setting, lastOf, snapshotOf, Rows}
 use Rattle.snapshot.proofs.Laws.Maps.{decode-encode}
-use Rattle.snapshot.proofs.Laws.Entries.{find-records, records-ascend}
 use Rattle.snapshot.proofs.Laws.Merging.{over-assoc, over-none}
 
 pub last-append : {Value : Type 0} (a b : List (Setting Value)) (k : ℕ) → lastOf (a ++ b) k ≡ over (lastOf a k) (lastOf b k)
@@ -49,23 +46,3 @@ module _ {Value : Type 0} (row : ℕ → Value → List ℕ) where
   snapshot-append a b p q =
       ap encode (fun-ext λ k. ap (Option·map (row k)) (last-append a b k) ∙ over-map (row k) (lastOf a k) (lastOf b k))
       ∙ ap₂ (λ m n. encode (overs m n)) (sym (decode-encode _ (rows-good a p))) (sym (decode-encode _ (rows-good b q)))
-
-module _ {Value : Type 0} (value : ℕ → List ℕ → Value) where
-  none-before : (low k : ℕ) (l : List Entry) → Ascending low l → k < low → lastOf (valuesOf value l) k ≡ none
-  none-before low k [] p h = refl
-  none-before low k (x ∷ l) p h = ap₂ over (simp (ne-eqb (x .0) k (let q = p .0 in omega arith))) (none-before (suc (x .0)) k l (p .1) (let q = p .0 in omega arith))
-
-  last-find : (low k : ℕ) (l : List Entry) → Ascending low l → lastOf (valuesOf value l) k ≡ Option·map (value k) (find k l)
-  last-find low k [] p = refl
-  last-find low k (x ∷ l) p = go (eqb (x .0) k) refl (last-find (suc (x .0)) k l (p .1))
-    where
-      go : (b : Bool) → eqb (x .0) k ≡ b → lastOf (valuesOf value l) k ≡ Option·map (value k) (find k l)
-          → over (cond b (some (value (x .0) (x .1))) none) (lastOf (valuesOf value l) k) ≡ Option·map (value k) (cond b (some (x .1)) (find k l))
-      go true e ih =
-          let q : x .0 ≡ k = eqb-true (x .0) k e in
-          ap (over (some (value (x .0) (x .1)))) (none-before (suc (x .0)) k l (p .1) (omega arith)) ∙ ap (λ j. some (value j (x .1))) q
-      go false e ih = over-none (lastOf (valuesOf value l) k) ∙ ih
-
-  -- what a well-formed snapshot's records set, one after the other
-  pub last-records : (s : List ℕ) → wellFormed s ≡ true → (k : ℕ) → lastOf (valuesOf value (recordsOf s)) k ≡ Option·map (value k) (decode s k)
-  last-records s w k = last-find 0 k (recordsOf s) (records-ascend s w) ∙ ap (Option·map (value k)) (find-records s w k)
