@@ -8,6 +8,7 @@ use lib.ListN.{getD}
 use Rattle.controls.specs.declared.settings.Item.{Item}
 use Rattle.controls.specs.declared.settings.Item.the-variants.{Absent, Refused, Given}
 use Rattle.controls.specs.declared.settings.Setting.{Setting}
+use Rattle.controls.specs.Settings.{codeOf}
 use Rattle.exposure.specs.Ev.{evItem}
 use Rattle.face.specs.Face.{faceItem}
 use Rattle.controls.specs.Metadata.{metadataItem}
@@ -17,21 +18,10 @@ use Rattle.camera.specs.declared.profile.Profile.{Profile}
 use Rattle.camera.specs.declared.record.Camera.{Camera}
 use Rattle.camera.specs.Record.{keyOf, put}
 
--- an item as the setting that it gives or holds, and back
-abbrev pub settingOf : Item → Option Setting
-settingOf Absent = none
-settingOf (Refused code) = none
-settingOf (Given s) = some s
-
+-- an item of a setting held
 abbrev pub itemHeld : Option Setting → Item
 itemHeld none = Absent
 itemHeld (some s) = Given s
-
--- the number of an item, 0 where it is taken or absent
-unfoldable pub codeOf : Item → ℕ
-codeOf Absent = 0
-codeOf (Refused code) = code
-codeOf (Given s) = 0
 
 -- the settings that it gives, each with its key
 unfoldable pub givenOf : Item → List (ℕ × Setting)

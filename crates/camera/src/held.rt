@@ -10,8 +10,9 @@ use controls::Setting;
 use controls::throttle::Throttle;
 use exposure::Ev;
 ghost use mathlib.Core.Path.{_≡_};
+ghost use Rattle.controls.specs.Settings.{settingOf};
 ghost use Rattle.camera.specs.Record.{evHeld, faceHeld, metadataHeld, hdrHeld, throttleHeld, held, kept, wellFormed};
-ghost use Rattle.camera.specs.Items.{itemHeld, settingOf};
+ghost use Rattle.camera.specs.Items.{itemHeld};
 
 fn held_ev(held: Ev) -> Item
     ensures { λ r. ⌜ r ≡ itemHeld (evHeld held) ⌝ }

@@ -17,7 +17,6 @@ ghost use mathlib.Core.Path.{_≡_};
 ghost use Rattle.camera.specs.Items.{firstRefusal, puts};
 ghost use Rattle.camera.specs.Snapshots.{selectorAt, recordItem, itemIn, loadItem, loadGives, loaded};
 
-// The selector of a key.
 fn selector_at(key: usize) -> u8
     ensures { λ r. ⌜ r ≡ selectorAt key ⌝ }
 {

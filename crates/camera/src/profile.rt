@@ -32,7 +32,6 @@ pub struct Profile {
     pub throttle: ThrottleLimits,
 }
 
-// Whether the profile has the control of a selector.
 pub(crate) fn has_control(p: Profile, selector: u8) -> bool
     ensures { λ r. ⌜ r ≡ hasControl (p .controls) selector ⌝ }
 {

@@ -17,9 +17,10 @@ use wire::uvc::INVALID_REQUEST;
 use wire::uvc::OUT_OF_RANGE;
 use wire::uvc::WRONG_STATE;
 ghost use mathlib.Core.Path.{_≡_};
+ghost use Rattle.controls.specs.Settings.{codeOf};
 ghost use Rattle.camera.specs.Profile.{takes};
 ghost use Rattle.camera.specs.Record.{selectorOf, controlRefusal, valueRefusal, putFace, put, withStreaming};
-ghost use Rattle.camera.specs.Items.{codeOf, itemAt, givenOf, puts};
+ghost use Rattle.camera.specs.Items.{itemAt, givenOf, puts};
 
 pub(crate) fn selector_of(s: Setting) -> u8
     ensures { λ r. ⌜ r ≡ selectorOf s ⌝ }
@@ -65,7 +66,6 @@ fn face_refusal(p: Profile, address: u8, flags: u8) -> u8
     face::refusal(offers, flags as u64)
 }
 
-// The value tests of a setting.
 pub(crate) fn value_refusal(p: Profile, s: Setting) -> u8
     ensures { λ r. ⌜ r ≡ valueRefusal p s ⌝ }
 {

@@ -11,7 +11,7 @@ ghost use mathlib.Core.Path.{_≡_};
 ghost use Prim.Native.Nat.{_≤_};
 ghost use lib.ListN.{length};
 ghost use Rattle.wire.specs.Overlay.{overlay};
-ghost use Rattle.camera.specs.Items.{settingOf};
+ghost use Rattle.controls.specs.Settings.{settingOf};
 ghost use Rattle.camera.specs.Snapshots.{framed, recordOf, row, rowHeld, snapshot, written, writtenOut};
 
 // A record's bytes, with as many zeros behind them as make 24.

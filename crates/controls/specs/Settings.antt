@@ -1,16 +1,28 @@
 -- Settings, whichever control they are of.
 use Prim.Native.Nat.{ℕ}
+use mathlib.Core.Option.{Option, none, some}
 use mathlib.Core.Bool.{cond}
 use lib.Dec.{eqb}
 use Rattle.controls.specs.declared.settings.Number.{Number}
 use Rattle.controls.specs.declared.settings.Number.the-variants.{Unset, Held}
 use Rattle.controls.specs.declared.settings.Setting.{Setting}
 use Rattle.controls.specs.declared.settings.Item.{Item}
-use Rattle.controls.specs.declared.settings.Item.the-variants.{Refused, Given}
+use Rattle.controls.specs.declared.settings.Item.the-variants.{Absent, Refused, Given}
 
 -- what an item comes to by the number that its tests give: 0 is acceptance
 unfoldable pub itemOf : ℕ → Setting → Item
 itemOf code s = cond (eqb code 0) (Given s) (Refused code)
+
+-- an item's number, 0 where it is taken or absent, and its setting
+unfoldable pub codeOf : Item → ℕ
+codeOf Absent = 0
+codeOf (Refused code) = code
+codeOf (Given s) = 0
+
+abbrev pub settingOf : Item → Option Setting
+settingOf Absent = none
+settingOf (Refused code) = none
+settingOf (Given s) = some s
 
 -- the number held, or n while there is none
 unfoldable pub numberOr : ℕ → Number → ℕ

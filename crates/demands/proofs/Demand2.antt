@@ -24,7 +24,7 @@ use Rattle.controls.specs.declared.settings.Number.{Number}
 use Rattle.controls.specs.declared.settings.Number.the-variants as N
 use Rattle.controls.specs.declared.settings.Setting.the-variants as S
 use Rattle.controls.specs.Answers.{answerBy}
-use Rattle.controls.specs.Settings.{numberOr}
+use Rattle.controls.specs.Settings.{numberOr, settingOf}
 use Rattle.exposure.specs.Ev as ev
 use Rattle.face.specs.Face.{endpoints, addressAt, entryAddress, entryFlags, entryOf, heldAt, flagsAt}
 use Rattle.controls.specs.Metadata.{metadataAt, metadataAnswer}
@@ -36,7 +36,7 @@ use Rattle.camera.specs.declared.profile.Profile.{Profile}
 use Rattle.camera.specs.declared.record.Camera.{Camera}
 use Rattle.camera.specs.Profile.{has, takes}
 use Rattle.camera.specs.Record.{fresh, evHeld, metadataHeld, hdrHeld, throttleHeld, held, valueRefusal, controlRefusal, wellFormed}
-use Rattle.camera.specs.Items.{settingOf, allGiven, puts, setRefusal, setGives}
+use Rattle.camera.specs.Items.{allGiven, puts, setRefusal, setGives}
 use Rattle.camera.specs.Requests.{answerOf, asked, sentCount, valueTests, requestRows, requestCode, requestDone, requested, replied}
 use Rattle.camera.specs.Snapshots.{selectorAt, itemFor, loadGives, snapshot}
 use Rattle.camera.specs.Calls.{sensed, Call, request, load, outcome, left, next}

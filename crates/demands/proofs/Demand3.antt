@@ -20,12 +20,13 @@ use Rattle.snapshot.proofs.Laws.Answers.{Answer}
 use Rattle.snapshot.proofs.Laws.Answers as answers
 use Rattle.snapshot.proofs.Laws.Settings.{rows-append, snapshot-append}
 use Rattle.controls.specs.declared.settings.Setting.{Setting}
+use Rattle.controls.specs.Settings.{settingOf, codeOf}
 use Rattle.camera.specs.declared.profile.Profile.{Profile}
 use Rattle.camera.specs.declared.record.Camera.{Camera}
 use Rattle.camera.specs.declared.calls.Outcome.{Outcome}
 use Rattle.camera.specs.Profile.{profileValid}
 use Rattle.camera.specs.Record.{fresh, held, wellFormed}
-use Rattle.camera.specs.Items.{settingOf, codeOf, puts}
+use Rattle.camera.specs.Items.{puts}
 use Rattle.camera.specs.Requests.{refused}
 use Rattle.camera.specs.Snapshots.{loadTests, loadCode, loadGives, loaded, itemFor, row, snapshot, writeCode, written, writtenOut}
 use Rattle.camera.specs.Calls.{Call, load}

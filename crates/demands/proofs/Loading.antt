@@ -14,11 +14,12 @@ use Rattle.snapshot.specs.Records as records
 use Rattle.snapshot.proofs.Laws.Maps.{decode-good}
 use Rattle.snapshot.proofs.Laws.Entries.{entryAt, entries, records-entries}
 use Rattle.controls.specs.declared.settings.Setting.{Setting}
+use Rattle.controls.specs.Settings.{codeOf}
 use Rattle.camera.specs.declared.profile.Profile.{Profile}
 use Rattle.camera.specs.declared.record.Camera.{Camera}
 use Rattle.camera.specs.Profile.{profileValid}
 use Rattle.camera.specs.Record.{held, kept, wellFormed}
-use Rattle.camera.specs.Items.{codeOf, givenOf, firstRefusal, allGiven, puts}
+use Rattle.camera.specs.Items.{givenOf, firstRefusal, allGiven, puts}
 use Rattle.camera.specs.Snapshots.{itemFor, loadItem, loadTests, loadGives, loaded, row}
 use Rattle.camera.specs.Calls.{request, load, next}
 use Rattle.camera.proofs.Laws.Items.{puts-append}

@@ -4,7 +4,7 @@ use mathlib.Core.List.{map}
 use Rattle.wire.specs.Number.{number, leAt, bytesOf}
 use Rattle.wire.specs.Flags.{isSet, bitsOf, count, first, choiceOf}
 use Rattle.request.specs.Tests.{requestTests}
-use Rattle.controls.specs.Settings.{itemOf}
+use Rattle.controls.specs.Settings.{itemOf, codeOf}
 use Rattle.exposure.specs.Ev.{signed32, bits32, inRange, refusalAt, evRefusal, evItem, evBytes, scaledAt, scaledOf, compensation}
 use Rattle.face.specs.Face.{allBelow, addressBefore, endpointValid, faceValid}
 use Rattle.controls.specs.Hdr.{hdrRefusal, hdrItem}
@@ -12,7 +12,7 @@ use Rattle.controls.specs.Throttle.{throttleRefusal, throttleItem, throttleByte
 use Rattle.snapshot.specs.Records.{records, encode}
 use Rattle.camera.specs.Profile.{presenceValid, profileValid}
 use Rattle.camera.specs.Record.{fresh, held, put, valueRefusal, controlRefusal, kept, wellFormed}
-use Rattle.camera.specs.Items.{codeOf, givenOf, firstRefusal, allGiven, puts, itemAt, setRefusal, setGives}
+use Rattle.camera.specs.Items.{givenOf, firstRefusal, allGiven, puts, itemAt, setRefusal, setGives}
 use Rattle.camera.specs.Requests.{valueTests, requestRows, requestCode, requestDone, requested}
 use Rattle.camera.specs.Snapshots.{row, snapshot}
 use Rattle.camera.specs.Calls.{sensed}

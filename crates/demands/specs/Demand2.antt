@@ -23,12 +23,12 @@ use Rattle.controls.specs.declared.settings.Setting.the-variants as S
 use Rattle.exposure.specs.Ev.{divisor, evBytes}
 use Rattle.face.specs.Face.{endpoints, addressAt, entryAddress, entryFlags, entryOf, heldAt, flagsAt}
 use Rattle.controls.specs.Throttle.{throttleBytes}
+use Rattle.controls.specs.Settings.{settingOf}
 use Rattle.camera.specs.declared.profile.Profile.{Profile}
 use Rattle.camera.specs.declared.record.Camera.{Camera}
 use Rattle.camera.specs.Selectors.{Control}
 use Rattle.camera.specs.Profile.{has, takes, table}
 use Rattle.camera.specs.Record.{held}
-use Rattle.camera.specs.Items.{settingOf}
 use Rattle.camera.specs.Requests.{answerOf}
 use Rattle.camera.specs.Snapshots.{loadItem, row, snapshot}
 use Rattle.camera.specs.Calls.{sensed, Call, request, outcome, left, next}

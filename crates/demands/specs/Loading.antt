@@ -12,11 +12,12 @@ use Rattle.wire.specs.Uvc.{setCur}
 use Rattle.request.specs.Tests.{requestTests}
 use Rattle.snapshot.specs.Records.{Entry, recordsOf, Each}
 use Rattle.controls.specs.declared.settings.Setting.{Setting}
+use Rattle.controls.specs.Settings.{codeOf}
 use Rattle.camera.specs.declared.profile.Profile.{Profile}
 use Rattle.camera.specs.declared.record.Camera.{Camera}
 use Rattle.camera.specs.Profile.{table}
 use Rattle.camera.specs.Record.{held, wellFormed}
-use Rattle.camera.specs.Items.{codeOf, givenOf}
+use Rattle.camera.specs.Items.{givenOf}
 use Rattle.camera.specs.Requests.{valueTests}
 use Rattle.camera.specs.Snapshots.{selectorAt, recordItem, loaded, row}
 use Rattle.camera.specs.Calls.{Call, request, load}

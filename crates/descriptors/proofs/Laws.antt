@@ -7,5 +7,9 @@ pub mod Stops
 pub mod Whole
 pub mod Scan
 pub mod Answer
+pub mod Reached
+pub mod FirstFault
+pub mod Listed
+pub mod Places
 pub mod Levels
 pub mod Order

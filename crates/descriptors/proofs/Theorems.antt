@@ -1,30 +1,37 @@
 -- What the owner demands of descriptor sets, said of the definitions that the promises of `src/` equate the calls' answers to. Assumes nothing.
 use Prim.Native.Nat.{ℕ, zero, suc, _+_, _-_, _%_, _≤_, _<_}
-use mathlib.Core.Path.{_≡_, refl, sym, _∙_, ap}
-use mathlib.Core.List.{List, [], _∷_, _++_}
+use mathlib.Core.Path.{_≡_, refl, sym, _∙_, ap, ap₂}
+use mathlib.Core.List.{List, [], _∷_, _++_, List·Memᴰ}
 use mathlib.Core.Bool.{Bool, true, false, not, _||_, or-true, cond, false≢true}
-use mathlib.Core.Logic.{_⊎_, inl, inr}
+use mathlib.Core.Logic.{_⊎_, inl, inr, _↔_}
 use native.Mathlib.Omega.{arith}
 use lib.ListN.{length, take, drop, length-drop}
 use lib.Seq.{length-take-le}
 use lib.Dec.{eqb}
 use borrow.Author.Tests.{leb-true, eqb-true, eq-eqb}
 use Rattle.wire.specs.Number.{leAt}
+use Rattle.descriptors.specs.declared.header.Interface.{Interface}
+use Rattle.descriptors.specs.declared.header.Interface.the-variants.{Nowhere, First}
 use Rattle.descriptors.specs.declared.header.Parent.{Parent}
 use Rattle.descriptors.specs.declared.header.Parent.the-variants.{Set, Configuration, Function}
 use Rattle.descriptors.specs.declared.header.Descriptor.the-variants.{Subset}
 use Rattle.descriptors.specs.declared.properties.RegistryProperty.{RegistryProperty}
 use Rattle.descriptors.specs.Codes.{badSetHeader, badField, noProperty}
-use Rattle.descriptors.specs.Header.{lengthAt, kindAt, nameLengthAt, nameEndAt, dataLengthAt, propertyTests, goodFields, descriptorAt}
+use Rattle.descriptors.specs.Header.{lengthAt, typeAt, kindAt, nameLengthAt, nameEndAt, dataLengthAt, propertyTests, goodFields, refusal, descriptorAt, interfaceOf}
 use Rattle.descriptors.specs.Reading.{Entry, Finding, refused, sound, contentsOf, goodHeader, setOf, isSound, listed, propertiesOf}
 use Rattle.descriptors.specs.Property.{refusedWith, foundAt, nth, inFinding, propertyOf, bytesOf}
 use Rattle.descriptors.specs.Calls.{Call, check, property, name, value, codeOf, partsOf}
-use Rattle.descriptors.specs.Levels.{spansOf, Level, top, inside, Follows, Ascends}
+use Rattle.descriptors.specs.Levels.{spansOf, Reached, top, behind, inside, Stands, InFunction, Follows, Ascends}
 use Rattle.descriptors.proofs.Laws.Sound.{holds, sum-holds, known-as}
+use Rattle.descriptors.proofs.Laws.Contents.{sound-accepts}
 use Rattle.descriptors.proofs.Laws.Proper.{Lies, AllLie, Proper, contents-proper}
 use Rattle.descriptors.proofs.Laws.Whole.{sound-header, header-room, good-set}
 use Rattle.descriptors.proofs.Laws.Answer.{Coded, set-coded}
-use Rattle.descriptors.proofs.Laws.Levels.{level-opened, level-follows}
+use Rattle.descriptors.proofs.Laws.Reached.{bounds, held, to-stands}
+use Rattle.descriptors.proofs.Laws.FirstFault.{held-sound, first-fault}
+use Rattle.descriptors.proofs.Laws.Listed.{listed-stands, stands-listed}
+use Rattle.descriptors.proofs.Laws.Places.{same-place, in-function, function-around}
+use Rattle.descriptors.proofs.Laws.Levels.{level-follows}
 use Rattle.descriptors.proofs.Laws.Order.{contents-ordered}
 
 -- Demand 1, nothing leaks from a refusal: whatever call is refused, every part of the set that it hands back is empty.
@@ -53,23 +60,102 @@ refusals-are-empty s (property k) n = let e = property-parts s k n in (e .0, (e 
 refusals-are-empty s (name k) n = (property-parts s k n .0, tt)
 refusals-are-empty s (value k) n = (property-parts s k n .1, tt)
 
--- Demand 1, the place of a fault: a refusal is of the set's header, at 0, or of a descriptor, which starts inside the set.
-pub fault-place : (s : List ℕ) (code offset : ℕ) → setOf s ≡ refused code offset
-    → ((code ≡ badSetHeader) × (offset ≡ 0)) ⊎ ((0 < code) × (code ≤ badField) × (offset < length s))
+-- Demand 1, the place of a fault: a set is refused for its own header, at 0, or for the first of the faulty descriptors that stand in it, at whatever
+-- level, by that descriptor's own refusal. No two descriptors stand at one offset, so a set has one first fault, and it is refused for that one.
+pub record FirstFault (s : List ℕ) (code offset : ℕ) : Type 0 where
+  pub parent : Parent
+  pub end : ℕ
+  pub stands : Stands s parent offset end
+  pub refused-there : refusal s parent offset end ≡ code
+  pub faulty : (0 < code) × (code ≤ badField)
+  pub within : offset < length s
+  pub none-before : (p : Parent) (at stop : ℕ) → Stands s p at stop → at < offset → refusal s p at stop ≡ 0
+
+-- what a set is refused for
+abbrev pub RefusedFor : List ℕ → ℕ → ℕ → Type 0
+RefusedFor s code offset = ((goodHeader s ≡ false) × (code ≡ badSetHeader) × (offset ≡ 0)) ⊎ ((goodHeader s ≡ true) × FirstFault s code offset)
+
+pub one-place : (s : List ℕ) (p q : Parent) (at end stop : ℕ) → Stands s p at end → Stands s q at stop → (p ≡ q) × (end ≡ stop)
+one-place s p q at end stop d e =
+    same-place s p q at end at stop Set 10 (length s) (held s _ p at end (d .reached)) (held s _ q at stop (e .reached)) refl (d .more) (e .more)
+
+pub fault-place : (s : List ℕ) (code offset : ℕ) → setOf s ≡ refused code offset → RefusedFor s code offset
 unfolding setOf
-fault-place s code offset = go (goodHeader s) (contentsOf s Set 10 (length s)) (contents-proper s Set 10 (length s) (omega arith))
+fault-place s code offset = go (goodHeader s) refl
   where
-    go : (g : Bool) (f : Finding) → Proper s f → cond g f (refused badSetHeader 0) ≡ refused code offset
-        → ((code ≡ badSetHeader) × (offset ≡ 0)) ⊎ ((0 < code) × (code ≤ badField) × (offset < length s))
-    go true (refused c o) r e =
-        let code-is : c ≡ code = cc in
-        let offset-is : o ≡ offset = cc in
-        inr (omega arith)
-    go true (sound ps) r e = absurd (let z : _≡_ {A = ℕ} 0 1 = cc in omega arith)
-    go false f r e = inl (cc, cc)
+    go : (g : Bool) → goodHeader s ≡ g → cond g (contentsOf s Set 10 (length s)) (refused badSetHeader 0) ≡ refused code offset → RefusedFor s code offset
+    go true h e =
+        let f = first-fault s code offset Set 10 (length s) (omega arith) e in
+        let p : Proper s (refused code offset) = rw e at (contents-proper s Set 10 (length s) (omega arith)) in
+        inr (
+          h,
+          record {
+            parent = f .parent;
+            end = f .stop;
+            stands = to-stands s (f .parent) offset (f .stop) 0 Set 10 (length s) (f .holds) top (f .more);
+            refused-there = f .code-there;
+            faulty = (p .0, p .1);
+            within = p .2;
+            none-before = λ q at stop d l. f .none-before q at stop (held s _ q at stop (d .reached)) (d .more) l;
+          },
+        )
+    go false h e = inl (h, cc, cc)
+
+-- a sound set is one with a good header in which no test refuses a descriptor that stands in it
+pub record Accepted (s : List ℕ) : Type 0 where
+  pub header : goodHeader s ≡ true
+  pub descriptors : (p : Parent) (at end : ℕ) → Stands s p at end → refusal s p at end ≡ 0
+
+module _ (s : List ℕ) where
+  -- what is reached in a sound set is read without a fault
+  read-on : isSound (setOf s) ≡ true → (d : ℕ) (p : Parent) (at end : ℕ) → Reached s d p at end → (at ≤ end) × (end ≤ length s) × (isSound (contentsOf s p at end) ≡ true)
+  read-on e d p at end r =
+      let good = sound-header s e in
+      let h = held s d p at end r in
+      let b = bounds s p at end Set 10 (length s) h (header-room s good) in
+      (b .1, b .2, held-sound s p at end Set 10 (length s) h (omega arith) (rw (good-set s good) at e))
+
+  pub sound-accepted : isSound (setOf s) ≡ true → Accepted s
+  sound-accepted e = record {
+    header = sound-header s e;
+    descriptors = λ p at end d. let r = read-on e _ p at end (d .reached) in sound-accepts s p at end (d .more) (r .1) (r .2);
+  }
+
+  pub accepted-sound : Accepted s → isSound (setOf s) ≡ true
+  accepted-sound a = go (setOf s) refl
+    where
+      fault : {code offset : ℕ} → RefusedFor s code offset → ⊥
+      fault (inl h) = false≢true (sym (h .0) ∙ a .header)
+      fault (inr h) = let f = h .1 in omega (arith, a .descriptors (f .parent) _ (f .end) (f .stands))
+
+      go : (f : Finding) → setOf s ≡ f → isSound f ≡ true
+      go (refused code offset) e = absurd (fault (fault-place s code offset e))
+      go (sound ps) e = refl
+
+  pub fault-refused : (code offset : ℕ) → RefusedFor s code offset → setOf s ≡ refused code offset
+  unfolding setOf
+  fault-refused code offset (inl h) = simp (h .0, h .1, h .2)
+  fault-refused code offset (inr h) = go (setOf s) refl
+    where
+      f : FirstFault s code offset
+      f = h .1
+
+      same : (c o : ℕ) → RefusedFor s c o → refused c o ≡ refused code offset
+      same c o (inl b) = absurd (false≢true (sym (b .0) ∙ h .0))
+      same c o (inr b) =
+          let g = b .1 in
+          let low : (offset < o → ⊥) = λ l. omega (arith, g .none-before (f .parent) offset (f .end) (f .stands) l) in
+          let high : (o < offset → ⊥) = λ l. omega (arith, f .none-before (g .parent) o (g .end) (g .stands) l) in
+          let at : o ≡ offset = omega arith in
+          let place = one-place s (g .parent) (f .parent) offset (g .end) (f .end) (rw at at (g .stands)) (f .stands) in
+          ap₂ refused (sym (g .refused-there) ∙ rw (place .0, place .1, at) (f .refused-there)) at
+
+      go : (r : Finding) → setOf s ≡ r → r ≡ refused code offset
+      go (refused c o) e = same c o (fault-place s c o e)
+      go (sound ps) e = absurd (omega (arith, sound-accepted (rw e) .descriptors (f .parent) offset (f .end) (f .stands)))
 
 -- Demand 2, which answer property k gets: of a faulty set its refusal; of a sound one the property that stands k-th in the set's list, and past
--- the list none. The list is in byte order.
+-- the list none. The list is in byte order, and so has each property once.
 module _ (s : List ℕ) where
   pub faulty-set : (k code offset : ℕ) → setOf s ≡ refused code offset → propertyOf s k ≡ refusedWith code offset
   unfolding propertyOf inFinding
@@ -109,6 +195,68 @@ module _ (s : List ℕ) where
       go (sound ps) e =
           let good = sound-header s (rw e) in
           rw (sym (good-set s good) ∙ e) at (contents-ordered s Set 10 (length s) (header-room s good))
+
+-- Demand 2, what the list of a sound set holds: the properties that stand in it, at whatever level, and no others. The first interface is that of the
+-- function that the property lies inside, and there is none outside a function.
+pub record StandingProperty (s : List ℕ) (q : Entry) : Type 0 where
+  pub parent : Parent
+  pub end : ℕ
+  pub stands : Stands s parent (q .at) end
+  pub property : typeAt s (q .at) ≡ 4
+  pub interface : (i : ℕ) → (q .interface ≡ First i) ↔ InFunction s (q .at) i
+
+parent-is : (p : Parent) (i : ℕ) → interfaceOf p ≡ First i → p ≡ Function i
+parent-is Set i e = absurd (let z : _≡_ {A = ℕ} 0 1 = cc in omega arith)
+parent-is Configuration i e = absurd (let z : _≡_ {A = ℕ} 0 1 = cc in omega arith)
+parent-is (Function j) i e = let same : j ≡ i = cc in rw same
+
+module _ (s : List ℕ) (p : Parent) (at end : ℕ) (d : Stands s p at end) where
+  first-interface : (i : ℕ) → (interfaceOf p ≡ First i) ↔ InFunction s at i
+  first-interface i = (λ e. function-around s at end i (rw (parent-is p i e) at d), λ f. rw (in-function s p at end i d f))
+
+  interface-is : (x : Interface) → ((i : ℕ) → (x ≡ First i) ↔ InFunction s at i) → x ≡ interfaceOf p
+  interface-is (First i) f = sym (first-interface i .1 (f i .0 refl))
+  interface-is Nowhere f = go p refl
+    where
+      go : (q : Parent) → p ≡ q → Nowhere ≡ interfaceOf q
+      go Set e = refl
+      go Configuration e = refl
+      go (Function i) e = f i .1 (first-interface i .0 (rw e))
+
+pub listed-properties : (s : List ℕ) → isSound (setOf s) ≡ true → (q : Entry) → List·Memᴰ q (propertiesOf s) ↔ StandingProperty s q
+listed-properties s e q = (one-way, other-way)
+  where
+    good : goodHeader s ≡ true
+    good = sound-header s e
+
+    inside-sound : isSound (contentsOf s Set 10 (length s)) ≡ true
+    inside-sound = rw (good-set s good) at e
+
+    one-way : List·Memᴰ q (propertiesOf s) → StandingProperty s q
+    one-way m =
+        let i = listed-stands s q Set 10 (length s) (omega arith) inside-sound (rw (good-set s good) at m) in
+        let d = to-stands s (i .parent) (q .at) (i .stop) 0 Set 10 (length s) (i .holds) top (i .more) in
+        record {
+          parent = i .parent;
+          end = i .stop;
+          stands = d;
+          property = i .property;
+          interface = λ x. rw (i .interface) (first-interface s (i .parent) (q .at) (i .stop) d x);
+        }
+
+    other-way : StandingProperty s q → List·Memᴰ q (propertiesOf s)
+    other-way p =
+        let d = p .stands in
+        rw (good-set s good)
+        (stands-listed s q Set 10 (length s) (header-room s good) (omega arith) inside-sound
+        (record {
+          parent = p .parent;
+          stop = p .end;
+          holds = held s _ (p .parent) (q .at) (p .end) (d .reached);
+          more = d .more;
+          property = p .property;
+          interface = interface-is s (p .parent) (q .at) (p .end) d (q .interface) (p .interface);
+        }))
 
 -- Demand 2, a property that is handed back lies in its descriptor and that in the set, one part behind the other, and keeps 01's rules.
 pub record Inside (s : List ℕ) (f : RegistryProperty) : Type 0 where
@@ -169,7 +317,7 @@ properties-inside s k = go (setOf s) refl (set-coded s)
     go (refused code offset) g w e = absurd (omega arith)
     go (sound ps) g w e = nth-lies s k ps (set-lies s ps g) e
 
--- Demand 1, every call ends, in a stack that is known: no stretch of a set, sound or not, is nested in more than two subsets. `walk` is called on the
+-- Demand 1, every call ends, in a stack that is known: nothing of a set, sound or not, is nested in more than two subsets. `walk` is called on the
 -- inside of the set, and again only by `read`, on the inside of a subset that `look` found: so no more than three walks are under way at a time.
 abbrev rank : Parent → ℕ
 rank Set = 2
@@ -181,27 +329,20 @@ deeper s Set at end size q e = rw (known-as s Set at end _ e .3)
 deeper s Configuration at end size q e = rw (known-as s Configuration at end _ e .3)
 deeper s (Function i) at end size q e = absurd (known-as s (Function i) at end _ e .4)
 
-depth : (s : List ℕ) (d : ℕ) (p : Parent) (from end : ℕ) → Level s d p from end → d + rank p ≡ 2
-depth s d p from end top = refl
-depth s d p from end (inside {depth = d′} {p = p′} {from = from′} {end = end′} x q l m e) =
-    let i = depth s d′ p′ from′ end′ l in
-    let j = deeper s p′ (x .at) end′ (x .size) q e in
+depth : (s : List ℕ) (d : ℕ) (p : Parent) (at end : ℕ) → Reached s d p at end → d + rank p ≡ 2
+depth s d p at end top = refl
+depth s d p at end (behind {at = at′} r l e) = depth s d p at′ end r
+depth s d p at end (inside {depth = d′} {p = p′} {at = at′} {end = end′} size q r l e) =
+    let i = depth s d′ p′ at′ end′ r in
+    let j = deeper s p′ at′ end′ size q e in
     omega arith
 
-pub shallow : (s : List ℕ) (d : ℕ) (p : Parent) (from end : ℕ) → Level s d p from end → d ≤ 2
-shallow s d p from end l = omega (arith, depth s d p from end l)
+pub shallow : (s : List ℕ) (d : ℕ) (p : Parent) (at end : ℕ) → Reached s d p at end → d ≤ 2
+shallow s d p at end r = omega (arith, depth s d p at end r)
 
--- Demand 2, nothing of a sound set is left out or read twice: at every level of it, the first descriptor starts where the parent's header ends, each
--- next one where the one before it ended, and the last ends where the parent does.
-stands : (s : List ℕ) → isSound (setOf s) ≡ true → (d : ℕ) (p : Parent) (from end : ℕ) → Level s d p from end
-    → (from ≤ end) × (end ≤ length s) × (isSound (contentsOf s p from end) ≡ true)
-stands s e d p from end top = (header-room s (sound-header s e), omega arith, rw (good-set s (sound-header s e)) at e)
-stands s e d p from end (inside {depth = d′} {p = p′} {from = from′} {end = end′} x q l m g) =
-    let i = stands s e d′ p′ from′ end′ l in
-    let k = known-as s p′ (x .at) end′ _ g in
-    (omega arith, omega arith, level-opened s p′ from′ end′ x q (i .1) (i .2) m g)
-
-pub covers : (s : List ℕ) → isSound (setOf s) ≡ true → (d : ℕ) (p : Parent) (from end : ℕ) → Level s d p from end → Follows from end (spansOf s p from end)
-covers s e d p from end l =
-    let i = stands s e d p from end l in
-    level-follows s p from end (i .0) (i .1) (i .2)
+-- Demand 2, nothing of a sound set is left out or read twice: from every offset that is reached, and so at every level from its first descriptor on, each
+-- descriptor starts where the one before it ended, and the last ends where the parent does.
+pub covers : (s : List ℕ) → isSound (setOf s) ≡ true → (d : ℕ) (p : Parent) (at end : ℕ) → Reached s d p at end → Follows at end (spansOf s p at end)
+covers s e d p at end r =
+    let i = read-on s e d p at end r in
+    level-follows s p at end (i .0) (i .1) (i .2)

@@ -20,7 +20,8 @@ refusedWith code offset = record {
   interface = Nowhere;
 }
 
--- the property whose descriptor is at q's offset: its data type, its name with the zero pair, its data and its first interface
+-- the property whose descriptor is at q's offset: its data type, its name with the zero pair, its data and its first interface; that the offset
+-- shown is the descriptor's own is our choice
 unfoldable pub foundAt : List ℕ → Entry → RegistryProperty
 foundAt s q = record {
   code = 0;

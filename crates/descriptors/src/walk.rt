@@ -5,8 +5,7 @@ use crate::header::Descriptor;
 use crate::header::Parent;
 use crate::header::look;
 ghost use mathlib.Core.Path.{_≡_};
-ghost use Prim.Native.Nat.{_+_, _*_, _≤_, _<_};
-ghost use lib.ListN.{length};
+ghost use Prim.Native.Nat.{_≤_, _<_};
 ghost use Rattle.descriptors.specs.Stops.{Walkable, refusalNumber, stopAt, stopFrom};
 
 // A refusal as a number above every offset.

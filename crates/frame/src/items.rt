@@ -150,7 +150,6 @@ pub fn payload(block: &[u8], k: usize) -> &[u8]
     lent(block, p)
 }
 
-// How many items the block has.
 pub fn count(block: &[u8]) -> Counted
     ensures { λ r. ⌜ r ≡ countOf (now (block .entry)) ⌝ }
 {

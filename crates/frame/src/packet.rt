@@ -55,7 +55,6 @@ fn refused(code: u8) -> PayloadHeader
     }
 }
 
-// The packet's payload header.
 pub fn header(packet: &[u8]) -> PayloadHeader
     ensures { λ r. ⌜ r ≡ headerOf (now (packet .entry)) ⌝ }
 {

@@ -10,9 +10,10 @@ use lib.Dec.{eqb}
 use borrow.Author.Tests.{eq-eqb, ne-eqb, eqb-true, eqb-false}
 use Rattle.controls.specs.declared.settings.Item.{Item}
 use Rattle.controls.specs.declared.settings.Setting.{Setting}
+use Rattle.controls.specs.Settings.{codeOf}
 use Rattle.camera.specs.declared.record.Camera.{Camera}
 use Rattle.camera.specs.Record.{put}
-use Rattle.camera.specs.Items.{codeOf, givenOf, firstRefusal, allGiven, puts}
+use Rattle.camera.specs.Items.{givenOf, firstRefusal, allGiven, puts}
 
 -- the first that is refused, where those before it are not
 pub refusal-at : (n k i : ℕ) (item : ℕ → Item) → ((j : ℕ) → j < i → codeOf (item (j + k)) ≡ 0) → i < n → (codeOf (item (i + k)) ≡ 0 → ⊥)

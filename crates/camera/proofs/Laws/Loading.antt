@@ -16,11 +16,12 @@ use Rattle.snapshot.proofs.Laws.Sound.{stands-some}
 use Rattle.snapshot.proofs.Laws.Cursor.{start, next}
 use Rattle.controls.specs.declared.settings.Item.{Item}
 use Rattle.controls.specs.declared.settings.Item.the-variants.{Absent, Refused}
+use Rattle.controls.specs.Settings.{codeOf}
 use Rattle.camera.specs.declared.profile.Profile.{Profile}
 use Rattle.camera.specs.declared.record.Camera.{Camera}
 use Rattle.camera.specs.Record.{controlRefusal, wellFormed}
 use Rattle.camera.specs.Requests.{refused}
-use Rattle.camera.specs.Items.{codeOf, givenOf, firstRefusal, allGiven, puts, itemAt}
+use Rattle.camera.specs.Items.{givenOf, firstRefusal, allGiven, puts, itemAt}
 use Rattle.camera.specs.Snapshots.{selectorAt, recordItem, itemFor, itemIn, loadItem, loadTests, loadCode, loadGives, loaded}
 use Rattle.camera.proofs.Laws.Items.{refusal-at, refusal-none, puts-next}
 

@@ -15,11 +15,12 @@ use Rattle.controls.specs.declared.settings.Setting.{Setting}
 use Rattle.controls.specs.declared.settings.Setting.the-variants as S
 use Rattle.exposure.specs.Ev.{compensation}
 use Rattle.face.specs.Face.{allBelow, faceValid, offersOf, isChoice, faceRefusal}
+use Rattle.controls.specs.Settings.{settingOf}
 use Rattle.camera.specs.declared.profile.Profile.{Profile}
 use Rattle.camera.specs.declared.record.Camera.{Camera}
 use Rattle.camera.specs.Profile.{has, settable, presenceValid, profileValid}
 use Rattle.camera.specs.Record.{controlRefusal, valueRefusal, held, kept, withStreaming, wellFormed}
-use Rattle.camera.specs.Items.{settingOf, itemHeld}
+use Rattle.camera.specs.Items.{itemHeld}
 use Rattle.camera.specs.Requests.{refused}
 use Rattle.camera.specs.Calls.{streamed, sensed}
 

@@ -19,10 +19,11 @@ use Rattle.controls.specs.declared.settings.Setting.the-variants as S
 use Rattle.controls.specs.declared.settings.Item.{Item}
 use Rattle.exposure.specs.Ev.{evBytes}
 use Rattle.controls.specs.Throttle.{throttleBytes}
+use Rattle.controls.specs.Settings.{settingOf}
 use Rattle.camera.specs.declared.record.Camera.{Camera}
 use Rattle.camera.specs.declared.writing.Record.{Record}
 use Rattle.camera.specs.Record.{held, wellFormed}
-use Rattle.camera.specs.Items.{settingOf, itemHeld}
+use Rattle.camera.specs.Items.{itemHeld}
 use Rattle.camera.specs.Requests.{refused}
 use Rattle.camera.specs.Snapshots.{framed, row, rowHeld, recordOf, snapshot, writeCode, written, writtenOut}
 

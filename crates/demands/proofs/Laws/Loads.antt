@@ -22,7 +22,7 @@ use Rattle.snapshot.proofs.Laws.Settings.{last-append}
 use Rattle.controls.specs.declared.settings.Item.{Item}
 use Rattle.controls.specs.declared.settings.Item.the-variants.{Absent, Refused, Given}
 use Rattle.controls.specs.declared.settings.Setting.{Setting}
-use Rattle.controls.specs.Settings.{itemOf}
+use Rattle.controls.specs.Settings.{itemOf, settingOf, codeOf}
 use Rattle.exposure.specs.Ev.{evItem}
 use Rattle.face.specs.Face.{faceItem}
 use Rattle.controls.specs.Metadata.{metadataItem}
@@ -31,7 +31,7 @@ use Rattle.controls.specs.Throttle.{throttleItem}
 use Rattle.controls.proofs.Laws.Settings.{given-is}
 use Rattle.camera.specs.declared.profile.Profile.{Profile}
 use Rattle.camera.specs.Record.{keyOf, controlRefusal}
-use Rattle.camera.specs.Items.{settingOf, codeOf, givenOf, firstRefusal, allGiven, itemAt}
+use Rattle.camera.specs.Items.{givenOf, firstRefusal, allGiven, itemAt}
 use Rattle.camera.specs.Snapshots.{selectorAt, recordItem, itemFor, loadItem, loadTests, loadGives}
 use Rattle.camera.proofs.Laws.Items.{refusal-none, none-refused}
 use Rattle.camera.specs.Selectors.{Control, ev, face, metadata, hdr, throttle}

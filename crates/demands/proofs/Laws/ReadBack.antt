@@ -19,7 +19,7 @@ use Rattle.controls.specs.declared.settings.Setting.{Setting}
 use Rattle.controls.specs.declared.settings.Setting.the-variants as S
 use Rattle.face.specs.declared.face.FaceLimits.{FaceLimits}
 use Rattle.controls.specs.Answers.{answerBy}
-use Rattle.controls.specs.Settings.{itemOf, numberOr}
+use Rattle.controls.specs.Settings.{itemOf, numberOr, codeOf}
 use Rattle.exposure.specs.Ev.{evFlags, evValue, evItem, evHeld, evAt, evAnswer}
 use Rattle.face.specs.Face.{endpoints, addressAt, offersAt, offersFrom, offersOf, takesFace, entryAddress, entryFlags, seenIn, seenBefore, faceItem, entryOf, heldAt, flagsAt, entriesOf, faceValue, faceAnswer}
 use Rattle.controls.specs.Metadata.{metadataItem, metadataAt, metadataAnswer}
@@ -33,7 +33,7 @@ use Rattle.camera.specs.declared.profile.Profile.{Profile}
 use Rattle.camera.specs.declared.record.Camera.{Camera}
 use Rattle.camera.specs.Profile.{settable, takes, profileValid}
 use Rattle.camera.specs.Record.{faceHeld, held, putFace, put, controlRefusal}
-use Rattle.camera.specs.Items.{codeOf, givenOf, firstRefusal, allGiven, puts, itemAt, setRefusal, setGives}
+use Rattle.camera.specs.Items.{givenOf, firstRefusal, allGiven, puts, itemAt, setRefusal, setGives}
 use Rattle.camera.specs.Requests.{answerOf}
 use Rattle.camera.specs.Snapshots.{selectorAt}
 use Rattle.demands.specs.Demand2.{bytesBack, entryBytes}

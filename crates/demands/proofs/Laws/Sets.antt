@@ -19,10 +19,11 @@ use Rattle.snapshot.proofs.Laws.Sound.{Sound, Kind, ev, face, metadata, hdr, th
 use Rattle.controls.specs.declared.settings.Item.{Item}
 use Rattle.controls.specs.declared.settings.Item.the-variants.{Absent, Refused, Given}
 use Rattle.face.proofs.Laws.Face.{takes-first, count-least}
+use Rattle.controls.specs.Settings.{codeOf}
 use Rattle.camera.specs.declared.profile.Profile.{Profile}
 use Rattle.camera.specs.Profile.{has, settable, takes, profileValid}
 use Rattle.camera.specs.Record.{controlRefusal}
-use Rattle.camera.specs.Items.{codeOf, givenOf, firstRefusal, allGiven, itemCount, itemAt, setRefusal, setGives}
+use Rattle.camera.specs.Items.{givenOf, firstRefusal, allGiven, itemCount, itemAt, setRefusal, setGives}
 use Rattle.camera.specs.Requests.{valueTests}
 use Rattle.camera.specs.Snapshots.{selectorAt, recordItem}
 use Rattle.camera.proofs.Laws.Record.{valid-face}

@@ -10,10 +10,9 @@ use borrow.Author.Tests.{ltb-true, le-ltb, lt-ltb}
 use Rattle.descriptors.specs.declared.header.Parent.{Parent}
 use Rattle.descriptors.specs.declared.header.Descriptor.{Descriptor}
 use Rattle.descriptors.specs.declared.header.Descriptor.the-variants.{Refused, Opaque, Property, Subset}
-use Rattle.descriptors.specs.Header.{interfaceOf, descriptorAt}
-use Rattle.descriptors.specs.Reading.{Finding, sound, _then_, descriptor, sizeOf, contents, contentsOf, isSound}
-use Rattle.descriptors.specs.Levels.{isRefused}
-use Rattle.descriptors.proofs.Laws.Sound.{Known, known}
+use Rattle.descriptors.specs.Header.{refusal, interfaceOf, descriptorAt}
+use Rattle.descriptors.specs.Reading.{Finding, refused, sound, _then_, descriptor, sizeOf, contents, contentsOf, isSound}
+use Rattle.descriptors.proofs.Laws.Sound.{Known, known, refusalOf, refusal-is, fits}
 
 none : (n : ℕ) (s : List ℕ) (p : Parent) (at end : ℕ) → end ≤ at → contents n s p at end ≡ sound []
 unfolding contents
@@ -47,7 +46,8 @@ pub at-end : (s : List ℕ) (p : Parent) (at end : ℕ) → end ≤ at → conte
 unfolding contentsOf
 at-end s p at end h = none (length s) s p at end h
 
-pub step : (n : ℕ) (s : List ℕ) (p : Parent) (at end : ℕ) → at < end → contents (suc n) s p at end ≡ (descriptor (contents n s) p at (descriptorAt s p at end) then contents n s p (at + sizeOf (descriptorAt s p at end)) end)
+pub step : (n : ℕ) (s : List ℕ) (p : Parent) (at end : ℕ) → at < end
+    → contents (suc n) s p at end ≡ (descriptor (contents n s) p at (descriptorAt s p at end) then contents n s p (at + sizeOf (descriptorAt s p at end)) end)
 unfolding contents
 step n s p at end h = simp (lt-ltb _ _ h)
 
@@ -56,16 +56,37 @@ pub one-then : (s : List ℕ) (p : Parent) (at end : ℕ) → at < end → end �
 unfolding contentsOf
 one-then s p at end h k = enough (length s) (suc (length s)) s p at end (omega arith) (omega arith) ∙ step (length s) s p at end h
 
--- a descriptor that is read without a fault is not refused, and ends behind its start, in its parent
-pub not-refused : (f : Parent → ℕ → ℕ → Finding) (p : Parent) (at : ℕ) (d : Descriptor) → isSound (descriptor f p at d) ≡ true → isRefused d ≡ false
-not-refused f p at (Refused code) e = absurd (false≢true e)
-not-refused f p at (Opaque n) e = refl
-not-refused f p at (Property n) e = refl
-not-refused f p at (Subset n q) e = refl
+-- by induction on the bytes of a stretch
+pub on-bytes : (P : Parent → ℕ → ℕ → Type 0) → ((p : Parent) (at end : ℕ) → ((q : Parent) (a e : ℕ) → e - a < end - at → P q a e) → P p at end)
+    → (p : Parent) (at end : ℕ) → P p at end
+on-bytes P f p at end = go (suc (end - at)) p at end (omega arith)
+  where
+    go : (n : ℕ) (p : Parent) (at end : ℕ) → end - at < n → P p at end
+    go zero p at end h = absurd (omega arith)
+    go (suc n) p at end h = f p at end (λ q a e l. go n q a e (omega arith))
+
+-- two stretches are sound where both are
+pub sound-both : (a b : Finding) → isSound (a then b) ≡ true → (isSound a ≡ true) × (isSound b ≡ true)
+sound-both (refused c o) b e = absurd (false≢true e)
+sound-both (sound ps) (refused c o) e = absurd (false≢true e)
+sound-both (sound ps) (sound qs) e = (refl, refl)
+
+pub sound-parts : (s : List ℕ) (p : Parent) (at end : ℕ) → at < end → end ≤ length s → isSound (contentsOf s p at end) ≡ true
+    → (isSound (descriptor (contentsOf s) p at (descriptorAt s p at end)) ≡ true) × (isSound (contentsOf s p (at + sizeOf (descriptorAt s p at end)) end) ≡ true)
+sound-parts s p at end l w e =
+    let d = descriptorAt s p at end in
+    sound-both (descriptor (contentsOf s) p at d) (contentsOf s p (at + sizeOf d) end) (rw (one-then s p at end l w) at e)
+
+-- no test refuses a descriptor that is read without a fault, and it ends behind its start, in its parent
+pub accepted-if : (f : Parent → ℕ → ℕ → Finding) (p : Parent) (at : ℕ) (d : Descriptor) → isSound (descriptor f p at d) ≡ true → refusalOf d ≡ 0
+accepted-if f p at (Refused code) e = absurd (false≢true e)
+accepted-if f p at (Opaque size) e = refl
+accepted-if f p at (Property size) e = refl
+accepted-if f p at (Subset size q) e = refl
 
 pub ends-in : (s : List ℕ) (f : Parent → ℕ → ℕ → Finding) (p : Parent) (at end : ℕ) (d : Descriptor) → Known s p at (end - at) d
     → isSound (descriptor f p at d) ≡ true → (at < at + sizeOf d) × (at + sizeOf d ≤ end)
-ends-in s f p at end (Refused code) k e = absurd (false≢true e)
-ends-in s f p at end (Opaque n) k e = omega arith
-ends-in s f p at end (Property n) k e = omega arith
-ends-in s f p at end (Subset n q) k e = omega arith
+ends-in s f p at end d k e = let h = fits s p at (end - at) d k (accepted-if f p at d e) in (omega arith, omega arith)
+
+pub sound-accepts : (s : List ℕ) (p : Parent) (at end : ℕ) → at < end → end ≤ length s → isSound (contentsOf s p at end) ≡ true → refusal s p at end ≡ 0
+sound-accepts s p at end l w e = refusal-is s p at end ∙ accepted-if (contentsOf s) p at (descriptorAt s p at end) (sound-parts s p at end l w e .0)

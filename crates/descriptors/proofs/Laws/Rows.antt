@@ -12,8 +12,8 @@ use Rattle.descriptors.specs.declared.header.Parent.{Parent}
 use Rattle.descriptors.specs.declared.header.Parent.the-variants.{Set, Configuration, Function}
 use Rattle.descriptors.specs.declared.header.Descriptor.the-variants.{Refused, Opaque, Property, Subset}
 use Rattle.descriptors.specs.Codes.{pastParent, badType, badLength, badField}
-use Rattle.wire.specs.Rows.{allOf}
-use Rattle.descriptors.specs.Header.{lengthAt, typeAt, reservedAt, totalAt, kindAt, nameLengthAt, nameEndAt, dataLengthAt, isSubset, allowed, propertyTests, goodFields, goodProperty, propertyRefusal, subsetRefusal, refusal, inner, subsetAt, propertyAt, descriptorAt}
+use Rattle.wire.specs.Rows.{_⇒_, firstOf, allOf}
+use Rattle.descriptors.specs.Header.{lengthAt, typeAt, reservedAt, totalAt, kindAt, nameLengthAt, nameEndAt, dataLengthAt, isSubset, isProperty, allowed, propertyTests, goodFields, goodProperty, propertyRefusal, subsetRefusal, refusal, inner, subsetAt, propertyAt, descriptorAt}
 
 -- what may stand where
 module _ (t : ℕ) where
@@ -129,40 +129,26 @@ module _ (s : List ℕ) (p : Parent) (at end : ℕ) where
     here : allowed p (typeAt s at) ≡ true
     here = simp (← f, ← e, g)
 
+    -- the first four rows pass, and the last two are left
+    last-two : refusal s p at end
+        ≡ firstOf
+        ((isSubset (typeAt s at) ⇒ subsetRefusal (end - at) (lengthAt s at) (totalAt s at) (reservedAt s at))
+        ∷ (isProperty (typeAt s at) ⇒ propertyRefusal s at)
+        ∷ [])
+    unfolding refusal
+    last-two = simp (le-ltb _ _ (w .room), le-ltb _ _ (w .within), le-ltb _ _ (w .long), here)
+
+    no-subset : 2 < t → isSubset (typeAt s at) ≡ false
+    no-subset h = simp (ne-eqb (typeAt s at) 1 (omega arith), ne-eqb (typeAt s at) 2 (omega arith))
+
     pub of-property : t ≡ 4 → propertyAt s at ≡ descriptorAt s p at end
-    unfolding descriptorAt refusal propertyAt
-    of-property h =
-        simp (
-          le-ltb _ _ (w .room),
-          le-ltb _ _ (w .within),
-          le-ltb _ _ (w .long),
-          here,
-          ne-eqb (typeAt s at) 1 (omega arith),
-          ne-eqb (typeAt s at) 2 (omega arith),
-          eq-eqb (typeAt s at) 4 (omega arith),
-        )
+    unfolding descriptorAt propertyAt
+    of-property h = simp (last-two, no-subset (omega arith), eq-eqb (typeAt s at) 4 (omega arith))
 
     pub of-opaque : (t ≡ 4 → ⊥) → 2 < t → (len : ℕ) → len ≡ lengthAt s at → Opaque len ≡ descriptorAt s p at end
-    unfolding descriptorAt refusal
-    of-opaque h i len j =
-        simp (
-          le-ltb _ _ (w .room),
-          le-ltb _ _ (w .within),
-          le-ltb _ _ (w .long),
-          here,
-          ne-eqb (typeAt s at) 1 (omega arith),
-          ne-eqb (typeAt s at) 2 (omega arith),
-          ne-eqb (typeAt s at) 4 (omega arith),
-          j,
-        )
+    unfolding descriptorAt
+    of-opaque h i len j = simp (last-two, no-subset i, ne-eqb (typeAt s at) 4 (omega arith), j)
 
     pub of-subset : t ≤ 2 → subsetAt s p at (end - at) ≡ descriptorAt s p at end
-    unfolding descriptorAt refusal subsetAt
-    of-subset h =
-        simp (
-          le-ltb _ _ (w .room),
-          le-ltb _ _ (w .within),
-          le-ltb _ _ (w .long),
-          here,
-          one-or-two p (typeAt s at) here (omega arith),
-        )
+    unfolding descriptorAt subsetAt
+    of-subset h = simp (last-two, one-or-two p (typeAt s at) here (omega arith))

@@ -1,6 +1,6 @@
 -- What is known of a descriptor by what it is found to be. Assumes nothing.
 use Prim.Native.Nat.{ℕ, zero, suc, _+_, _-_, _≤_, _<_}
-use mathlib.Core.Path.{_≡_, refl, sym}
+use mathlib.Core.Path.{_≡_, refl, sym, _∙_, ap}
 use mathlib.Core.List.{List, [], _∷_}
 use mathlib.Core.Bool.{Bool, true, false, not, cond, false≢true}
 use native.Mathlib.Omega.{arith}
@@ -14,6 +14,7 @@ use Rattle.descriptors.specs.declared.header.Descriptor.the-variants.{Re
 use Rattle.descriptors.specs.Codes.{pastParent, badType, badLength, badField}
 use Rattle.wire.specs.Rows.{allOf}
 use Rattle.descriptors.specs.Header.{lengthAt, typeAt, reservedAt, totalAt, kindAt, nameLengthAt, nameEndAt, dataLengthAt, isSubset, isProperty, allowed, propertyTests, goodFields, goodProperty, propertyRefusal, subsetRefusal, refusal, inner, descriptorAt}
+use Rattle.descriptors.specs.Reading.{sizeOf}
 use Rattle.descriptors.proofs.Laws.Rows.{in-set, in-configuration, in-function}
 
 -- a row that did not answer, and one that did
@@ -154,3 +155,35 @@ known s p at end = go (eqb (refusal s p at end) 0) refl (isSubset (typeAt s at))
 -- the same, of what the descriptor was found to be
 pub known-as : (s : List ℕ) (p : Parent) (at end : ℕ) (d : Descriptor) → descriptorAt s p at end ≡ d → Known s p at (end - at) d
 known-as s p at end d e = rw e at (known s p at end)
+
+-- the refusal, 0 of a descriptor that no test refuses
+abbrev pub refusalOf : Descriptor → ℕ
+refusalOf (Refused code) = code
+refusalOf (Opaque size) = 0
+refusalOf (Property size) = 0
+refusalOf (Subset size q) = 0
+
+pub refusal-is : (s : List ℕ) (p : Parent) (at end : ℕ) → refusal s p at end ≡ refusalOf (descriptorAt s p at end)
+unfolding descriptorAt
+refusal-is s p at end = go (eqb (refusal s p at end) 0) refl (isSubset (typeAt s at)) (isProperty (typeAt s at))
+  where
+    go : (b : Bool) → eqb (refusal s p at end) 0 ≡ b → (c d : Bool)
+        → refusal s p at end ≡ refusalOf (cond b (cond c (Subset (totalAt s at) (inner s p at)) (cond d (Property (lengthAt s at)) (Opaque (lengthAt s at)))) (Refused (refusal s p at end)))
+    go true e true d = eqb-true _ _ e
+    go true e false true = eqb-true _ _ e
+    go true e false false = eqb-true _ _ e
+    go false e c d = refl
+
+-- a descriptor that no test refuses ends behind its start, in its parent
+pub fits : (s : List ℕ) (p : Parent) (at left : ℕ) (d : Descriptor) → Known s p at left d → refusalOf d ≡ 0 → (0 < sizeOf d) × (sizeOf d ≤ left)
+fits s p at left (Refused code) k e = absurd (omega arith)
+fits s p at left (Opaque size) k e = (omega arith, omega arith)
+fits s p at left (Property size) k e = (omega arith, omega arith)
+fits s p at left (Subset size q) k e = (omega arith, omega arith)
+
+pub size-fits : (s : List ℕ) (p : Parent) (at end : ℕ) → refusal s p at end ≡ 0
+    → (0 < sizeOf (descriptorAt s p at end)) × (sizeOf (descriptorAt s p at end) ≤ end - at)
+size-fits s p at end e = fits s p at (end - at) (descriptorAt s p at end) (known s p at end) (sym (refusal-is s p at end) ∙ e)
+
+pub subset-accepted : (s : List ℕ) (p : Parent) (at end size : ℕ) (q : Parent) → descriptorAt s p at end ≡ Subset size q → refusal s p at end ≡ 0
+subset-accepted s p at end size q e = refusal-is s p at end ∙ ap refusalOf e

@@ -1,7 +1,7 @@
 use mathlib.Core.Path.{ap, sym}
 use borrow.Author.Needs.{needs}
 use Rattle.controls.specs.declared.settings.Item.{Item}
-use Rattle.camera.specs.Items.{settingOf}
+use Rattle.controls.specs.Settings.{settingOf}
 use Rattle.camera.specs.Record.{kept}
 use Rattle.camera.proofs.held.is_kept.Statement.{statement}
 use Rattle.camera.proofs.held.is_kept.Tie as tie

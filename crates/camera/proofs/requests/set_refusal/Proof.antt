@@ -3,7 +3,8 @@ use Prim.Native.Nat.{ℕ, _≤_, _<_, _-_}
 use native.Mathlib.Omega.{arith}
 use borrow.Author.Count.{below-more}
 use borrow.Author.Needs.{needs}
-use Rattle.camera.specs.Items.{codeOf, firstRefusal, itemAt, setRefusal}
+use Rattle.controls.specs.Settings.{codeOf}
+use Rattle.camera.specs.Items.{firstRefusal, itemAt, setRefusal}
 use Rattle.camera.proofs.Laws.Items.{stops, passes}
 use Rattle.camera.proofs.requests.set_refusal.Statement.{statement}
 use Rattle.camera.proofs.requests.set_refusal.Tie as tie

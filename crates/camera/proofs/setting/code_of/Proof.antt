@@ -1,6 +1,6 @@
 use mathlib.Core.Path.{ap, sym}
 use borrow.Author.Needs.{needs}
-use Rattle.camera.specs.Items.{codeOf}
+use Rattle.controls.specs.Settings.{codeOf}
 use Rattle.camera.proofs.setting.code_of.Statement.{statement}
 use Rattle.camera.proofs.setting.code_of.Tie as tie
 

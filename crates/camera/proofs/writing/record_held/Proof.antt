@@ -2,8 +2,8 @@ use mathlib.Core.Path.{ap, sym, _∙_}
 use borrow.Author.Needs.{needs}
 use Rattle.controls.specs.declared.settings.Item.{Item}
 use Rattle.wire.specs.Overlay.{overlay}
+use Rattle.controls.specs.Settings.{settingOf}
 use Rattle.camera.specs.declared.writing.Record.{Record}
-use Rattle.camera.specs.Items.{settingOf}
 use Rattle.camera.specs.Snapshots.{rowHeld, recordOf}
 use Rattle.camera.proofs.writing.record_held.Statement.{statement}
 use Rattle.camera.proofs.writing.record_held.Tie as tie
