@@ -39,13 +39,17 @@ asked c s = answerOf c (setup.selectorOf s) (setup.codeOf s)
 abbrev pub sentCount : Camera → List ℕ → ℕ
 sentCount c s = countOf (asked c s) (wLengthOf s)
 
--- tests 7 and 8, of a SET: a throttle streams, and the value tests hold
-unfoldable pub valueTests : Profile → Bool → List ℕ → List ℕ → List Row
-valueTests p streaming s payload =
-    let code = setRefusal p (setup.selectorOf s) payload in
-    (isSetRequest s && eqb (setup.selectorOf s) 0x0E && not streaming ⇒ wrongState)
-    ∷ (isSetRequest s && not (eqb code 0) ⇒ code)
+-- tests 7 and 8, of a SET of a selector: a throttle streams, and the value tests hold
+abbrev pub setTests : Profile → Bool → ℕ → List ℕ → List Row
+setTests p streaming selector payload =
+    let code = setRefusal p selector payload in
+    (eqb selector 0x0E && not streaming ⇒ wrongState)
+    ∷ (not (eqb code 0) ⇒ code)
     ∷ []
+
+-- a GET has none of them
+unfoldable pub valueTests : Profile → Bool → List ℕ → List ℕ → List Row
+valueTests p streaming s payload = cond (isSetRequest s) (setTests p streaming (setup.selectorOf s) payload) []
 
 -- the nine tests, in order; `room` is the length of the reply buffer
 unfoldable pub requestRows : Camera → List ℕ → List ℕ → ℕ → List Row
@@ -86,8 +90,8 @@ replied c s payload reply =
 -- past test 6: a SET of a selector, and a GET
 unfoldable pub setDone : Camera → ℕ → List ℕ → Outcome
 setDone c selector payload =
-    let code = firstOf ((eqb selector 0x0E && not (c .streaming) ⇒ wrongState) ∷ (not (eqb (setRefusal (c .profile) selector payload) 0) ⇒ setRefusal (c .profile) selector payload) ∷ []) in
-    outcomeBy code c (record { code = 0; count = 0; camera = puts c (setGives (c .profile) selector payload) })
+    outcomeBy (firstOf (setTests (c .profile) (c .streaming) selector payload)) c
+    (record { code = 0; count = 0; camera = puts c (setGives (c .profile) selector payload) })
 
 unfoldable pub getDone : Camera → List ℕ → ℕ → Outcome
 getDone c s room =
