@@ -169,7 +169,8 @@ module _ (c d : Camera) (s : Same c d) (l : length (c .face) ≡ 15) (m : length
   }
 
 -- LEN's answer is the length that a SET takes, whatever its payload.
-pub length-answer : (c : Camera) (selector : ℕ) → Control selector → (selector ≡ 0x06 → ⊥) → (payload : List ℕ) → answerOf c selector 0x85 ≡ bytesOf 2 (takes (c .profile) selector payload)
+pub length-answer : (c : Camera) (selector : ℕ) → Control selector → (selector ≡ 0x06 → ⊥) → (payload : List ℕ)
+    → answerOf c selector 0x85 ≡ bytesOf 2 (takes (c .profile) selector payload)
 unfolding answerOf ev.evAnswer metadataAnswer hdrAnswer throttle.throttleAnswer answerBy
 length-answer c _ selectors.ev n payload = refl
 length-answer c _ selectors.face n payload = absurd (n refl)

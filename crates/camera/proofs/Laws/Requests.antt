@@ -117,7 +117,8 @@ module _ (c : Camera) (s payload reply : List ℕ) where
         let last = (not (isSetRequest s) && ltb (length reply) (sentCount c s) ⇒ 0x20) ∷ [] in
         rw w (ap firstOf (append-assoc tests values last) ∙ then-rows (table (c .profile)) s payload (values ++ last))
 
-    pub tests-fail : (firstOf (requestTests (table (c .profile)) s payload) ≡ 0 → ⊥) → Answers c s payload reply (refused (firstOf (requestTests (table (c .profile)) s payload)) c) reply
+    pub tests-fail : (firstOf (requestTests (table (c .profile)) s payload) ≡ 0 → ⊥)
+        → Answers c s payload reply (refused (firstOf (requestTests (table (c .profile)) s payload)) c) reply
     tests-fail n = refusal-answers _ (number-is ∙ rw (ne-eqb (firstOf (requestTests (table (c .profile)) s payload)) 0 n)) n
 
     module _ (t : firstOf (requestTests (table (c .profile)) s payload) ≡ 0) where

@@ -55,7 +55,8 @@ module _ (s : ThrottleSetting) (tail : ThrottleLimits) where
   unfolding leAt throttleBytes bytesOf
   throttle-percent h = number-bytes 4 (s .percent) h
 
-  pub throttle-read : (l : ThrottleLimits) → s .mode < 2 ^ 32 → s .percent < 2 ^ 32 → throttleItem l (throttleBytes s tail) ≡ itemOf (throttleRefusal l (s .mode) (s .percent)) (S.Throttle s)
+  pub throttle-read : (l : ThrottleLimits) → s .mode < 2 ^ 32 → s .percent < 2 ^ 32
+      → throttleItem l (throttleBytes s tail) ≡ itemOf (throttleRefusal l (s .mode) (s .percent)) (S.Throttle s)
   unfolding throttleItem
   throttle-read l m p = rw (throttle-mode m, throttle-percent p)
 

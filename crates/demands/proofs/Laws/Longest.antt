@@ -107,7 +107,8 @@ module _ (c : Camera) (w : wellFormed c ≡ true) where
       offered true rest p z = absurd (omega arith)
       offered false rest p z = eqb-false (offersOf limits (0x80 + k)) 0 p
 
-      go : (b : Bool) → eqb (getD (c .face) (k - 1) 0) 0 ≡ b → cond b none (some (S.Face (0x80 + k) (getD (c .face) (k - 1) 0))) ≡ some s → listed limits (endpoints limits) k ≡ true
+      go : (b : Bool) → eqb (getD (c .face) (k - 1) 0) 0 ≡ b → cond b none (some (S.Face (0x80 + k) (getD (c .face) (k - 1) 0))) ≡ some s
+          → listed limits (endpoints limits) k ≡ true
       go true p q = absurd (none-never s q)
       go false p q =
           let f : S.Face (0x80 + k) (getD (c .face) (k - 1) 0) ≡ s = cc in

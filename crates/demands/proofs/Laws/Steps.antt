@@ -112,7 +112,8 @@ pub load-next : (c : Camera) (s : List ℕ) → wellFormed c ≡ true → loaded
 unfolding loaded loadCode gives puts
 load-next c s w = rw w (go (eqb (firstOf (loadTests (c .profile) (c .streaming) s)) 0))
   where
-    go : (b : Bool) → cond b (record { code = 0; count = 0; camera = puts c (loadGives (c .profile) (c .streaming) s) }) (refused (firstOf (loadTests (c .profile) (c .streaming) s)) c) .camera
+    go : (b : Bool)
+        → cond b (record { code = 0; count = 0; camera = puts c (loadGives (c .profile) (c .streaming) s) }) (refused (firstOf (loadTests (c .profile) (c .streaming) s)) c) .camera
         ≡ puts c (cond b (loadGives (c .profile) (c .streaming) s) [])
     go true = refl
     go false = refl
@@ -293,7 +294,8 @@ pub record Step (p : Profile) (c : Camera) (call : Call) : Type 0 where
   pub held-after : (k : ℕ) → held (next c call) k ≡ over (held c k) (lastOf (gives p (c .streaming) call) k)
   pub streaming-after : next c call .streaming ≡ leaves (c .streaming) call
 
-puts-step : (p : Profile) (c : Camera) (o : Ok p c) (call : Call) → next c call ≡ puts c (gives (c .profile) (c .streaming) call) → c .streaming ≡ leaves (c .streaming) call → Step p c call
+puts-step : (p : Profile) (c : Camera) (o : Ok p c) (call : Call) → next c call ≡ puts c (gives (c .profile) (c .streaming) call)
+    → c .streaming ≡ leaves (c .streaming) call → Step p c call
 puts-step p c o call e f = record {
   ok = subst (Ok p) (sym e) (puts-ok p c o call);
   held-after = λ k. ap (λ d. held d k) e ∙ given-held p c o call k ∙ ap (λ q. over (held c k) (lastOf (gives q (c .streaming) call) k)) (o .profile);

@@ -57,7 +57,8 @@ step s x p from end more w e m = go (ltb from end) refl
     d : Descriptor
     d = descriptorAt s p from end
 
-    first : (y : Descriptor) → d ≡ y → from < end → isSound (descriptor (contentsOf s) p from y) ≡ true → List·Memᴰ x (listed (descriptor (contentsOf s) p from y)) → PropertyIn s p from end x
+    first : (y : Descriptor) → d ≡ y → from < end → isSound (descriptor (contentsOf s) p from y) ≡ true → List·Memᴰ x (listed (descriptor (contentsOf s) p from y))
+        → PropertyIn s p from end x
     first (Refused c) f l g i = absurd (false≢true g)
     first (Opaque size) f l g i = absurd (List·Memᴰ·not-nil i)
     first (Property size) f l g i =

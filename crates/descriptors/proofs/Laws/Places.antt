@@ -77,7 +77,8 @@ only-function s q at stop i from end here = refl
 only-function s q at stop i from end (later l e t) = only-function s q at stop i _ end t
 only-function s q at stop i from end (deeper size r l e t) = absurd (known-as s (Function i) from end _ e .4)
 
-function-subset : (s : List ℕ) (at end : ℕ) → refusal s Configuration at end ≡ 0 → typeAt s at ≡ 2 → descriptorAt s Configuration at end ≡ Subset (totalAt s at) (Function (interfaceByte s at))
+function-subset : (s : List ℕ) (at end : ℕ) → refusal s Configuration at end ≡ 0 → typeAt s at ≡ 2
+    → descriptorAt s Configuration at end ≡ Subset (totalAt s at) (Function (interfaceByte s at))
 function-subset s at end a t = go (descriptorAt s Configuration at end) refl
   where
     go : (d : Descriptor) → descriptorAt s Configuration at end ≡ d → d ≡ Subset (totalAt s at) (Function (interfaceByte s at))

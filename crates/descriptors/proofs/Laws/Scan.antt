@@ -112,7 +112,8 @@ module _ (s : List ℕ) (c : Cursor) (rest : List Entry) (p : Parent) (end : ℕ
   step-in : Step s c rest
   step-in = go (descriptorAt s p (c .at) end) (known s p (c .at) end) opened
     where
-      go : (d : Descriptor) → Known s p (c .at) (end - c .at) d → (descriptor (contentsOf s) p (c .at) d then (contentsOf s p (c .at + sizeOf d) end then behind)) ≡ sound rest → Step s c rest
+      go : (d : Descriptor) → Known s p (c .at) (end - c .at) d
+          → (descriptor (contentsOf s) p (c .at) d then (contentsOf s p (c .at + sizeOf d) end then behind)) ≡ sound rest → Step s c rest
       go (Refused code) k e = absurd (let z : _≡_ {A = ℕ} 0 1 = cc in omega arith)
       go (Opaque n) k e =
           feature n rest (k .0) (k .1) (k .2) (k .3) (k .4) (sym (nothing-then (contentsOf s p (c .at + n) end then behind)) ∙ e) (inl (simp (ne-eqb _ _ (k .5)), refl))

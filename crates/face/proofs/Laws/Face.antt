@@ -107,7 +107,8 @@ module _ (l : FaceLimits) (held : List ℕ) (code : ℕ) where
   length-entries zero = refl
   length-entries (suc n) = simp length-append (omega (arith, length-entries n))
 
-  pub entries-next : (m i : ℕ) (b : List ℕ) → i < endpointLimit → b ≡ overlay blank 0 (m ∷ entriesOf l held code i) → overlay b (1 + 8 * i) (entryOf (addressAt l i) (flagsAt l held code i)) ≡ overlay blank 0 (m ∷ entriesOf l held code (i + 1))
+  pub entries-next : (m i : ℕ) (b : List ℕ) → i < endpointLimit → b ≡ overlay blank 0 (m ∷ entriesOf l held code i)
+      → overlay b (1 + 8 * i) (entryOf (addressAt l i) (flagsAt l held code i)) ≡ overlay blank 0 (m ∷ entriesOf l held code (i + 1))
   unfolding entriesOf bytesOf
   entries-next m i b h e =
       let s = m ∷ entriesOf l held code i in
@@ -184,7 +185,9 @@ module _ (l : FaceLimits) (valid : faceValid l ≡ true) where
   found address zero i h p = absurd (p refl)
   found address (suc n) i h p = go (eqb (addressAt l i) address) refl p (found address n (suc i) (omega arith))
     where
-      go : (b : Bool) → eqb (addressAt l i) address ≡ b → (cond b (offersAt l i) (offersFrom l address n (suc i)) ≡ 0 → ⊥) → ((offersFrom l address n (suc i) ≡ 0 → ⊥) → Listed address (offersFrom l address n (suc i))) → Listed address (cond b (offersAt l i) (offersFrom l address n (suc i)))
+      go : (b : Bool) → eqb (addressAt l i) address ≡ b → (cond b (offersAt l i) (offersFrom l address n (suc i)) ≡ 0 → ⊥)
+          → ((offersFrom l address n (suc i) ≡ 0 → ⊥) → Listed address (offersFrom l address n (suc i)))
+          → Listed address (cond b (offersAt l i) (offersFrom l address n (suc i)))
       go true e q rest = rw (eqb-true (addressAt l i) address e) at (place-listed i (omega arith))
       go false e q rest = rest q
 
@@ -198,7 +201,8 @@ unfolding leAt bytesOf
 entry-flags n address flags h = number-bytes 7 flags h
 
 -- a payload of one entry, as a snapshot's record has it
-pub one-entry : (l : FaceLimits) (address flags : ℕ) → flags < 256 → faceItem l (1 ∷ entryOf address flags) 0 ≡ itemOf (firstOf ((eqb (offersOf l address) 0 ⇒ 0x04) ∷ (not (isChoice (choiceOf (offersOf l address) flags)) ⇒ 0x08) ∷ [])) (S.Face address flags)
+pub one-entry : (l : FaceLimits) (address flags : ℕ) → flags < 256
+    → faceItem l (1 ∷ entryOf address flags) 0 ≡ itemOf (firstOf ((eqb (offersOf l address) 0 ⇒ 0x04) ∷ (not (isChoice (choiceOf (offersOf l address) flags)) ⇒ 0x08) ∷ [])) (S.Face address flags)
 unfolding faceItem entryRefusal seenIn
 one-entry l address flags h = rw (entry-flags 1 address flags (omega arith))
 

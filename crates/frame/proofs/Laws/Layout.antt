@@ -68,7 +68,8 @@ pub written-again : (s : List ℕ) (is : List Item) → itemsFrom s ≡ sound is
 unfolding layout
 written-again = every (λ (s : List ℕ) (is : List Item). Bytes s → (s ≡ layout is) × Writable is) (λ b. (refl, tt)) more
   where
-    more : (s : List ℕ) (is : List Item) (p : Split s is) → (Bytes (drop (p .size) s) → (drop (p .size) s ≡ layout (p .rest)) × Writable (p .rest)) → Bytes s → (s ≡ layout is) × Writable is
+    more : (s : List ℕ) (is : List Item) (p : Split s is) → (Bytes (drop (p .size) s) → (drop (p .size) s ≡ layout (p .rest)) × Writable (p .rest)) → Bytes s
+        → (s ≡ layout is) × Writable is
     more s is p ih b =
         let r = ih (bytes-drop s (p .size) b) in
         let h = p .head in

@@ -38,7 +38,8 @@ module _ (p : List ℕ) where
         let d : lengthOf p < fieldsLength (flagsOf p) = rw fields at c in
         simp (le-ltb _ _ a, le-ltb _ _ b, lt-ltb _ _ d)
 
-    pub header-whole : (len : ℕ) → len ≡ lengthOf p → from ≤ len → _≡_ {A = PayloadHeader} (record { code = 0; flags = flags; metadata = record { at = from; len = len - from } }) (headerOf p)
+    pub header-whole : (len : ℕ) → len ≡ lengthOf p → from ≤ len
+        → _≡_ {A = PayloadHeader} (record { code = 0; flags = flags; metadata = record { at = from; len = len - from } }) (headerOf p)
     unfolding headerOf headerRefusal
     header-whole len e c =
         let d : fieldsLength (flagsOf p) ≤ lengthOf p = rw (fields, e) at c in

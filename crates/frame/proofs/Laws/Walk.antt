@@ -19,7 +19,8 @@ use Rattle.frame.proofs.Laws.Heads.{sound-head}
 use Rattle.frame.proofs.Laws.Fuel.{nothing-left, one-then}
 
 -- one item is passed
-pub pass-hit : (k at n : ℕ) (found : Found) (id len : ℕ) → n ≡ k → _≡_ {A = Found} (record { code = 0; id = id; payload = record { at = at + 8; len = len } }) (pass k at n found id len)
+pub pass-hit : (k at n : ℕ) (found : Found) (id len : ℕ) → n ≡ k
+    → _≡_ {A = Found} (record { code = 0; id = id; payload = record { at = at + 8; len = len } }) (pass k at n found id len)
 unfolding pass
 pass-hit k at n found id len e = simp (eq-eqb _ _ e)
 

@@ -27,6 +27,7 @@ module _ (t : Table) (setup payload : List ℕ) where
   same-answer u a = ap firstOf (same-tests u a)
 
   -- tests 7 and on are asked where tests 2 to 6 have nothing to say
-  pub then-rows : (rows : List Row) → firstOf (requestTests t setup payload ++ rows) ≡ cond (eqb (firstOf (requestTests t setup payload)) 0) (firstOf rows) (firstOf (requestTests t setup payload))
+  pub then-rows : (rows : List Row)
+      → firstOf (requestTests t setup payload ++ rows) ≡ cond (eqb (firstOf (requestTests t setup payload)) 0) (firstOf rows) (firstOf (requestTests t setup payload))
   unfolding requestTests
   then-rows rows = first-append (requestTests t setup payload) rows refl

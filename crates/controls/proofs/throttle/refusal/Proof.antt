@@ -7,7 +7,8 @@ use Rattle.controls.proofs.throttle.refusal.Statement.{statement}
 use Rattle.controls.proofs.throttle.refusal.Tie as tie
 
 -- past the limits and the mode the step answers
-last : (c : tie.After-is-multiple) → let a = c .before .before .before .before .before .before .args in throttleRefusal (a .l) (a .mode) (a .percent) ≡ cond (not (c .is-multiple .result)) 0x08 0
+last : (c : tie.After-is-multiple)
+    → let a = c .before .before .before .before .before .before .args in throttleRefusal (a .l) (a .mode) (a .percent) ≡ cond (not (c .is-multiple .result)) 0x08 0
 unfolding throttleRefusal
 last c =
     let a = c .before .before .before .before .before .before .args in

@@ -16,7 +16,8 @@ fits : (c : tie.After-answer) → length (answerOf (c .before .before .before .b
 fits c = answer-fits _ _ _
 
 -- and is the one that the setup asks for
-is-asked : (c : tie.After-answer) → answerOf (c .before .before .before .before .before .args .self) (c .before .before .selector .result) (c .before .code .result) ≡ asked (c .before .before .before .before .before .args .self) (c .before .before .before .before .before .args .setup .now)
+is-asked : (c : tie.After-answer)
+    → answerOf (c .before .before .before .before .before .args .self) (c .before .before .selector .result) (c .before .code .result) ≡ asked (c .before .before .before .before .before .args .self) (c .before .before .before .before .before .args .setup .now)
 is-asked c = ap₂ (answerOf (c .before .before .before .before .before .args .self)) (c .before .before .selector .ensures) (c .before .code .ensures)
 
 selector-requires : tie.Need-selector-requires

@@ -20,11 +20,13 @@ formed : (c : tie.After-refusal) → wellFormed (c .before .before .before .befo
 formed c = let w = c .before .before .before .before .before in sym (w .before .well-formed .ensures) ∙ not-false _ (w .if1 .left)
 
 -- the selector that was read
-chosen : (c : tie.After-refusal) → c .before .before .before .selector .result ≡ selectorOf (c .before .before .before .before .before .before .before .before .before .before .args .setup .now)
+chosen : (c : tie.After-refusal)
+    → c .before .before .before .selector .result ≡ selectorOf (c .before .before .before .before .before .before .before .before .before .before .args .setup .now)
 chosen c = c .before .before .before .selector .ensures
 
 -- tests 2 to 6 over the profile's table
-tests : (c : tie.After-refusal) → c .refusal .result ≡ firstOf (requestTests (table (c .before .before .before .before .before .before .before .before .before .before .args .self .profile)) (c .before .before .before .before .before .before .before .before .before .before .args .setup .now) (c .before .before .before .before .before .before .before .before .before .before .args .payload .now))
+tests : (c : tie.After-refusal)
+    → c .refusal .result ≡ firstOf (requestTests (table (c .before .before .before .before .before .before .before .before .before .before .args .self .profile)) (c .before .before .before .before .before .before .before .before .before .before .args .setup .now) (c .before .before .before .before .before .before .before .before .before .before .args .payload .now))
 tests c =
     let a = c .before .before .before .before .before .before .before .before .before .before .args in
     c .refusal .ensures
