@@ -43,9 +43,9 @@ throttleItem l payload =
 abbrev pub throttleDefault : ThrottleLimits → ThrottleSetting
 throttleDefault l = record { mode = 0; percent = l .maximum }
 
-unfoldable pub throttleHeld : ThrottleLimits → Throttle → ThrottleSetting
-throttleHeld l T.Unset = throttleDefault l
-throttleHeld l (T.Held s) = s
+unfoldable pub throttleCurrent : ThrottleLimits → Throttle → ThrottleSetting
+throttleCurrent l T.Unset = throttleDefault l
+throttleCurrent l (T.Held s) = s
 
 -- MIN, MAX, RES, CUR, else DEF
 unfoldable pub throttleAt : ThrottleLimits → Throttle → ℕ → ThrottleSetting
@@ -53,7 +53,7 @@ throttleAt l held code =
     cond (eqb code getMin) (record { mode = 0; percent = l .minimum })
     (cond (eqb code getMax) (record { mode = 1; percent = l .maximum })
     (cond (eqb code getRes) (record { mode = 0; percent = l .step })
-    (cond (eqb code getCur) (throttleHeld l held)
+    (cond (eqb code getCur) (throttleCurrent l held)
     (throttleDefault l))))
 
 -- mode and percent, with three numbers behind them

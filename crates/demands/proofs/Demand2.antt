@@ -99,7 +99,7 @@ sensor-exact c w = record { code = rw w; held = twelfths; unset = λ e. rw (w, e
 -- GET_CUR is DEF while no setting is held of the selector's control.
 module _ (c : Camera) (l : length (c .face) ≡ 15) where
   pub unset-current : (selector : ℕ) → Control selector → ((k : ℕ) → selectorAt k ≡ selector → held c k ≡ none) → answerOf c selector 0x81 ≡ answerOf c selector 0x87
-  unfolding answerOf held answerBy ev.evAnswer ev.evAt ev.evHeld metadataAnswer metadataAt hdrAnswer hdrAt numberOr throttle.throttleAnswer throttle.throttleAt throttle.throttleHeld
+  unfolding answerOf held answerBy ev.evAnswer ev.evAt ev.evCurrent metadataAnswer metadataAt hdrAnswer hdrAt numberOr throttle.throttleAnswer throttle.throttleAt throttle.throttleCurrent
   unset-current _ selectors.ev h = go (c .ev) (h 0 refl)
     where
       go : (e : Ev) → evHeld e ≡ none → ev.evAnswer (c .profile .ev) e 0x81 ≡ ev.evAnswer (c .profile .ev) e 0x87

@@ -71,9 +71,9 @@ evBytes s = bytesOf 7 (s .flags) ++ bytesOf 4 (bits32 (s .value))
 abbrev pub evDefault : EvSetting
 evDefault = record { flags = 16; value = pos 0 }
 
-unfoldable pub evHeld : Ev → EvSetting
-evHeld E.Unset = evDefault
-evHeld (E.Held s) = s
+unfoldable pub evCurrent : Ev → EvSetting
+evCurrent E.Unset = evDefault
+evCurrent (E.Held s) = s
 
 -- the flags and the value of an answer: MIN, MAX, RES, CUR, else DEF
 unfoldable pub evAt : EvLimits → Ev → ℕ → EvSetting
@@ -81,7 +81,7 @@ evAt l held code =
     cond (eqb code getMin) (record { flags = 16; value = l .low })
     (cond (eqb code getMax) (record { flags = 16; value = l .high })
     (cond (eqb code getRes) (record { flags = l .steps; value = pos 0 })
-    (cond (eqb code getCur) (evHeld held)
+    (cond (eqb code getCur) (evCurrent held)
     evDefault)))
 
 unfoldable pub evAnswer : EvLimits → Ev → ℕ → List ℕ

@@ -8,7 +8,7 @@ use mathlib.Core.List.{List, [], _++_}
 use mathlib.Core.Option.{Option}
 use lib.ListN.{length, drop}
 use Rattle.snapshot.specs.Form.{wellFormed, place, sound, keyAt}
-use Rattle.snapshot.specs.Records.{decode, encode, held, Good, recordsOf, find, Ascending, joined}
+use Rattle.snapshot.specs.Records.{decode, encode, recordCount, Good, recordsOf, find, Ascending, joined}
 use Rattle.snapshot.specs.Merge.{over, merged, Apart, mergeCode, mergeLen, mergeOut, handed, Alike}
 use Rattle.snapshot.specs.Calls.{Call, check, merge, verdict, count, lent, left}
 use Rattle.snapshot.proofs.Laws.Keys as keys
@@ -47,7 +47,7 @@ pub key-order : (s t : List ℕ) → sound s ≡ true → sound t ≡ true → (
 key-order = keys.key-order
 
 -- 01's lengths: a snapshot has at most 250 bytes, and at most 159 with at most 8 endpoints, as many as a profile may have.
-pub longest : (m : ℕ → Option (List ℕ)) → Good m → (length (encode m) ≤ 250) × (held 15 1 m ≤ 8 → length (encode m) ≤ 159)
+pub longest : (m : ℕ → Option (List ℕ)) → Good m → (length (encode m) ≤ 250) × (recordCount 15 1 m ≤ 8 → length (encode m) ≤ 159)
 longest m g = (lengths.encode-length m g, lengths.encode-short m g)
 
 -- Merging gives, in ascending order, one record for each key that is in either snapshot, the second's where both have it, and is well formed.

@@ -56,13 +56,13 @@ unfoldable pub encode : (ℕ → Option (List ℕ)) → List ℕ
 encode m = records 19 0 m
 
 -- how many of the n keys from k on have a record
-abbrev pub heldAt : Option (List ℕ) → ℕ → ℕ
-heldAt none n = n
-heldAt (some r) n = suc n
+abbrev pub counted : Option (List ℕ) → ℕ → ℕ
+counted none n = n
+counted (some r) n = suc n
 
-unfoldable pub held : ℕ → ℕ → (ℕ → Option (List ℕ)) → ℕ
-held zero k m = 0
-held (suc n) k m = heldAt (m k) (held n (suc k) m)
+unfoldable pub recordCount : ℕ → ℕ → (ℕ → Option (List ℕ)) → ℕ
+recordCount zero k m = 0
+recordCount (suc n) k m = counted (m k) (recordCount n (suc k) m)
 
 -- a record of key k: the bytes of a sound record, no more and no fewer
 pub record Record (k : ℕ) (r : List ℕ) : Type 0 where

@@ -15,11 +15,11 @@ use Rattle.controls.specs.declared.throttle.Throttle.the-variants as T
 use Rattle.controls.specs.declared.throttle.ThrottleSetting.{ThrottleSetting}
 use Rattle.controls.specs.Answers.{answerBy}
 use Rattle.controls.specs.Settings.{numberOr}
-use Rattle.exposure.specs.Ev.{evBytes, evHeld, evAt, evAnswer}
+use Rattle.exposure.specs.Ev.{evBytes, evCurrent, evAt, evAnswer}
 use Rattle.face.specs.Face.{endpoints, addressAt, entryOf, heldAt}
 use Rattle.controls.specs.Metadata.{metadataAt, metadataAnswer}
 use Rattle.controls.specs.Hdr.{hdrAt, hdrAnswer}
-use Rattle.controls.specs.Throttle.{throttleBytes, throttleHeld, throttleAt, throttleAnswer}
+use Rattle.controls.specs.Throttle.{throttleBytes, throttleCurrent, throttleAt, throttleAnswer}
 use Rattle.face.proofs.Laws.Face.{place-listed}
 use Rattle.camera.specs.declared.record.Camera.{Camera}
 use Rattle.camera.specs.Profile.{has}
@@ -34,7 +34,7 @@ use Rattle.demands.proofs.Laws.ReadBack.{current-entry, default-entry, 
 
 module _ (c : Camera) where
   pub ev-current : (s : EvSetting) → held c 0 ≡ some (S.Ev s) → answerOf c 0x03 0x81 ≡ evBytes s
-  unfolding held answerOf evAnswer answerBy evAt evHeld
+  unfolding held answerOf evAnswer answerBy evAt evCurrent
   ev-current s e = rw (ev-same (c .ev) (E.Held s) e)
 
   pub hdr-current : (n : ℕ) → held c 17 ≡ some (S.Hdr n) → answerOf c 0x0D 0x81 ≡ bytesOf 4 n
@@ -42,7 +42,7 @@ module _ (c : Camera) where
   hdr-current n e = rw (hdr-same (c .hdr) (N.Held n) e)
 
   pub throttle-current : (s : ThrottleSetting) → held c 18 ≡ some (S.Throttle s) → answerOf c 0x0E 0x81 ≡ throttleBytes s (c .profile .throttle)
-  unfolding held answerOf throttleAnswer answerBy throttleAt throttleHeld
+  unfolding held answerOf throttleAnswer answerBy throttleAt throttleCurrent
   throttle-current s e = rw (throttle-same (c .throttle) (T.Held s) e)
 
   -- metadata that is held is writable

@@ -118,18 +118,18 @@ module _ (c : Camera) (w : wellFormed c ≡ true) where
   abbrev rows : ℕ → Option (List ℕ)
   rows k = Option·map (row k) (held c k)
 
-  held-tally : (n k : ℕ) → 1 ≤ k → n + k ≤ 16 → records.held n k rows ≤ tally n k (listed limits (endpoints limits))
-  unfolding records.held tally
+  held-tally : (n k : ℕ) → 1 ≤ k → n + k ≤ 16 → records.recordCount n k rows ≤ tally n k (listed limits (endpoints limits))
+  unfolding records.recordCount tally
   held-tally zero k l h = omega arith
   held-tally (suc n) k l h = go (held c k) refl (held-tally n (suc k) (omega arith) (omega arith))
     where
-      go : (o : Option Setting) → held c k ≡ o → records.held n (suc k) rows ≤ tally n (suc k) (listed limits (endpoints limits))
-          → records.heldAt (Option·map (row k) o) (records.held n (suc k) rows) ≤ cond (listed limits (endpoints limits) k) 1 0 + tally n (suc k) (listed limits (endpoints limits))
+      go : (o : Option Setting) → held c k ≡ o → records.recordCount n (suc k) rows ≤ tally n (suc k) (listed limits (endpoints limits))
+          → records.counted (Option·map (row k) o) (records.recordCount n (suc k) rows) ≤ cond (listed limits (endpoints limits) k) 1 0 + tally n (suc k) (listed limits (endpoints limits))
       go none e ih = omega arith
       go (some s) e ih = rw (held-listed k s l (omega arith) e) (omega arith)
 
   -- at most eight endpoints hold a setting
-  pub few-held : records.held 15 1 rows ≤ 8
+  pub few-held : records.recordCount 15 1 rows ≤ 8
   few-held = omega (arith, held-tally 15 1 (omega arith) (omega arith), tally-listed limits (endpoints limits) 15 1)
 
   pub snapshot-short : length (snapshot c) ≤ 159

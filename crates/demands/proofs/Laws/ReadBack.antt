@@ -20,11 +20,11 @@ use Rattle.controls.specs.declared.settings.Setting.the-variants as S
 use Rattle.face.specs.declared.face.FaceLimits.{FaceLimits}
 use Rattle.controls.specs.Answers.{answerBy}
 use Rattle.controls.specs.Settings.{itemOf, numberOr, codeOf}
-use Rattle.exposure.specs.Ev.{evFlags, evValue, evItem, evHeld, evAt, evAnswer}
+use Rattle.exposure.specs.Ev.{evFlags, evValue, evItem, evCurrent, evAt, evAnswer}
 use Rattle.face.specs.Face.{endpoints, addressAt, offersAt, offersFrom, offersOf, takesFace, entryAddress, entryFlags, seenIn, seenBefore, faceItem, entryOf, heldAt, flagsAt, entriesOf, faceValue, faceAnswer}
 use Rattle.controls.specs.Metadata.{metadataItem, metadataAt, metadataAnswer}
 use Rattle.controls.specs.Hdr.{hdrItem, hdrAt, hdrAnswer}
-use Rattle.controls.specs.Throttle.{throttleItem, throttleHeld, throttleAt, throttleBytes, throttleAnswer}
+use Rattle.controls.specs.Throttle.{throttleItem, throttleCurrent, throttleAt, throttleBytes, throttleAnswer}
 use Rattle.wire.proofs.Laws.Bytes.{bytes-at}
 use Rattle.exposure.proofs.Laws.Ev.{ev-bytes}
 use Rattle.face.proofs.Laws.Face.{accepted, length-entries}
@@ -57,7 +57,7 @@ module _ (c : Camera) (payload : List ℕ) (b : Bytes payload) where
 
   pub answer-back : (selector : ℕ) → Control selector → (selector ≡ 0x06 → ⊥) → settable (c .profile) selector ≡ true → setRefusal (c .profile) selector payload ≡ 0
       → length payload ≡ takes (c .profile) selector payload → answerOf (puts c (setGives (c .profile) selector payload)) selector 0x81 ≡ bytesBack (c .profile) selector payload
-  unfolding setRefusal setGives itemAt evItem metadataItem hdrItem throttleItem answerOf put answerBy evAnswer evAt evHeld metadataAnswer metadataAt hdrAnswer hdrAt numberOr throttleAnswer throttleAt throttleHeld throttleBytes
+  unfolding setRefusal setGives itemAt evItem metadataItem hdrItem throttleItem answerOf put answerBy evAnswer evAt evCurrent metadataAnswer metadataAt hdrAnswer hdrAt numberOr throttleAnswer throttleAt throttleCurrent throttleBytes
   answer-back _ ev m w z n =
       ap (λ d. answerOf d 0x03 0x81) (one-put c (itemAt (c .profile) 0x03 payload) _ (S.Ev (record { flags = evFlags payload; value = evValue payload })) refl z)
       ∙ ev-bytes payload n b

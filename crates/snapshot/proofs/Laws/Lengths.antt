@@ -7,7 +7,7 @@ use mathlib.Core.Option.{Option, none, some}
 use lib.ListN.{length, length-append}
 use borrow.Author.Tests.{ne-eqb, le-leb}
 use Rattle.snapshot.specs.Form.{sizeOf}
-use Rattle.snapshot.specs.Records.{bytes, records, encode, heldAt, held, GoodAt, Good}
+use Rattle.snapshot.specs.Records.{bytes, records, encode, counted, recordCount, GoodAt, Good}
 use Rattle.snapshot.proofs.Laws.Maps.{records-split}
 
 -- the lengths of the n keys' records from k on
@@ -31,21 +31,21 @@ module _ (m : ℕ → Option (List ℕ)) (g : Good m) where
   encode-length = records-length 19 0
 
   -- 13 for each endpoint that is held
-  faces-length : (n k : ℕ) → 1 ≤ k → n + k ≤ 16 → length (records n k m) ≤ 13 * held n k m
-  unfolding records held
+  faces-length : (n k : ℕ) → 1 ≤ k → n + k ≤ 16 → length (records n k m) ≤ 13 * recordCount n k m
+  unfolding records recordCount
   faces-length zero k h l = omega arith
   faces-length (suc n) k h l = go (m k) (g k) (faces-length n (suc k) (omega arith) (omega arith))
     where
       size : sizeOf k ≡ 13
       size = simp (ne-eqb k 0 (omega arith), le-leb k 15 (omega arith))
 
-      go : (o : Option (List ℕ)) → GoodAt k o → length (records n (suc k) m) ≤ 13 * held n (suc k) m
-          → length (bytes o ++ records n (suc k) m) ≤ 13 * heldAt o (held n (suc k) m)
+      go : (o : Option (List ℕ)) → GoodAt k o → length (records n (suc k) m) ≤ 13 * recordCount n (suc k) m
+          → length (bytes o ++ records n (suc k) m) ≤ 13 * counted o (recordCount n (suc k) m)
       go none p ih = ih
       go (some r) p ih = simp length-append (omega (arith, p .long, size))
 
   -- a snapshot with at most 8 endpoints has at most 159 bytes
-  pub encode-short : held 15 1 m ≤ 8 → length (encode m) ≤ 159
+  pub encode-short : recordCount 15 1 m ≤ 8 → length (encode m) ≤ 159
   unfolding encode total
   encode-short h =
       omega (

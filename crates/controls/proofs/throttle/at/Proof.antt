@@ -1,7 +1,7 @@
 use mathlib.Core.Path.{ap, sym, _∙_}
 use borrow.Author.Tests.{ne-eqb}
 use borrow.Author.Needs.{needs}
-use Rattle.controls.specs.Throttle.{throttleAt, throttleHeld}
+use Rattle.controls.specs.Throttle.{throttleAt, throttleCurrent}
 use Rattle.controls.proofs.throttle.at.Statement.{statement}
 use Rattle.controls.proofs.throttle.at.Tie as tie
 
@@ -24,16 +24,16 @@ enum-known-held : tie.Need-enum-known-held
 enum-known-held c = search needs
 
 returns-4 : tie.Need-returns-4
-unfolding throttleAt throttleHeld
+unfolding throttleAt throttleCurrent
 returns-4 c =
     let a = c .before .before .before .before .before .before .args in
-    sym (ap (throttleAt (a .l) (a .held)) (c .before .before .if4 .taken) ∙ ap (throttleHeld (a .l)) (c .enum-told .given .1))
+    sym (ap (throttleAt (a .l) (a .held)) (c .before .before .if4 .taken) ∙ ap (throttleCurrent (a .l)) (c .enum-told .given .1))
 
 returns-5 : tie.Need-returns-5
-unfolding throttleAt throttleHeld
+unfolding throttleAt throttleCurrent
 returns-5 c =
     let a = c .before .before .before .before .before .before .before .args in
-    sym (ap (throttleAt (a .l) (a .held)) (c .before .before .before .if4 .taken) ∙ ap (throttleHeld (a .l)) (c .before .held .given .1))
+    sym (ap (throttleAt (a .l) (a .held)) (c .before .before .before .if4 .taken) ∙ ap (throttleCurrent (a .l)) (c .before .held .given .1))
 
 returns-6 : tie.Need-returns-6
 unfolding throttleAt

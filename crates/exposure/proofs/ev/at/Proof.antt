@@ -6,7 +6,7 @@ use mir.Facts.{toZ-ofZ}
 use borrow.Author.Needs.{needs}
 use borrow.Author.Tests.{ne-eqb}
 use Rattle.controls.specs.declared.settings.EvSetting.{EvSetting}
-use Rattle.exposure.specs.Ev.{evAt, evHeld}
+use Rattle.exposure.specs.Ev.{evAt, evCurrent}
 use Rattle.exposure.proofs.ev.at.Statement.{statement}
 use Rattle.exposure.proofs.ev.at.Tie as tie
 
@@ -37,16 +37,16 @@ enum-known-held : tie.Need-enum-known-held
 enum-known-held c = search needs
 
 returns-4 : tie.Need-returns-4
-unfolding evAt evHeld
+unfolding evAt evCurrent
 returns-4 c =
     let a = c .before .before .before .before .before .before .args in
-    sym (ap (evAt (a .l) (a .held)) (c .before .before .if4 .taken) ∙ ap evHeld (c .enum-told .given .1))
+    sym (ap (evAt (a .l) (a .held)) (c .before .before .if4 .taken) ∙ ap evCurrent (c .enum-told .given .1))
 
 returns-5 : tie.Need-returns-5
-unfolding evAt evHeld
+unfolding evAt evCurrent
 returns-5 c =
     let a = c .before .before .before .before .before .before .before .args in
-    sym (ap (evAt (a .l) (a .held)) (c .before .before .before .if4 .taken) ∙ ap evHeld (c .before .held .given .1))
+    sym (ap (evAt (a .l) (a .held)) (c .before .before .before .if4 .taken) ∙ ap evCurrent (c .before .held .given .1))
 
 returns-6 : tie.Need-returns-6
 unfolding evAt
