@@ -9,6 +9,7 @@ use controls::Number;
 use controls::Setting;
 use controls::throttle::Throttle;
 use exposure::Ev;
+use snapshot::KEYS;
 ghost use mathlib.Core.Path.{_≡_};
 ghost use Rattle.controls.specs.Settings.{settingOf};
 ghost use Rattle.camera.specs.Record.{evHeld, faceHeld, metadataHeld, hdrHeld, throttleHeld, held, kept, wellFormed};
@@ -106,7 +107,7 @@ impl Camera {
         let p = self.profile;
         let mut ok = p.valid();
         let mut key = 0;
-        while key < 19 {
+        while key < KEYS {
             ok = ok & is_kept(p, self.held(key));
             key += 1;
         }

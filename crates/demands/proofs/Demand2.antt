@@ -45,11 +45,11 @@ use Rattle.demands.specs.Records.{Ok, Typed, Same, Written}
 use Rattle.demands.specs.Demand2.{NewSettings, Twelfths, SensorExact, CurrentIsHeld, SameAnswers, FaceLength, bytesBack, entryBytes, FaceReadsBack, ReadsBack, Sends, Gets, SnapshotReadsBack}
 use Rattle.demands.proofs.Laws.Longest.{snapshot-short}
 use Rattle.demands.proofs.Laws.Held.{none-never, fresh-held, puts-profile}
-use Rattle.camera.proofs.Laws.Record.{formed-profile, valid-presence, valid-face}
+use Rattle.camera.proofs.Laws.Record.{formed-profile, valid-presence, valid-face, valid-ev}
 use Rattle.demands.proofs.Laws.Kept.{control-there, held-good}
 use Rattle.demands.proofs.Laws.Current.{ev-current, face-current, face-default, metadata-current, hdr-current, throttle-current}
 use Rattle.demands.proofs.Laws.Same.{ev-same, face-places-same, metadata-same, hdr-same, throttle-same}
-use Rattle.demands.proofs.Laws.Sensor.{twelfths-whole, twelfths-exact, valid-ev, steps-below}
+use Rattle.demands.proofs.Laws.Sensor.{twelfths-whole, twelfths-exact, steps-below}
 use Rattle.demands.proofs.Laws.ReadBack.{answer-back, Taken, entry-taken, After, after, payload-entry, place-at, face-sized, current-entry, current-length, current-held, current-same, face-none}
 use Rattle.camera.specs.Selectors.{Control}
 use Rattle.camera.proofs.Laws.Selectors.{control-known}

@@ -12,7 +12,7 @@ use Rattle.camera.specs.declared.record.Camera.{Camera}
 use Rattle.camera.specs.Record.{held, wellFormed}
 use Rattle.camera.specs.Snapshots.{written, writtenOut}
 
--- a record of the profile p that a call leaves such a record of: valid, well formed, and with all its face places
+-- a camera of the profile p that is not refused 0x21, with the 15 face places that its type has; every call leaves such a one
 pub record Ok (p : Profile) (c : Camera) : Type 0 where
   pub profile : c .profile ≡ p
   pub formed : wellFormed c ≡ true

@@ -13,7 +13,7 @@ use Rattle.wire.specs.Flags.{choiceOf}
 use Rattle.controls.specs.declared.settings.Item.{Item}
 use Rattle.controls.specs.declared.settings.Setting.{Setting}
 use Rattle.controls.specs.declared.settings.Setting.the-variants as S
-use Rattle.exposure.specs.Ev.{compensation}
+use Rattle.exposure.specs.Ev.{evValid, compensation}
 use Rattle.face.specs.Face.{allBelow, faceValid, offersOf, isChoice, faceRefusal}
 use Rattle.controls.specs.Settings.{settingOf}
 use Rattle.camera.specs.declared.profile.Profile.{Profile}
@@ -112,6 +112,10 @@ module _ (p : Profile) (v : profileValid p ≡ true) where
   pub valid-presence : presenceValid (p .controls) ≡ true
   unfolding profileValid
   valid-presence = let q = simp and-eq-true-iff at v in q .0
+
+  pub valid-ev : has p 0x03 ≡ true → evValid (p .ev) ≡ true
+  unfolding profileValid
+  valid-ev h = let q = simp and-eq-true-iff at v in rw h at (q .1 .0)
 
   pub valid-face : has p 0x06 ≡ true → faceValid (p .face) ≡ true
   unfolding profileValid

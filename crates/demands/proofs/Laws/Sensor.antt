@@ -8,8 +8,6 @@ use lib.IntN.{ℤ, pos, negsuc, negℤ, _*ℤ_}
 use borrow.Author.Tests.{ltb-true}
 use Rattle.exposure.specs.declared.ev.EvLimits.{EvLimits}
 use Rattle.exposure.specs.Ev.{evValid, divisor}
-use Rattle.camera.specs.declared.profile.Profile.{Profile}
-use Rattle.camera.specs.Profile.{has, profileValid}
 
 -- every step is a whole number of twelfths
 pub twelfths-whole : (place : ℕ) → divisor place * (12 / divisor place) ≡ 12
@@ -33,10 +31,6 @@ twelfths-exact place v =
     let d = divisor place in
     times-times v (12 / d) d ∙ ap (λ (m : ℕ). v *ℤ pos m) (mul-comm (12 / d) d ∙ twelfths-whole place)
 
--- the limits of a valid profile that has the control
-pub valid-ev : (p : Profile) → profileValid p ≡ true → has p 0x03 ≡ true → evValid (p .ev) ≡ true
-unfolding profileValid
-valid-ev p v h = let q = simp and-eq-true-iff at v in rw h at (q .1 .0)
-
+-- the limits of a valid profile offer no other step
 pub steps-below : (l : EvLimits) → evValid l ≡ true → l .steps < 32
 steps-below l h = let q = simp and-eq-true-iff at h in ltb-true (l .steps) 32 (q .1)
