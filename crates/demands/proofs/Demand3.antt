@@ -30,7 +30,7 @@ use Rattle.camera.specs.Items.{puts}
 use Rattle.camera.specs.Requests.{refused}
 use Rattle.camera.specs.Snapshots.{loadTests, loadCode, loadGives, loaded, itemFor, row, snapshot, writeCode, written, writtenOut}
 use Rattle.camera.specs.Calls.{Call, load}
-use Rattle.demands.specs.Lists.{gives, leaves, flagAfter, given, sheet, run}
+use Rattle.demands.specs.Lists.{gives, leaves, flagAfter, given, snapshotAfter, run}
 use Rattle.demands.specs.Records.{Ok, Typed, Written}
 use Rattle.demands.specs.Demand3.{MergesTo, Whole, Merges, Restores}
 use Rattle.demands.proofs.Laws.Held.{fresh-held}
@@ -77,11 +77,11 @@ module _ (p : Profile) (v : profileValid p ≡ true) where
   given-rows f [] = tt
   given-rows f (c ∷ cs) = rows-append row (gives p f c) _ (rows p (gives p f c) (gives-good p v f c)) (given-rows (leaves f c) cs)
 
-  snapshot-after : (f : Bool) (cs : List Call) → snapshot (run (fresh p f) cs) ≡ sheet p f cs
+  snapshot-after : (f : Bool) (cs : List Call) → snapshot (run (fresh p f) cs) ≡ snapshotAfter p f cs
   unfolding snapshot
   snapshot-after f cs = ap (snapshotOf row) (held-after p v f cs)
 
-  cut : (f : Bool) (xs ys : List Call) → sheet p f (xs ++ ys) ≡ merged (sheet p f xs) (sheet p (flagAfter f xs) ys)
+  cut : (f : Bool) (xs ys : List Call) → snapshotAfter p f (xs ++ ys) ≡ merged (snapshotAfter p f xs) (snapshotAfter p (flagAfter f xs) ys)
   cut f xs ys =
       let g = flagAfter f xs in
       ap (λ l. snapshotOf row (lastOf l)) (given-append p f xs ys)
@@ -102,7 +102,7 @@ module _ (p : Profile) (v : profileValid p ≡ true) where
         is-held = held-after p v f (xs ++ ys);
         is-streaming = flag-after p v f (xs ++ ys);
         is-formed = w;
-        is-sheet = s;
+        is-snapshot = s;
         is-written = λ out h. subst (λ l. Written (run (fresh p f) (xs ++ ys)) l out) s (writes (run (fresh p f) (xs ++ ys)) out w (rw s h));
         is-merged = m;
         is-merge = merges-to first second _ (formed f xs) (formed (first .streaming) ys) m;

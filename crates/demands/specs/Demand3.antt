@@ -11,7 +11,7 @@ use Rattle.camera.specs.declared.record.Camera.{Camera}
 use Rattle.camera.specs.Record.{fresh, held, wellFormed}
 use Rattle.camera.specs.Snapshots.{loaded, snapshot}
 use Rattle.camera.specs.Calls.{Call}
-use Rattle.demands.specs.Lists.{flagAfter, settings, sheet, run}
+use Rattle.demands.specs.Lists.{flagAfter, settings, snapshotAfter, run}
 use Rattle.demands.specs.Records.{Written, Same}
 
 -- The program's merge of the snapshots a and b is s: both are well formed, and with room for s it is accepted, reports the length of s, and
@@ -29,10 +29,10 @@ pub record Whole (p : Profile) (streaming : Bool) (xs ys : List Call) : Type 0 w
   pub is-held : held (run (fresh p streaming) (xs ++ ys)) ≡ settings p streaming (xs ++ ys)
   pub is-streaming : run (fresh p streaming) (xs ++ ys) .streaming ≡ flagAfter streaming (xs ++ ys)
   pub is-formed : wellFormed (run (fresh p streaming) (xs ++ ys)) ≡ true
-  -- its snapshot is the sheet of these settings, which writing with room for it gives
-  pub is-sheet : snapshot (run (fresh p streaming) (xs ++ ys)) ≡ sheet p streaming (xs ++ ys)
-  pub is-written : (out : List ℕ) → length (sheet p streaming (xs ++ ys)) ≤ length out
-      → Written (run (fresh p streaming) (xs ++ ys)) (sheet p streaming (xs ++ ys)) out
+  -- its snapshot is that of these settings, which writing with room for it gives
+  pub is-snapshot : snapshot (run (fresh p streaming) (xs ++ ys)) ≡ snapshotAfter p streaming (xs ++ ys)
+  pub is-written : (out : List ℕ) → length (snapshotAfter p streaming (xs ++ ys)) ≤ length out
+      → Written (run (fresh p streaming) (xs ++ ys)) (snapshotAfter p streaming (xs ++ ys)) out
   -- and the first part's merged with the one that the second part leaves on a fresh camera with the flag that the first part left
   pub is-merged :
       let first = run (fresh p streaming) xs in

@@ -53,8 +53,8 @@ abbrev pub settings : Profile → Bool → List Call → ℕ → Option Setting
 settings p streaming cs = lastOf (given p streaming cs)
 
 -- the snapshot of these settings, 01's "sheet after a list"
-abbrev pub sheet : Profile → Bool → List Call → List ℕ
-sheet p streaming cs = snapshotOf row (settings p streaming cs)
+abbrev pub snapshotAfter : Profile → Bool → List Call → List ℕ
+snapshotAfter p streaming cs = snapshotOf row (settings p streaming cs)
 
 -- the record after a list, call by call
 abbrev pub run : Camera → List Call → Camera

@@ -17,11 +17,11 @@ use Rattle.demands.specs.Bench.{bench}
 -- what a row tells
 pub data Answer : Type 0 where
   -- of a request: its number and count, and then the sensor's twelfths and the snapshot
-  answer : (number count : ℕ) (twelfths : ℤ) (sheet : List ℕ) → Answer
+  answer : (number count : ℕ) (twelfths : ℤ) (saved : List ℕ) → Answer
   -- of a setup packet: whether it is a SET, and its selector, unit, interface and wLength
   setup : Bool → (selector unit interface wLength : ℕ) → Answer
   -- of a list of requests: the snapshot that it leaves
-  sheet : List ℕ → Answer
+  saved : List ℕ → Answer
   -- of a metadata block: its number and how many items it has, and the payload of the first
   block : Counted → List ℕ → Answer
 
@@ -78,7 +78,7 @@ abbrev pub call : Request → Call
 call r = request (r .0) (r .1) []
 
 abbrev pub leave : List Request → List ℕ → Row
-leave rs bytes = sheet (snapshot (run bench (map call rs))) is sheet bytes
+leave rs bytes = saved (snapshot (run bench (map call rs))) is saved bytes
 
 -- a metadata block has so many items, and the first this payload; or it is refused
 abbrev pub read : List ℕ → Answer
