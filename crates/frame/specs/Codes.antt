@@ -1,9 +1,5 @@
--- The numbers of document 01 for frame metadata and packets, and the longest block.
+-- The numbers of document 01 for frame metadata and packets, and the longest block; that of a lent buffer too short is `wire`'s.
 use Prim.Native.Nat.{ℕ}
-
--- the lent buffer ends before what is to be written
-abbrev pub noRoom : ℕ
-noRoom = 0x20
 
 -- fewer than 8 bytes for an item's header, or a size past the end of the block
 abbrev pub truncated : ℕ

@@ -8,7 +8,8 @@ use lib.Dec.{ltb, eqb}
 use Rattle.wire.specs.Number.{bytesOf}
 use Rattle.wire.specs.Overlay.{overlay}
 use Rattle.frame.specs.declared.writer.Appended.{Appended}
-use Rattle.frame.specs.Codes.{unknownId, tooLong, noRoom, longestBlock}
+use Rattle.wire.specs.Uvc.{noRoom}
+use Rattle.frame.specs.Codes.{unknownId, tooLong, longestBlock}
 use Rattle.wire.specs.Rows.{_⇒_, firstOf}
 use Rattle.frame.specs.Ids.{isKnown}
 use Rattle.frame.specs.Items.{Item}

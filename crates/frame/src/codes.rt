@@ -1,7 +1,5 @@
-// The numbers of document 01 for frame metadata and packets.
+// The numbers of document 01 for frame metadata and packets; that of a lent buffer too short is `wire`'s.
 pub const ACCEPTED: u8 = 0x00;
-// The lent buffer ends before what is to be written.
-pub const NO_ROOM: u8 = 0x20;
 // Fewer than 8 bytes for an item's header, or a size past the end of the block.
 pub const TRUNCATED: u8 = 0x40;
 

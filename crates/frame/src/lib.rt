@@ -12,7 +12,6 @@ mod writer;
 pub use codes::ACCEPTED;
 pub use codes::CUT_HEADER;
 pub use codes::NO_ITEM;
-pub use codes::NO_ROOM;
 pub use codes::SHORT_HEADER;
 pub use codes::SHORT_SIZE;
 pub use codes::TOO_LONG;

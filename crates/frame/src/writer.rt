@@ -1,11 +1,11 @@
 // Writing one item at a place of a lent buffer. What stands before the place is not read.
 use crate::codes::ACCEPTED;
-use crate::codes::NO_ROOM;
 use crate::codes::TOO_LONG;
 use crate::codes::UNKNOWN_ID;
 use crate::ids::known;
 use crate::items::ITEM_HEADER;
 use crate::items::LONGEST_BLOCK;
+use wire::uvc::NO_ROOM;
 ghost use mathlib.Core.Path.{_≡_};
 ghost use Prim.Native.Nat.{_+_, _≤_};
 ghost use lib.ListN.{length};

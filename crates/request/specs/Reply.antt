@@ -4,6 +4,7 @@ use mathlib.Core.List.{List, _++_}
 use mathlib.Core.Bool.{cond}
 use lib.Dec.{leb}
 use lib.ListN.{length, take, drop}
+use Rattle.wire.specs.Uvc.{noRoom}
 use Rattle.request.specs.declared.reply.Sent.{Sent}
 
 -- how many bytes are sent
@@ -14,7 +15,7 @@ countOf answer wLength = min wLength (length answer)
 unfoldable pub sentOf : List ℕ → ℕ → ℕ → Sent
 sentOf answer wLength room =
     let n = countOf answer wLength in
-    cond (leb n room) (record { code = 0; count = n }) (record { code = 0x20; count = 0 })
+    cond (leb n room) (record { code = 0; count = n }) (record { code = noRoom; count = 0 })
 
 -- the buffer afterwards
 unfoldable pub replyOf : List ℕ → ℕ → List ℕ → List ℕ
