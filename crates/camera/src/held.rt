@@ -78,24 +78,20 @@ impl Camera {
         ensures { λ r. ⌜ r ≡ itemHeld (held self key) ⌝ }
     {
         if key == 0 {
-            let h = self.ev;
-            return held_ev(h);
+            return held_ev(self.ev);
         }
         if key <= 15 {
             let at = key - 1;
             return held_face((0x80 + key) as u8, self.face[at]);
         }
         if key == 16 {
-            let h = self.metadata;
-            return held_metadata(h);
+            return held_metadata(self.metadata);
         }
         if key == 17 {
-            let h = self.hdr;
-            return held_hdr(h);
+            return held_hdr(self.hdr);
         }
         if key == 18 {
-            let h = self.throttle;
-            return held_throttle(h);
+            return held_throttle(self.throttle);
         }
         Item::Absent
     }
@@ -104,11 +100,10 @@ impl Camera {
     pub(crate) fn well_formed(self) -> bool
         ensures { λ r. ⌜ r ≡ wellFormed self ⌝ }
     {
-        let p = self.profile;
-        let mut ok = p.valid();
+        let mut ok = self.profile.valid();
         let mut key = 0;
         while key < KEYS {
-            ok = ok & is_kept(p, self.held(key));
+            ok = ok & is_kept(self.profile, self.held(key));
             key += 1;
         }
         ok

@@ -80,14 +80,12 @@ impl Camera {
     fn load_all(self, s: &[u8]) -> Camera
         ensures { λ r. ⌜ r ≡ puts self (loadGives (self .profile) (self .streaming) (now (s .entry))) ⌝ }
     {
-        let p = self.profile;
-        let streaming = self.streaming;
         let mut next = self;
         let mut at = 0;
         let mut key = 0;
         while key < KEYS {
             let n = snapshot::passed_at(s, at, key);
-            next = next.put_item(item_of(p, streaming, key, s, at, n));
+            next = next.put_item(item_of(self.profile, self.streaming, key, s, at, n));
             at += n;
             key += 1;
         }
@@ -105,8 +103,7 @@ impl Camera {
         if form != 0 {
             return self.refuse(form);
         }
-        let p = self.profile;
-        let refusal = load_refusal(p, self.streaming, s);
+        let refusal = load_refusal(self.profile, self.streaming, s);
         if refusal != 0 {
             return self.refuse(refusal);
         }

@@ -66,24 +66,19 @@ impl Profile {
     pub fn valid(self) -> bool
         ensures { λ r. ⌜ r ≡ profileValid self ⌝ }
     {
-        let ev = self.ev;
-        let face = self.face;
-        let metadata = self.metadata;
-        let throttle = self.throttle;
         presence_valid(self.controls)
-            & (!has_control(self, EV) | exposure::valid(ev))
-            & (!has_control(self, FACE) | face::valid(face))
-            & (!has_control(self, METADATA) | controls::metadata::valid(metadata))
-            & (!has_control(self, THROTTLE) | controls::throttle::valid(throttle))
+            & (!has_control(self, EV) | exposure::valid(self.ev))
+            & (!has_control(self, FACE) | face::valid(self.face))
+            & (!has_control(self, METADATA) | controls::metadata::valid(self.metadata))
+            & (!has_control(self, THROTTLE) | controls::throttle::valid(self.throttle))
     }
 
     // The table of its controls: all take a SET but read-only metadata.
     pub(crate) fn table(self) -> Unit
         ensures { λ r. ⌜ r ≡ unitOf self ⌝ }
     {
-        let metadata = self.metadata;
         let mut settable: u32 = 0x3124;
-        if !metadata.writable {
+        if !self.metadata.writable {
             settable = 0x3024;
         }
         Unit {

@@ -52,12 +52,11 @@ impl Camera {
     fn take_all(self, selector: u8, payload: &[u8]) -> Camera
         ensures { λ r. ⌜ r ≡ puts self (setGives (self .profile) selector (now (payload .entry))) ⌝ }
     {
-        let p = self.profile;
         let n = item_count(selector, payload);
         let mut next = self;
         let mut i: u8 = 0;
         while i < n {
-            next = next.put_item(item_at(p, selector, payload, i));
+            next = next.put_item(item_at(self.profile, selector, payload, i));
             i += 1;
         }
         next
@@ -70,8 +69,7 @@ impl Camera {
         if (selector == THROTTLE) & !self.streaming {
             return self.refuse(WRONG_STATE);
         }
-        let p = self.profile;
-        let code = set_refusal(p, selector, payload);
+        let code = set_refusal(self.profile, selector, payload);
         if code != 0 {
             return self.refuse(code);
         }
@@ -89,27 +87,23 @@ impl Camera {
     {
         let p = self.profile;
         if selector == EV {
-            let l = p.ev;
-            let h = self.ev;
-            return exposure::answer(l, h, code);
+            let held = self.ev;
+            return exposure::answer(p.ev, held, code);
         }
         if selector == FACE {
-            let l = p.face;
-            let h = self.face;
-            return face::answer(l, h, code);
+            let held = self.face;
+            return face::answer(p.face, held, code);
         }
         if selector == METADATA {
-            let l = p.metadata;
-            let h = self.metadata;
-            return controls::metadata::answer(l, h, code);
+            let held = self.metadata;
+            return controls::metadata::answer(p.metadata, held, code);
         }
         if selector == HDR {
-            let h = self.hdr;
-            return controls::hdr::answer(p.auto, h, code);
+            let held = self.hdr;
+            return controls::hdr::answer(p.auto, held, code);
         }
-        let l = p.throttle;
-        let h = self.throttle;
-        controls::throttle::answer(l, h, code)
+        let held = self.throttle;
+        controls::throttle::answer(p.throttle, held, code)
     }
 
     // Test 9 of a GET, then as much of its answer as wLength asks for.
@@ -136,10 +130,9 @@ impl Camera {
         if !self.well_formed() {
             return self.refuse(MALFORMED_RECORD);
         }
-        let p = self.profile;
         let selector = request::selector(setup);
-        let takes = takes_of(p, selector, payload);
-        let code = request::refusal(p.table(), takes, setup, payload);
+        let takes = takes_of(self.profile, selector, payload);
+        let code = request::refusal(self.profile.table(), takes, setup, payload);
         if code != 0 {
             return self.refuse(code);
         }

@@ -44,8 +44,7 @@ pub(crate) fn control_refusal(p: Profile, streaming: bool, selector: u8) -> u8
     if !has_control(p, selector) {
         return INVALID_CONTROL;
     }
-    let metadata = p.metadata;
-    if (selector == METADATA) & !metadata.writable {
+    if (selector == METADATA) & !p.metadata.writable {
         return INVALID_REQUEST;
     }
     if (selector == THROTTLE) & !streaming {
@@ -58,8 +57,7 @@ pub(crate) fn control_refusal(p: Profile, streaming: bool, selector: u8) -> u8
 fn face_refusal(p: Profile, address: u8, flags: u8) -> u8
     ensures { λ r. ⌜ r ≡ valueRefusal p (Setting.Face address flags) ⌝ }
 {
-    let face = p.face;
-    let offers = face::offers_of(face, address);
+    let offers = face::offers_of(p.face, address);
     if offers == 0 {
         return OUT_OF_RANGE;
     }
@@ -69,15 +67,12 @@ fn face_refusal(p: Profile, address: u8, flags: u8) -> u8
 pub(crate) fn value_refusal(p: Profile, s: Setting) -> u8
     ensures { λ r. ⌜ r ≡ valueRefusal p s ⌝ }
 {
-    let ev = p.ev;
-    let metadata = p.metadata;
-    let throttle = p.throttle;
     match s {
-        Setting::Ev(e) => exposure::refusal(ev, e.flags as u64, e.value),
+        Setting::Ev(e) => exposure::refusal(p.ev, e.flags as u64, e.value),
         Setting::Face { address, flags } => face_refusal(p, address, flags),
-        Setting::Metadata(n) => controls::metadata::refusal(metadata, n),
+        Setting::Metadata(n) => controls::metadata::refusal(p.metadata, n),
         Setting::Hdr(n) => controls::hdr::refusal(p.auto, n),
-        Setting::Throttle(t) => controls::throttle::refusal(throttle, t.mode, t.percent),
+        Setting::Throttle(t) => controls::throttle::refusal(p.throttle, t.mode, t.percent),
     }
 }
 
@@ -86,22 +81,18 @@ pub(crate) fn item_at(p: Profile, selector: u8, payload: &[u8], i: u8) -> Item
     ensures { λ r. ⌜ r ≡ itemAt p selector (now (payload .entry)) i ⌝ }
 {
     if selector == EV {
-        let ev = p.ev;
-        return exposure::item(ev, payload);
+        return exposure::item(p.ev, payload);
     }
     if selector == FACE {
-        let face = p.face;
-        return face::item(face, payload, i);
+        return face::item(p.face, payload, i);
     }
     if selector == METADATA {
-        let metadata = p.metadata;
-        return controls::metadata::item(metadata, payload);
+        return controls::metadata::item(p.metadata, payload);
     }
     if selector == HDR {
         return controls::hdr::item(p.auto, payload);
     }
-    let throttle = p.throttle;
-    controls::throttle::item(throttle, payload)
+    controls::throttle::item(p.throttle, payload)
 }
 
 // The length that a SET of this payload must have.
@@ -112,8 +103,7 @@ pub(crate) fn takes_of(p: Profile, selector: u8, payload: &[u8]) -> usize
         return 11;
     }
     if selector == FACE {
-        let face = p.face;
-        return face::takes(face, payload);
+        return face::takes(p.face, payload);
     }
     if selector == THROTTLE {
         return 20;

@@ -146,8 +146,7 @@ pub fn payload(block: &[u8], k: usize) -> &[u8]
     ensures { λ r. ⌜ now r ≡ payloadOf (now (block .entry)) k ⌝ }
 {
     let f = item(block, k);
-    let p = f.payload;
-    lent(block, p)
+    lent(block, f.payload)
 }
 
 pub fn count(block: &[u8]) -> Counted

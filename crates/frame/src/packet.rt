@@ -85,6 +85,5 @@ pub fn metadata(packet: &[u8]) -> &[u8]
     ensures { λ r. ⌜ now r ≡ metadataOf (now (packet .entry)) ⌝ }
 {
     let h = header(packet);
-    let p = h.metadata;
-    lent(packet, p)
+    lent(packet, h.metadata)
 }

@@ -12,7 +12,5 @@ pub struct Part {
 pub(crate) fn lent(s: &[u8], p: Part) -> &[u8]
     ensures { λ r. ⌜ now r ≡ bytesAt (now (s .entry)) p ⌝ }
 {
-    let at = p.at;
-    let len = p.len;
-    wire::part(s, at, len)
+    wire::part(s, p.at, p.len)
 }

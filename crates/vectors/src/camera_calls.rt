@@ -58,8 +58,7 @@ fn sensor(camera: Camera) -> Camera {
 // A fresh camera, and whether its profile is valid.
 fn fresh(call: &[u8]) -> Camera {
     let camera = record::fresh(call);
-    let p = camera.profile;
-    if p.valid() {
+    if camera.profile.valid() {
         print::text(b" = valid");
     } else {
         print::text(b" = not valid");

@@ -24,8 +24,7 @@ fn entry(block: &[u8], k: usize) {
     let f = frame::item(block, k);
     print::code(f.code);
     print::hex(f.id as u64, 8);
-    let p = f.payload;
-    part(p);
+    part(f.payload);
 }
 
 fn count(call: &[u8]) {
@@ -74,8 +73,7 @@ fn header(call: &[u8]) {
     let h = frame::header(packet);
     print::code(h.code);
     print::hex(h.flags as u64, 2);
-    let p = h.metadata;
-    part(p);
+    part(h.metadata);
     print::part(frame::metadata(packet));
 }
 

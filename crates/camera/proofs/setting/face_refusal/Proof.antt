@@ -19,7 +19,7 @@ returns-2 : tie.Need-returns-2
 returns-2 c =
     let o = c .before .before in
     c .refusal .ensures
-    ∙ ap (λ (n : ℕ). faceRefusal n (o .before .before .args .flags)) (o .offers-of .ensures)
+    ∙ ap (λ (n : ℕ). faceRefusal n (o .before .args .flags)) (o .offers-of .ensures)
     ∙ sym (face-listed _ _ _ (λ e. c .before .if1 .left (o .offers-of .ensures ∙ e)))
 
 pub face-refusal-spec : {M : Type 1} → statement M

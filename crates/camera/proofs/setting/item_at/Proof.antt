@@ -9,7 +9,7 @@ item-requires c κs = search needs
 
 returns : tie.Need-returns
 unfolding itemAt
-returns c = rw (eq-eqb _ _ (c .before .before .if1 .taken)) (c .item .ensures)
+returns c = rw (eq-eqb _ _ (c .before .if1 .taken)) (c .item .ensures)
 
 item-requires-2 : tie.Need-item-requires-2
 item-requires-2 c κs = search needs
@@ -17,7 +17,7 @@ item-requires-2 c κs = search needs
 returns-2 : tie.Need-returns-2
 unfolding itemAt
 returns-2 c =
-    let e = c .before .before in
+    let e = c .before in
     rw (ne-eqb _ _ (e .before .if1 .left), eq-eqb _ _ (e .if2 .taken)) (c .item2 .ensures)
 
 item-requires-3 : tie.Need-item-requires-3
@@ -26,7 +26,7 @@ item-requires-3 c κs = search needs
 returns-3 : tie.Need-returns-3
 unfolding itemAt
 returns-3 c =
-    let e = c .before .before in
+    let e = c .before in
     rw (ne-eqb _ _ (e .before .before .if1 .left), ne-eqb _ _ (e .before .if2 .left), eq-eqb _ _ (e .if3 .taken)) (c .item3 .ensures)
 
 item-requires-4 : tie.Need-item-requires-4
@@ -50,7 +50,7 @@ item-requires-5 c κs = search needs
 returns-5 : tie.Need-returns-5
 unfolding itemAt
 returns-5 c =
-    let e = c .before .before in
+    let e = c .before in
     rw (
       ne-eqb _ _ (e .before .before .before .if1 .left),
       ne-eqb _ _ (e .before .before .if2 .left),

@@ -11,7 +11,7 @@ takes-requires c κs = search needs
 
 returns-2 : tie.Need-returns-2
 returns-2 c =
-    let e = c .before .before in
+    let e = c .before in
     rw (ne-eqb _ _ (e .before .if1 .left), eq-eqb _ _ (e .if2 .taken)) (c .takes .ensures)
 
 returns-3 : tie.Need-returns-3

@@ -45,7 +45,7 @@ returns : tie.Need-returns
 unfolding valueRefusal
 returns c =
     let s = c .before .before .before .before in
-    let a = s .before .before .before .before .before .args in
+    let a = s .before .before .args in
     let v = s .s .given .0 .0 in
     let f : SFits w32 (v .value) = search needs in
     c .refusal .ensures ∙ ap (evRefusal (a .p .ev) (v .flags)) (toZ-ofZ f) ∙ sym (ap (valueRefusal (a .p)) (s .s .given .1))

@@ -13,7 +13,7 @@ lent-requires c κs = search needs
 
 returns : tie.Need-returns
 unfolding payloadOf
-returns c = c .lent .ensures ∙ rw (c .before .before .item .ensures)
+returns c = c .lent .ensures ∙ rw (c .before .item .ensures)
 
 pub payload-spec : {M : Type 1} → statement M
 payload-spec = tie.close (tie.spec item-requires lent-requires returns)

@@ -13,7 +13,7 @@ lent-requires c κs = search needs
 
 returns : tie.Need-returns
 unfolding metadataOf
-returns c = c .lent .ensures ∙ rw (c .before .before .header .ensures)
+returns c = c .lent .ensures ∙ rw (c .before .header .ensures)
 
 pub metadata-spec : {M : Type 1} → statement M
 metadata-spec = tie.close (tie.spec header-requires lent-requires returns)

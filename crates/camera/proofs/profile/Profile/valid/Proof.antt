@@ -41,7 +41,7 @@ unfolding profileValid
 returns c =
     let m = c .before .before .before .before in
     let b = m .before .before .before .before in
-    let p = b .before .before .before .before .before .args .self in
+    let p = b .before .args .self in
     rw (
       c .valid4 .ensures,
       c .before .has-control4 .ensures,

@@ -41,7 +41,7 @@ refuse-requires-3 c κs = search needs
 returns-3 : tie.Need-returns-3
 returns-3 c =
     let d = c .before in
-    let f = d .before .before .before in
+    let f = d .before .before in
     c .refuse3 .ensures
     ∙ load-refused _ _ (formed (f .before .before)) (f .before .check .ensures) (f .if2 .left) (d .before .load-refusal .ensures) (d .if3 .taken)
 
@@ -51,7 +51,7 @@ load-all-requires c κs = search needs
 returns-4 : tie.Need-returns-4
 returns-4 c =
     let d = c .before in
-    let f = d .before .before .before in
+    let f = d .before .before in
     load-accepted _ _ (formed (f .before .before)) (f .before .check .ensures) (f .if2 .left) (d .before .load-refusal .ensures)
     (d .if3 .left) (c .load-all .ensures)
 

@@ -7,10 +7,10 @@ use Rattle.camera.proofs.record.Camera.load_all.Statement.{statement}
 use Rattle.camera.proofs.record.Camera.load_all.Tie as tie
 
 abbrev Inv-loop : tie.InvT-loop
-Inv-loop s p streaming next₀ at₀ key₀ next at key = Taken next₀ s next at key
+Inv-loop self s next₀ at₀ key₀ next at key = Taken next₀ s next at key
 
 abbrev μ-loop : tie.MeasureT-loop
-μ-loop s p streaming next₀ at₀ key₀ next at key = 19 - key
+μ-loop self s next₀ at₀ key₀ next at key = 19 - key
 
 loop-holds : tie.Need-loop-holds Inv-loop μ-loop
 loop-holds c = none-taken _ _

@@ -16,19 +16,19 @@ use Rattle.camera.proofs.record.Camera.request.Statement.{statement}
 use Rattle.camera.proofs.record.Camera.request.Tie as tie
 
 -- past test 1
-formed : (c : tie.After-refusal) → wellFormed (c .before .before .before .before .before .before .before .before .before .before .args .self) ≡ true
-formed c = let w = c .before .before .before .before .before in sym (w .before .well-formed .ensures) ∙ not-false _ (w .if1 .left)
+formed : (c : tie.After-refusal) → wellFormed (c .before .before .before .before .before .before .before .before .before .args .self) ≡ true
+formed c = let w = c .before .before .before .before in sym (w .before .well-formed .ensures) ∙ not-false _ (w .if1 .left)
 
 -- the selector that was read
 chosen : (c : tie.After-refusal)
-    → c .before .before .before .selector .result ≡ selectorOf (c .before .before .before .before .before .before .before .before .before .before .args .setup .now)
+    → c .before .before .before .selector .result ≡ selectorOf (c .before .before .before .before .before .before .before .before .before .args .setup .now)
 chosen c = c .before .before .before .selector .ensures
 
 -- tests 2 to 6 over the profile's table
 tests : (c : tie.After-refusal)
-    → c .refusal .result ≡ firstOf (requestTests (table (c .before .before .before .before .before .before .before .before .before .before .args .self .profile)) (c .before .before .before .before .before .before .before .before .before .before .args .setup .now) (c .before .before .before .before .before .before .before .before .before .before .args .payload .now))
+    → c .refusal .result ≡ firstOf (requestTests (table (c .before .before .before .before .before .before .before .before .before .args .self .profile)) (c .before .before .before .before .before .before .before .before .before .args .setup .now) (c .before .before .before .before .before .before .before .before .before .args .payload .now))
 tests c =
-    let a = c .before .before .before .before .before .before .before .before .before .before .args in
+    let a = c .before .before .before .before .before .before .before .before .before .args in
     c .refusal .ensures
     ∙ ap₂ (λ u (n : ℕ). firstOf (requestTests (tableOf u n) (a .setup .now) (a .payload .now))) (c .before .table .ensures) (c .before .before .takes-of .ensures ∙ ap (λ (k : ℕ). takes (a .self .profile) k (a .payload .now)) (chosen c))
     ∙ tables-agree (a .self .profile) (formed-profile (a .self) (formed c)) (a .setup .now) (a .payload .now)
@@ -63,7 +63,7 @@ refuse-requires-2 c κs = search needs
 returns-2 : tie.Need-returns-2
 returns-2 c =
     let r = c .before .before in
-    let a = r .before .before .before .before .before .before .before .before .before .before .args in
+    let a = r .before .before .before .before .before .before .before .before .before .args in
     let f = tests-fail (a .self) (a .setup .now) (a .payload .now) (a .reply .now) (formed r) (λ z. c .before .if2 .taken (tests r ∙ z)) in
     (c .refuse2 .ensures ∙ ap (λ (n : ℕ). refused n (a .self)) (tests r) ∙ f .0, f .1)
 
@@ -76,7 +76,7 @@ set-requires c κs = search needs
 returns-3 : tie.Need-returns-3
 returns-3 c =
     let r = c .before .before .before .before in
-    let a = r .before .before .before .before .before .before .before .before .before .before .args in
+    let a = r .before .before .before .before .before .before .before .before .before .args in
     let s = a-set (a .self) (a .setup .now) (a .payload .now) (a .reply .now) (formed r) (sym (tests r) ∙ c .before .before .before .if2 .left) (sym (c .before .before .is-set-request .ensures) ∙ c .before .if3 .taken) in
     (c .set .ensures ∙ ap (λ (n : ℕ). setDone (a .self) n (a .payload .now)) (chosen r) ∙ s .0, s .1)
 
@@ -90,7 +90,7 @@ returns-4 : tie.Need-returns-4
 returns-4 c =
     let g = c .before .before in
     let r = g .before .before .before .before .before in
-    let a = r .before .before .before .before .before .before .before .before .before .before .args in
+    let a = r .before .before .before .before .before .before .before .before .before .args in
     let s = a-get (a .self) (a .setup .now) (a .payload .now) (a .reply .now) (formed r) (sym (tests r) ∙ g .before .before .before .before .if2 .left) (sym (g .before .before .before .is-set-request .ensures) ∙ g .before .before .if3 .left) in
     (g .get .ensures .0 ∙ s .0, g .get .ensures .1 ∙ s .1)
 

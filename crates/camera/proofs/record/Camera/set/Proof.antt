@@ -21,8 +21,8 @@ refuse-requires-2 c κs = search needs
 returns-2 : tie.Need-returns-2
 returns-2 c =
     let r = c .before .before in
-    let a = r .before .before .before .before .before .args in
-    c .refuse2 .ensures ∙ ap (λ (n : ℕ). refused n (a .self)) (r .set-refusal .ensures) ∙ set-refused (a .self) (a .selector) (a .payload .now) (r .before .before .if1 .left) (λ z. c .before .if2 .taken (r .set-refusal .ensures ∙ z))
+    let a = r .before .before .before .before .args in
+    c .refuse2 .ensures ∙ ap (λ (n : ℕ). refused n (a .self)) (r .set-refusal .ensures) ∙ set-refused (a .self) (a .selector) (a .payload .now) (r .before .if1 .left) (λ z. c .before .if2 .taken (r .set-refusal .ensures ∙ z))
 
 take-all-requires : tie.Need-take-all-requires
 take-all-requires c κs = search needs
@@ -30,7 +30,7 @@ take-all-requires c κs = search needs
 returns-3 : tie.Need-returns-3
 returns-3 c =
     let r = c .before .before in
-    ap (λ d. record { code = 0; count = 0; camera = d }) (c .take-all .ensures) ∙ set-taken _ _ _ (r .before .before .if1 .left) (sym (r .set-refusal .ensures) ∙ c .before .if2 .left)
+    ap (λ d. record { code = 0; count = 0; camera = d }) (c .take-all .ensures) ∙ set-taken _ _ _ (r .before .if1 .left) (sym (r .set-refusal .ensures) ∙ c .before .if2 .left)
 
 pub set-spec : {M : Type 1} → statement M
 set-spec =

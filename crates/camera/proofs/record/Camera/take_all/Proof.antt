@@ -8,10 +8,10 @@ use Rattle.camera.proofs.record.Camera.take_all.Statement.{statement}
 use Rattle.camera.proofs.record.Camera.take_all.Tie as tie
 
 abbrev Inv-loop : tie.InvT-loop
-Inv-loop selector payload p n next₀ i₀ next i = (i ≤ n) × (next ≡ puts next₀ (allGiven i 0 (itemAt p selector payload)))
+Inv-loop self selector payload n next₀ i₀ next i = (i ≤ n) × (next ≡ puts next₀ (allGiven i 0 (itemAt (self .profile) selector payload)))
 
 abbrev μ-loop : tie.MeasureT-loop
-μ-loop selector payload p n next₀ i₀ next i = n - i
+μ-loop self selector payload n next₀ i₀ next i = n - i
 
 item-count-requires : tie.Need-item-count-requires Inv-loop μ-loop
 item-count-requires c κs = search needs
@@ -35,7 +35,7 @@ loop-less c = search needs
 loop-again : tie.Need-loop-again Inv-loop μ-loop
 loop-again c =
     let l = c .before .before in
-    let a = l .before .before .before .before .before .args in
+    let a = l .before .before .before .before .args in
     let item = itemAt (a .self .profile) (a .selector) (a .payload .now) in
     (omega arith, c .put-item .ensures ∙ ap₂ (λ d i. puts d (givenOf i)) (l .before .loop .inv .1) (c .before .item-at .ensures) ∙ sym (puts-next (a .self) (l .before .loop .i) item))
 
@@ -43,7 +43,7 @@ returns : tie.Need-returns Inv-loop μ-loop
 unfolding setGives
 returns c =
     let l = c .before in
-    let a = l .before .before .before .before .args in
+    let a = l .before .before .before .args in
     let e : l .loop .i ≡ l .before .item-count .result = omega arith in
     l .loop .inv .1 ∙ ap (λ (n : ℕ). puts (a .self) (allGiven n 0 (itemAt (a .self .profile) (a .selector) (a .payload .now)))) (e ∙ l .before .item-count .ensures)
 

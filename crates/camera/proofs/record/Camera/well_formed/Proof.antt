@@ -11,10 +11,10 @@ use Rattle.camera.proofs.record.Camera.well_formed.Statement.{statement
 use Rattle.camera.proofs.record.Camera.well_formed.Tie as tie
 
 abbrev Inv-loop : tie.InvT-loop
-Inv-loop self p ok₀ key₀ ok key = (key ≤ 19) × (ok ≡ profileValid p && allBelow key (λ k. kept p (held self k)))
+Inv-loop self ok₀ key₀ ok key = (key ≤ 19) × (ok ≡ profileValid (self .profile) && allBelow key (λ k. kept (self .profile) (held self k)))
 
 abbrev μ-loop : tie.MeasureT-loop
-μ-loop self p ok₀ key₀ ok key = 19 - key
+μ-loop self ok₀ key₀ ok key = 19 - key
 
 valid-requires : tie.Need-valid-requires Inv-loop μ-loop
 valid-requires c κs = search needs
@@ -44,7 +44,7 @@ returns : tie.Need-returns Inv-loop μ-loop
 unfolding wellFormed
 returns c =
     let l = c .before in
-    let self = l .before .before .before .args .self in
+    let self = l .before .before .args .self in
     let e : l .loop .key ≡ 19 = omega arith in
     l .loop .inv .1 ∙ ap (λ (n : ℕ). profileValid (self .profile) && allBelow n (λ k. kept (self .profile) (held self k))) e
 
