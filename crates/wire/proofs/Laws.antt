@@ -2,4 +2,5 @@ pub mod Bits
 pub mod Bytes
 pub mod Numbers
 pub mod Overlay
+pub mod Parts
 pub mod Rows

@@ -1,4 +1,5 @@
--- What the leaves compute: numbers in bytes, flags, bytes laid over others; ordered tables of refusals, and UVC's codes.
+-- What the leaves compute: parts of a slice, numbers in bytes, flags, bytes laid over others; ordered tables of refusals, and UVC's codes.
+pub mod Parts
 pub mod Number
 pub mod Flags
 pub mod Overlay

@@ -8,6 +8,7 @@ use native.Mathlib.Omega.{arith}
 use borrow.Author.Needs.{needs}
 use Rattle.wire.specs.Number.{number, leAt}
 use Rattle.wire.proofs.Laws.Numbers.{Bytes, bytes-drop, lower, below, at-start}
+use Rattle.wire.proofs.Laws.Parts.{rest}
 use Rattle.wire.proofs.numbers.number.Statement.{statement}
 use Rattle.wire.proofs.numbers.number.Tie as tie
 
@@ -19,7 +20,7 @@ abbrev μ-loop : tie.MeasureT-loop
 
 -- the bytes that are read
 p-bytes : (c : tie.After-tail Inv-loop μ-loop) → Bytes (c .tail .result .now)
-p-bytes c = rw (c .tail .ensures) (bytes-drop (c .before .before .args .s .now) (c .before .before .args .i) (c .before .shared-slice-known .given))
+p-bytes c = rw (rest (c .tail .ensures)) (bytes-drop (c .before .before .args .s .now) (c .before .before .args .i) (c .before .shared-slice-known .given))
 
 -- what is read after one byte more
 module _ (c : tie.After-byte Inv-loop μ-loop) where
@@ -70,7 +71,7 @@ returns c =
     let e : b .loop .j ≡ 0 = omega arith in
     let f : a .k - b .loop .j ≡ a .k = omega arith in
     let n : b .loop .n ≡ leAt (a .k) (b .before .tail .result .now) 0 = b .loop .inv .1 ∙ ap₂ (λ (k j : ℕ). leAt k (b .before .tail .result .now) j) f e in
-    (n ∙ rw (b .before .tail .ensures) (at-start (a .k) (a .s .now) (a .i)), rw n (below (a .k) (a .k) (b .before .tail .result .now) 0 (p-bytes (b .before)) (omega arith)))
+    (n ∙ rw (rest (b .before .tail .ensures)) (at-start (a .k) (a .s .now) (a .i)), rw n (below (a .k) (a .k) (b .before .tail .result .now) 0 (p-bytes (b .before)) (omega arith)))
 
 pub number-spec : {M : Type 1} → statement M
 number-spec =

@@ -1,7 +1,7 @@
-use lib.ListN.{drop}
+use mathlib.Core.Path.{refl, sym, _∙_}
 use Prim.Native.Nat.{_-_}
-use lib.Seq.{take-all, take-nil, drop-length}
-use lib.ListN.{length, drop-of-length-le, length-drop}
+use lib.Seq.{take-nil, drop-length}
+use lib.ListN.{length, drop-of-length-le}
 use native.Mathlib.Omega.{arith}
 use Prim.Native.Nat.{_≤_}
 use borrow.Author.Needs.{needs}
@@ -21,7 +21,7 @@ returns : tie.Need-returns
 returns c =
     let s = c .before .before .args .s .now in
     let h : length s ≤ c .before .before .args .i = omega arith in
-    rw (drop-of-length-le s h, drop-length s) (take-nil (length s - length s))
+    record { memory = refl; place = omega arith; bytes = rw (drop-of-length-le s h, drop-length s) (take-nil (length s - length s) ∙ sym (take-nil (length s - c .before .before .args .i))) }
 
 sub-result-2 : tie.Need-sub-result-2
 sub-result-2 c = search needs
@@ -33,9 +33,7 @@ part-result-end-2 : tie.Need-part-result-end-2
 part-result-end-2 c = search needs
 
 returns-2 : tie.Need-returns-2
-returns-2 c =
-    let a = c .before .before .args in
-    take-all (length (a .s .now) - a .i) (drop (a .i) (a .s .now)) (simp length-drop (omega arith))
+returns-2 c = record { memory = refl; place = omega arith; bytes = refl }
 
 pub tail-spec : {M : Type 1} → statement M
 tail-spec =

@@ -14,7 +14,7 @@ head-requires : tie.Need-head-requires
 head-requires c κs = search needs
 
 fill-requires : tie.Need-fill-requires
-fill-requires c κs = omega (arith, simp length-take at (ap length (c .head .ensures)))
+fill-requires c κs = omega (arith, simp length-take at (ap length (c .head .ensures .bytes)))
 
 same-length : tie.Need-same-length
 same-length c = search needs
@@ -22,7 +22,7 @@ same-length c = search needs
 returns : tie.Need-returns
 returns c =
     let a = c .before .before .before .before .before .before .before .before .args in
-    c .before .before .fill .ensures ∙ part (a .dst .now) (a .at) (a .src .now) _ (omega arith) (c .before .before .before .head .ensures)
+    c .before .before .fill .ensures ∙ part (a .dst .now) (a .at) (a .src .now) _ (omega arith) (c .before .before .before .head .ensures .bytes)
 
 returns-2 : tie.Need-returns-2
 returns-2 c = sym (past _ _ _ (omega arith))
