@@ -8,11 +8,11 @@ use Rattle.wire.proofs.Laws.Numbers.{Bytes}
 use Rattle.frame.specs.declared.items.Found.{Found}
 use Rattle.frame.specs.declared.writer.Appended.{Appended}
 use Rattle.frame.specs.Codes.{noItem}
-use Rattle.frame.specs.Parts.{bytesAt}
+use Rattle.wire.specs.Parts.{bytesAt}
 use Rattle.frame.specs.Items.{Item, absent, Finding, refused, sound, itemsOf}
 use Rattle.frame.specs.Answers.{refusedWith, itemAt, foundIn, itemOf, countOf, payloadOf}
 use Rattle.frame.specs.Writer.{layout, Writable, appendedOf, writtenOf}
-use Rattle.frame.specs.Packet.{headerOf, metadataOf}
+use Rattle.frame.specs.Packet.{headerOf}
 use Rattle.frame.proofs.Laws.Walk.{short-enough}
 use Rattle.frame.proofs.Laws.Located.{located, there, not-there}
 use Rattle.frame.proofs.Laws.Layout.{reads-all, written-again}
@@ -20,46 +20,30 @@ use Rattle.frame.proofs.Laws.Appended.{sound-block, before-it, last-ite
 use Rattle.frame.proofs.Laws.Append.{accepted, accepts, reports}
 use Rattle.frame.proofs.Laws.Packets.{header-inside}
 use Rattle.frame.proofs.Laws.Refusals.{item-refused, count-refused, append-refused, header-refused}
-use Rattle.frame.specs.Calls.{Call, item, payload, count, append, header, metadata, lent, Outcome, outcomeOf}
+use Rattle.frame.specs.Calls.{Call, item, count, append, header, outcomeOf}
+use Rattle.frame.specs.Theorems.{Refused, Inside, HandedOut, ReadsBack, appending, afterwards}
 
--- Demand 1: a refused call changes no byte of a lent buffer. Document 01 adds that it reports zeros and an empty part.
-abbrev Zeros : List ℕ → Type 0
-Zeros [] = Unit {0}
-Zeros (n ∷ ns) = (n ≡ 0) × Zeros ns
-
-pub record Refused (c : Call) (o : Outcome) : Type 0 where
-  pub unchanged : o .buffer ≡ lent c
-  pub zeros : Zeros (o .numbers)
-  pub empty : o .part ≡ []
-
+-- Demand 1: what a refused call leaves.
 pub refusal-leaves-nothing : (c : Call) → (outcomeOf c .code ≡ 0 → ⊥) → Refused c (outcomeOf c)
-unfolding outcomeOf payloadOf metadataOf
-refusal-leaves-nothing (item block k) n = let e = item-refused block k n in record { unchanged = refl; zeros = rw e (refl, (refl, (refl, tt))); empty = refl }
-refusal-leaves-nothing (payload block k) n = let e = item-refused block k n in record { unchanged = refl; zeros = tt; empty = rw e }
-refusal-leaves-nothing (count block) n = record { unchanged = refl; zeros = (count-refused block n, tt); empty = refl }
-refusal-leaves-nothing (append buf at id bytes) n = let e = append-refused buf at id bytes n in record { unchanged = e .1; zeros = (e .0, tt); empty = refl }
-refusal-leaves-nothing (header packet) n = let e = header-refused packet n in record { unchanged = refl; zeros = rw e (refl, (refl, (refl, tt))); empty = refl }
-refusal-leaves-nothing (metadata packet) n = let e = header-refused packet n in record { unchanged = refl; zeros = tt; empty = rw e }
+unfolding outcomeOf
+refusal-leaves-nothing (item block k) n = let e = item-refused block k n in record { unchanged = refl; zeros = rw e (refl, tt); empty = rw e (refl, tt) }
+refusal-leaves-nothing (count block) n = record { unchanged = refl; zeros = (count-refused block n, tt); empty = tt }
+refusal-leaves-nothing (append buf at id bytes) n = let e = append-refused buf at id bytes n in record { unchanged = e .1; zeros = (e .0, tt); empty = tt }
+refusal-leaves-nothing (header packet) n = let e = header-refused packet n in record { unchanged = refl; zeros = rw e (refl, tt); empty = rw e (refl, tt) }
 
 -- Demand 1: a call stays inside its buffers. The part of each answer lies in what was lent, on a refusal too.
-pub payload-inside : (block : List ℕ) (k : ℕ) → itemOf block k .payload .at + itemOf block k .payload .len ≤ length block
+pub payload-inside : (block : List ℕ) (k : ℕ) → Inside block (itemOf block k .payload)
 unfolding itemOf
 payload-inside block k = go (itemsOf block) refl
   where
-    go : (f : Finding) → itemsOf block ≡ f → foundIn k f .payload .at + foundIn k f .payload .len ≤ length block
+    go : (f : Finding) → itemsOf block ≡ f → Inside block (foundIn k f .payload)
     go (refused code) e = omega arith
     go (sound is) e = located block is (sound-block block is e .1) k .inside
 
-pub metadata-inside : (packet : List ℕ) → headerOf packet .metadata .at + headerOf packet .metadata .len ≤ length packet
+pub metadata-inside : (packet : List ℕ) → Inside packet (headerOf packet .metadata)
 metadata-inside packet = header-inside packet
 
 -- Demand 2: item k of a sound block is handed out with its id and its payload, and where there is none the answer says so.
-pub record HandedOut (block : List ℕ) (is : List Item) (k : ℕ) : Type 0 where
-  pub there : k < length is → itemOf block k .code ≡ 0
-  pub its-id : itemOf block k .id ≡ getD is k absent .id
-  pub its-payload : payloadOf block k ≡ getD is k absent .payload
-  pub no-other : length is ≤ k → itemOf block k ≡ refusedWith noItem
-
 found : (block : List ℕ) (is : List Item) (k : ℕ) → itemsOf block ≡ sound is → itemOf block k ≡ itemAt 0 k is
 unfolding itemOf
 found block is k e = ap (foundIn k) e
@@ -78,13 +62,6 @@ item-handed-out block is e k =
 
 -- Demand 2: what we write reads back the same. An item appended behind a sound block is the last of the items there, and those before it
 -- are handed out as they were.
-pub record ReadsBack (block : List ℕ) (is : List Item) (i : Item) (new : List ℕ) : Type 0 where
-  pub items : itemsOf new ≡ sound (is ++ i ∷ [])
-  pub one-more : countOf new ≡ record { code = 0; items = length is + 1 }
-  pub earlier : (k : ℕ) → k < length is → (itemOf new k ≡ itemOf block k) × (payloadOf new k ≡ payloadOf block k)
-  pub last : itemOf new (length is) ≡ record { code = 0; id = i .id; payload = record { at = length block + 8; len = length (i .payload) } }
-  pub last-payload : payloadOf new (length is) ≡ i .payload
-
 reads-back : (block new : List ℕ) (is : List Item) (i : Item) → itemsOf block ≡ sound is → itemsOf new ≡ sound (is ++ i ∷ []) → ReadsBack block is i new
 unfolding countOf
 reads-back block new is i e f =
@@ -99,13 +76,6 @@ reads-back block new is i e f =
       last = found new (is ++ i ∷ []) (length is) f ∙ last-item block is i (sound-block block is e .1);
       last-payload = out (length is) .its-payload ∙ ap (λ (j : Item). j .payload) (last-of is i absent);
     }
-
--- the call that appends item i behind the block that a buffer begins with, and the buffer up to the end it reports
-abbrev appending : (block buf : List ℕ) → Item → Appended
-appending block buf i = appendedOf (length buf) (length block) (i .id) (length (i .payload))
-
-abbrev afterwards : (block buf : List ℕ) → Item → List ℕ
-afterwards block buf i = take (appending block buf i .end) (writtenOf buf (length block) (i .id) (i .payload))
 
 pub appended-reads-back : (block buf : List ℕ) (is : List Item) (i : Item) → itemsOf block ≡ sound is → take (length block) buf ≡ block → i .id < 256 ^ 4
     → appending block buf i .code ≡ 0 → ReadsBack block is i (afterwards block buf i)

@@ -1,11 +1,11 @@
--- What asking for item k, for its payload and for the number of items hand back.
+-- What asking for item k and for the number of items hand back.
 use Prim.Native.Nat.{ℕ, zero, suc, _+_}
 use mathlib.Core.List.{List, [], _∷_}
 use lib.ListN.{length}
 use Rattle.frame.specs.declared.items.Found.{Found}
 use Rattle.frame.specs.declared.items.Counted.{Counted}
 use Rattle.frame.specs.Codes.{noItem}
-use Rattle.frame.specs.Parts.{bytesAt, nowhere}
+use Rattle.wire.specs.Parts.{bytesAt, nowhere}
 use Rattle.frame.specs.Items.{Item, Finding, refused, sound, itemsOf}
 
 -- a refusal: id 0 and an empty part
@@ -33,6 +33,6 @@ itemOf s k = foundIn k (itemsOf s)
 unfoldable pub countOf : List ℕ → Counted
 countOf s = countIn (itemsOf s)
 
--- the payload of item k, as a part of the block; empty on a refusal
+-- the bytes of item k's payload; none on a refusal
 unfoldable pub payloadOf : List ℕ → ℕ → List ℕ
 payloadOf s k = bytesAt s (itemOf s k .payload)

@@ -1,10 +1,11 @@
 -- What the calls of this crate answer: document 01, "Frame metadata (001) and packets".
 pub mod Codes
 pub mod Ids
-pub mod Parts
 pub mod Items
 pub mod Answers
+pub mod View
 pub mod Steps
 pub mod Writer
 pub mod Packet
 pub mod Calls
+pub mod Theorems

@@ -1,14 +1,16 @@
 -- The payload header of a packet: byte 0 its length, byte 1 flags, the fields that PTS and SCR announce, and the metadata to its end.
 use Prim.Native.Nat.{ℕ, _+_, _-_}
 use mathlib.Core.List.{List, [], _∷_}
-use mathlib.Core.Bool.{cond}
+use mathlib.Core.Bool.{Bool, cond}
 use lib.ListN.{length, getD}
 use lib.Dec.{ltb, eqb}
 use Rattle.wire.specs.Flags.{isSet}
+use Rattle.frame.specs.declared.packet.Flag.{Flag}
+use Rattle.frame.specs.declared.packet.Flag.the-variants.{Fid, Eof, Pts, Scr, Err}
 use Rattle.frame.specs.declared.packet.PayloadHeader.{PayloadHeader}
 use Rattle.frame.specs.Codes.{cutHeader, shortHeader}
 use Rattle.wire.specs.Rows.{_⇒_, firstOf}
-use Rattle.frame.specs.Parts.{bytesAt, nowhere}
+use Rattle.wire.specs.Parts.{nowhere}
 
 abbrev pub lengthOf : List ℕ → ℕ
 lengthOf p = getD p 0 0
@@ -16,12 +18,23 @@ lengthOf p = getD p 0 0
 abbrev pub flagsOf : List ℕ → ℕ
 flagsOf p = getD p 1 0
 
--- the flags that announce a field: D2 PTS, 4 bytes, and D3 SCR, 6 bytes
-abbrev pub fieldLength : (flags flag len : ℕ) → ℕ
-fieldLength flags flag len = cond (isSet flags flag) len 0
+-- the bits of the flags byte: D0 frame id, D1 end of frame, D2 presentation time, D3 source clock, D6 error
+abbrev pub bitOf : Flag → ℕ
+bitOf Fid = 0
+bitOf Eof = 1
+bitOf Pts = 2
+bitOf Scr = 3
+bitOf Err = 6
+
+unfoldable pub hasFlag : ℕ → Flag → Bool
+hasFlag flags flag = isSet flags (bitOf flag)
+
+-- PTS announces a field of 4 bytes, SCR one of 6
+abbrev pub fieldLength : ℕ → Flag → ℕ → ℕ
+fieldLength flags flag len = cond (hasFlag flags flag) len 0
 
 abbrev pub fieldsLength : ℕ → ℕ
-fieldsLength flags = 2 + fieldLength flags 2 4 + fieldLength flags 3 6
+fieldsLength flags = 2 + fieldLength flags Pts 4 + fieldLength flags Scr 6
 
 unfoldable pub headerRefusal : List ℕ → ℕ
 headerRefusal p =
@@ -45,6 +58,3 @@ headerOf p =
       metadata = record { at = fieldsLength (flagsOf p); len = lengthOf p - fieldsLength (flagsOf p) };
     })
     (refusedHeader (headerRefusal p))
-
-unfoldable pub metadataOf : List ℕ → List ℕ
-metadataOf p = bytesAt p (headerOf p .metadata)

@@ -1,4 +1,4 @@
-// Reading a metadata block: the item asked for, its payload, and how many items there are.
+// Reading a metadata block: the item asked for, with the place of its payload, and how many items there are.
 use crate::codes::ACCEPTED;
 use crate::codes::NO_ITEM;
 use crate::codes::SHORT_SIZE;
@@ -6,12 +6,11 @@ use crate::codes::TOO_LONG;
 use crate::codes::TRUNCATED;
 use crate::codes::UNKNOWN_ID;
 use crate::ids::known;
-use crate::parts::Part;
-use crate::parts::lent;
+use wire::Part;
 ghost use mathlib.Core.Path.{_≡_};
 ghost use Prim.Native.Nat.{_+_, _-_, _≤_};
 ghost use Rattle.frame.specs.Items.{headOf, itemsOf};
-ghost use Rattle.frame.specs.Answers.{refusedWith, itemOf, countOf, payloadOf};
+ghost use Rattle.frame.specs.Answers.{refusedWith, itemOf, countOf};
 ghost use Rattle.frame.specs.Steps.{pass, stoppedAt, surveyOf};
 
 // The most bytes a block may have.
@@ -133,7 +132,7 @@ fn walk(block: &[u8], k: usize) -> Survey
     Survey { counted, found }
 }
 
-// Item k of the block, k from 0.
+// Item k of the block, k from 0. `wire::part_at` hands out its payload.
 pub fn item(block: &[u8], k: usize) -> Found
     ensures { λ r. ⌜ r ≡ itemOf (now (block .entry)) k ⌝ }
 {
@@ -141,14 +140,7 @@ pub fn item(block: &[u8], k: usize) -> Found
     w.found
 }
 
-// The payload of item k, as a part of the block; empty where `item` refuses.
-pub fn payload(block: &[u8], k: usize) -> &[u8]
-    ensures { λ r. ⌜ now r ≡ payloadOf (now (block .entry)) k ⌝ }
-{
-    let f = item(block, k);
-    lent(block, f.payload)
-}
-
+// How many items the block has.
 pub fn count(block: &[u8]) -> Counted
     ensures { λ r. ⌜ r ≡ countOf (now (block .entry)) ⌝ }
 {

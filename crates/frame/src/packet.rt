@@ -2,22 +2,19 @@
 use crate::codes::ACCEPTED;
 use crate::codes::CUT_HEADER;
 use crate::codes::SHORT_HEADER;
-use crate::parts::Part;
-use crate::parts::lent;
+use wire::Part;
 ghost use mathlib.Core.Path.{_≡_};
 ghost use Prim.Native.Nat.{_≤_};
-ghost use Rattle.frame.specs.Packet.{fieldLength, fieldsLength, refusedHeader, headerOf, metadataOf};
+ghost use Rattle.frame.specs.Packet.{bitOf, hasFlag, fieldLength, fieldsLength, refusedHeader, headerOf};
 
-// The places of the flags in the flags byte, D0 being 0: frame id, end of frame, presentation time, source clock, error.
-pub const FID: u8 = 0;
-
-pub const EOF: u8 = 1;
-
-pub const PTS: u8 = 2;
-
-pub const SCR: u8 = 3;
-
-pub const ERR: u8 = 6;
+// The flags of a packet, by UVC's names: frame id, end of frame, presentation time, source clock, error.
+pub enum Flag {
+    Fid,
+    Eof,
+    Pts,
+    Scr,
+    Err,
+}
 
 // The flags byte and the place of the metadata, with code 0; or a refusal, with flags 0 and an empty part.
 pub struct PayloadHeader {
@@ -26,12 +23,32 @@ pub struct PayloadHeader {
     pub metadata: Part,
 }
 
+// The bit of the flags byte that is the flag.
+fn bit_of(flag: Flag) -> u8
+    ensures { λ r. ⌜ r ≡ bitOf flag ⌝ }
+{
+    match flag {
+        Flag::Fid => 0,
+        Flag::Eof => 1,
+        Flag::Pts => 2,
+        Flag::Scr => 3,
+        Flag::Err => 6,
+    }
+}
+
+// Whether the flag is set in a flags byte.
+pub fn has_flag(flags: u8, flag: Flag) -> bool
+    ensures { λ r. ⌜ r ≡ hasFlag flags flag ⌝ }
+{
+    wire::is_set(flags as u64, bit_of(flag))
+}
+
 // The bytes of a field that is there where its flag is set.
-fn field(flags: u8, flag: u8, len: usize) -> usize
+fn field(flags: u8, flag: Flag, len: usize) -> usize
     requires { ⌜ len ≤ 6 ⌝ }
     ensures { λ r. ⌜ (r ≡ fieldLength flags flag len) × (r ≤ len) ⌝ }
 {
-    if wire::is_set(flags as u64, flag) {
+    if has_flag(flags, flag) {
         return len;
     }
     0
@@ -41,7 +58,7 @@ fn field(flags: u8, flag: u8, len: usize) -> usize
 fn fields(flags: u8) -> usize
     ensures { λ r. ⌜ (r ≡ fieldsLength flags) × (r ≤ 12) ⌝ }
 {
-    2 + field(flags, PTS, 4) + field(flags, SCR, 6)
+    2 + field(flags, Flag::Pts, 4) + field(flags, Flag::Scr, 6)
 }
 
 // A refusal, with an empty part.
@@ -55,6 +72,7 @@ fn refused(code: u8) -> PayloadHeader
     }
 }
 
+// The payload header of the packet. `wire::part_at` hands out its metadata.
 pub fn header(packet: &[u8]) -> PayloadHeader
     ensures { λ r. ⌜ r ≡ headerOf (now (packet .entry)) ⌝ }
 {
@@ -78,12 +96,4 @@ pub fn header(packet: &[u8]) -> PayloadHeader
             len: len - from,
         },
     }
-}
-
-// The metadata of the packet, as a part of it; empty where `header` refuses.
-pub fn metadata(packet: &[u8]) -> &[u8]
-    ensures { λ r. ⌜ now r ≡ metadataOf (now (packet .entry)) ⌝ }
-{
-    let h = header(packet);
-    lent(packet, h.metadata)
 }

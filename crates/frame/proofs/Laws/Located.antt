@@ -6,7 +6,7 @@ use native.Mathlib.Omega.{arith}
 use lib.ListN.{length, take, drop, getD, length-take, length-drop}
 use lib.Seq.{drop-drop}
 use Rattle.frame.specs.Codes.{noItem}
-use Rattle.frame.specs.Parts.{bytesAt}
+use Rattle.wire.specs.Parts.{bytesAt}
 use Rattle.frame.specs.Items.{Item, sound, itemsFrom, itemIn, absent}
 use Rattle.frame.specs.Answers.{refusedWith, itemAt}
 use Rattle.frame.proofs.Laws.Heads.{Sound}

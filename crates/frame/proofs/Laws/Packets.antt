@@ -7,16 +7,17 @@ use native.Mathlib.Omega.{arith}
 use lib.ListN.{length}
 use lib.Dec.{ltb, eqb}
 use borrow.Author.Tests.{lt-ltb, le-ltb, ltb-false, eqb-true}
-use Rattle.wire.specs.Flags.{isSet}
+use Rattle.frame.specs.declared.packet.Flag.{Flag}
 use Rattle.frame.specs.declared.packet.PayloadHeader.{PayloadHeader}
-use Rattle.frame.specs.Packet.{lengthOf, flagsOf, fieldLength, fieldsLength, headerRefusal, refusedHeader, headerOf}
+use Rattle.frame.specs.Packet.{lengthOf, flagsOf, hasFlag, fieldLength, fieldsLength, headerRefusal, refusedHeader, headerOf}
 use Rattle.wire.proofs.Laws.Rows.{passes}
 
-pub field-there : (flags flag len : ℕ) → isSet flags flag ≡ true → len ≡ fieldLength flags flag len
-field-there flags flag len e = simp e
+module _ (flags : ℕ) (flag : Flag) (len : ℕ) where
+  pub field-there : hasFlag flags flag ≡ true → len ≡ fieldLength flags flag len
+  field-there e = simp e
 
-pub field-absent : (flags flag len : ℕ) → isSet flags flag ≡ false → 0 ≡ fieldLength flags flag len
-field-absent flags flag len e = simp e
+  pub field-absent : hasFlag flags flag ≡ false → 0 ≡ fieldLength flags flag len
+  field-absent e = simp e
 
 module _ (p : List ℕ) where
   pub packet-short : length p < 2 → refusedHeader 0x45 ≡ headerOf p

@@ -1,5 +1,6 @@
 -- `walk` meets its contract: what is left to walk comes to what the whole comes to. Assumes nothing.
 use Rattle.frame.proofs.Laws.Walk.{Left, begins, too-long, ends, Meets, meets, stops, inside, goes-on}
+use Rattle.wire.proofs.Laws.Parts.{rest}
 use Rattle.frame.specs.declared.items.Head.the-variants.{Bad, Whole}
 use denote.Ref.{now}
 use Prim.Native.Nat.{_-_, _≤_}
@@ -30,7 +31,7 @@ fault-here c =
     (omega arith)
     (c .before .before .before .before .before .before .loop .inv .2)
     (omega arith)
-    (c .before .before .before .before .tail .ensures)
+    (rest (c .before .before .before .before .tail .ensures))
     (c .before .before .before .first-item .ensures)
     (c .before .code .given .1)
 
@@ -47,7 +48,7 @@ item-here c =
     (omega arith)
     (c .before .before .before .before .before .before .loop .inv .2)
     (omega arith)
-    (c .before .before .before .before .tail .ensures)
+    (rest (c .before .before .before .before .tail .ensures))
     (c .before .before .before .first-item .ensures)
     (c .before .id .given .1)
 

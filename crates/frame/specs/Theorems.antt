@@ -1,0 +1,51 @@
+-- What the theorems of this crate say: the owner's demands on frame metadata and packets.
+use Prim.Native.Nat.{ℕ, _+_, _≤_, _<_}
+use mathlib.Core.Path.{_≡_}
+use mathlib.Core.List.{List, [], _∷_, _++_}
+use lib.ListN.{length, take, getD}
+use Rattle.wire.specs.declared.parts.Part.{Part}
+use Rattle.wire.specs.Parts.{nowhere}
+use Rattle.frame.specs.declared.writer.Appended.{Appended}
+use Rattle.frame.specs.Codes.{noItem}
+use Rattle.frame.specs.Items.{Item, absent, sound, itemsOf}
+use Rattle.frame.specs.Answers.{refusedWith, itemOf, countOf, payloadOf}
+use Rattle.frame.specs.Writer.{appendedOf, writtenOf}
+use Rattle.frame.specs.Calls.{Call, lent, Outcome}
+
+-- each of them is x
+abbrev pub All : {A : Type 0} → A → List A → Type 0
+All x [] = Unit {0}
+All x (y ∷ ys) = (y ≡ x) × All x ys
+
+-- Demand 1: a refused call changes no byte of a lent buffer. Document 01 adds that it reports zeros and an empty part.
+pub record Refused (c : Call) (o : Outcome) : Type 0 where
+  pub unchanged : o .buffer ≡ lent c
+  pub zeros : All 0 (o .numbers)
+  pub empty : All nowhere (o .parts)
+
+-- Demand 1: a call stays inside its buffers: a part lies in what was lent
+abbrev pub Inside : List ℕ → Part → Type 0
+Inside s p = p .at + p .len ≤ length s
+
+-- Demand 2: item k of a sound block is handed out with its id and its payload, and where there is none the answer says so.
+pub record HandedOut (block : List ℕ) (is : List Item) (k : ℕ) : Type 0 where
+  pub there : k < length is → itemOf block k .code ≡ 0
+  pub its-id : itemOf block k .id ≡ getD is k absent .id
+  pub its-payload : payloadOf block k ≡ getD is k absent .payload
+  pub no-other : length is ≤ k → itemOf block k ≡ refusedWith noItem
+
+-- Demand 2: what we write reads back the same. An item appended behind a sound block is the last of the items there, and those before it
+-- are handed out as they were.
+pub record ReadsBack (block : List ℕ) (is : List Item) (i : Item) (new : List ℕ) : Type 0 where
+  pub items : itemsOf new ≡ sound (is ++ i ∷ [])
+  pub one-more : countOf new ≡ record { code = 0; items = length is + 1 }
+  pub earlier : (k : ℕ) → k < length is → (itemOf new k ≡ itemOf block k) × (payloadOf new k ≡ payloadOf block k)
+  pub last : itemOf new (length is) ≡ record { code = 0; id = i .id; payload = record { at = length block + 8; len = length (i .payload) } }
+  pub last-payload : payloadOf new (length is) ≡ i .payload
+
+-- the call that appends item i behind the block that a buffer begins with, and the buffer up to the end that it reports
+abbrev pub appending : (block buf : List ℕ) → Item → Appended
+appending block buf i = appendedOf (length buf) (length block) (i .id) (length (i .payload))
+
+abbrev pub afterwards : (block buf : List ℕ) → Item → List ℕ
+afterwards block buf i = take (appending block buf i .end) (writtenOf buf (length block) (i .id) (i .payload))
