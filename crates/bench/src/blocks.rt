@@ -14,7 +14,7 @@ fn row(name: &[u8], block: &[u8]) {
     number(counted.items, 7);
     let first = frame::item(block, 0);
     number(first.id as usize, 10);
-    bytes(frame::payload(block, 0), 0);
+    bytes(wire::part_at(block, first.payload), 0);
     end();
 }
 

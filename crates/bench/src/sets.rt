@@ -47,11 +47,7 @@ fn properties(set: &[u8]) {
         if p.code != 0 {
             return;
         }
-        property(
-            p,
-            descriptors::property_name(set, k),
-            descriptors::property_value(set, k),
-        );
+        property(p, wire::part_at(set, p.name), wire::part_at(set, p.value));
         k += 1;
     }
 }

@@ -3,15 +3,17 @@ use Prim.Native.Nat.{ℕ, _+_, _^_, _≤_, _<_}
 use mathlib.Core.Path.{_≡_, refl, sym, ap, _∙_}
 use mathlib.Core.List.{List, [], _∷_, _++_}
 use native.Mathlib.Omega.{arith}
-use lib.ListN.{length, take, getD, length-append, List·getD-append}
+use lib.ListN.{length, take, length-append, List·getD-append}
 use Rattle.wire.proofs.Laws.Numbers.{Bytes}
 use Rattle.frame.specs.declared.items.Found.{Found}
-use Rattle.frame.specs.declared.writer.Appended.{Appended}
-use Rattle.frame.specs.Codes.{noItem}
+use denote.Ref.{RefT, now}
 use Rattle.wire.specs.Parts.{bytesAt}
+use Rattle.wire.proofs.Laws.Parts.{stands-at}
+use Rattle.frame.specs.declared.view.ItemView.{ItemView}
+use Rattle.frame.specs.View.{Views}
 use Rattle.frame.specs.Items.{Item, absent, Finding, refused, sound, itemsOf}
-use Rattle.frame.specs.Answers.{refusedWith, itemAt, foundIn, itemOf, countOf, payloadOf}
-use Rattle.frame.specs.Writer.{layout, Writable, appendedOf, writtenOf}
+use Rattle.frame.specs.Answers.{itemAt, foundIn, itemOf, countOf, payloadOf}
+use Rattle.frame.specs.Writer.{layout, Writable}
 use Rattle.frame.specs.Packet.{headerOf}
 use Rattle.frame.proofs.Laws.Walk.{short-enough}
 use Rattle.frame.proofs.Laws.Located.{located, there, not-there}
@@ -21,15 +23,21 @@ use Rattle.frame.proofs.Laws.Append.{accepted, accepts, reports}
 use Rattle.frame.proofs.Laws.Packets.{header-inside}
 use Rattle.frame.proofs.Laws.Refusals.{item-refused, count-refused, append-refused, header-refused}
 use Rattle.frame.specs.Calls.{Call, item, count, append, header, outcomeOf}
-use Rattle.frame.specs.Theorems.{Refused, Inside, HandedOut, ReadsBack, appending, afterwards}
+use Rattle.frame.specs.Theorems.{Refused, Inside, HandedOut, Viewed, ReadsBack, appending, afterwards}
 
 -- Demand 1: what a refused call leaves.
 pub refusal-leaves-nothing : (c : Call) → (outcomeOf c .code ≡ 0 → ⊥) → Refused c (outcomeOf c)
 unfolding outcomeOf
-refusal-leaves-nothing (item block k) n = let e = item-refused block k n in record { unchanged = refl; zeros = rw e (refl, tt); empty = rw e (refl, tt) }
+refusal-leaves-nothing (item block k) n =
+    let e = item-refused block k n in
+    record { unchanged = refl; zeros = rw e (refl, tt); empty = rw e (refl, tt) }
 refusal-leaves-nothing (count block) n = record { unchanged = refl; zeros = (count-refused block n, tt); empty = tt }
-refusal-leaves-nothing (append buf at id bytes) n = let e = append-refused buf at id bytes n in record { unchanged = e .1; zeros = (e .0, tt); empty = tt }
-refusal-leaves-nothing (header packet) n = let e = header-refused packet n in record { unchanged = refl; zeros = rw e (refl, tt); empty = rw e (refl, tt) }
+refusal-leaves-nothing (append buf at id bytes) n =
+    let e = append-refused buf at id bytes n in
+    record { unchanged = e .1; zeros = (e .0, tt); empty = tt }
+refusal-leaves-nothing (header packet) n =
+    let e = header-refused packet n in
+    record { unchanged = refl; zeros = rw e (refl, tt); empty = rw e (refl, tt) }
 
 -- Demand 1: a call stays inside its buffers. The part of each answer lies in what was lent, on a refusal too.
 pub payload-inside : (block : List ℕ) (k : ℕ) → Inside block (itemOf block k .payload)
@@ -60,9 +68,17 @@ item-handed-out block is e k =
       no-other = λ h. f ∙ not-there 0 k is h;
     }
 
+-- Demand 2: what a view of an item hands back.
+pub view-handed-out : (block : RefT (List ℕ)) (k : ℕ) (v : ItemView) → Views block (itemOf (now block) k) v → Viewed block k (v .payload)
+unfolding payloadOf
+view-handed-out block k v w =
+    let p = itemOf (now block) k .payload in
+    record { memory = w .part .memory; place = stands-at p (omega (arith, payload-inside (now block) k)) (w .part); bytes = w .part .bytes }
+
 -- Demand 2: what we write reads back the same. An item appended behind a sound block is the last of the items there, and those before it
 -- are handed out as they were.
-reads-back : (block new : List ℕ) (is : List Item) (i : Item) → itemsOf block ≡ sound is → itemsOf new ≡ sound (is ++ i ∷ []) → ReadsBack block is i new
+reads-back : (block new : List ℕ) (is : List Item) (i : Item)
+    → itemsOf block ≡ sound is → itemsOf new ≡ sound (is ++ i ∷ []) → ReadsBack block is i new
 unfolding countOf
 reads-back block new is i e f =
     let out = item-handed-out new (is ++ i ∷ []) f in
@@ -71,20 +87,24 @@ reads-back block new is i e f =
       one-more = rw f (ap (λ (n : ℕ). record { code = 0; items = n }) (length-append is (i ∷ [])));
       earlier = λ k h. (
         found new (is ++ i ∷ []) k f ∙ before-it 0 k is (i ∷ []) h ∙ sym (found block is k e),
-        out k .its-payload ∙ ap (λ (j : Item). j .payload) (List·getD-append is (i ∷ []) absent k h) ∙ sym (item-handed-out block is e k .its-payload),
+        out k .its-payload
+            ∙ ap (λ (j : Item). j .payload) (List·getD-append is (i ∷ []) absent k h)
+            ∙ sym (item-handed-out block is e k .its-payload),
       );
       last = found new (is ++ i ∷ []) (length is) f ∙ last-item block is i (sound-block block is e .1);
       last-payload = out (length is) .its-payload ∙ ap (λ (j : Item). j .payload) (last-of is i absent);
     }
 
-pub appended-reads-back : (block buf : List ℕ) (is : List Item) (i : Item) → itemsOf block ≡ sound is → take (length block) buf ≡ block → i .id < 256 ^ 4
+pub appended-reads-back : (block buf : List ℕ) (is : List Item) (i : Item)
+    → itemsOf block ≡ sound is → take (length block) buf ≡ block → i .id < 256 ^ 4
     → appending block buf i .code ≡ 0 → ReadsBack block is i (afterwards block buf i)
 appended-reads-back block buf is i e begins small a =
     let z = accepts (length buf) (length block) (i .id) (length (i .payload)) a in
     let short = accepted (length buf) (length block) (i .id) (length (i .payload)) z .short in
     let new = new-items block buf (i .id) (i .payload) begins z is (sound-block block is e .1) small in
     let long = new-length block buf (i .id) (i .payload) begins z in
-    rw (← (reports (length buf) (length block) (i .id) (length (i .payload)) z)) (reads-back block _ is i e (sym (short-enough _ (omega arith)) ∙ new))
+    rw (← (reports (length buf) (length block) (i .id) (length (i .payload)) z))
+    (reads-back block _ is i e (sym (short-enough _ (omega arith)) ∙ new))
 
 -- Demand 2, the other way round: a sound block is its items written one behind the other, and such a block reads back as those items.
 pub block-written-again : (block : List ℕ) (is : List Item) → Bytes block → itemsOf block ≡ sound is → (block ≡ layout is) × Writable is

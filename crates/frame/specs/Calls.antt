@@ -1,4 +1,4 @@
--- Every public call of this crate that can refuse, with its inputs, and all that it leaves: the very definitions that the functions' promises name.
+-- Every public call of this crate that can refuse, with its inputs, and all that it leaves: the definitions that the promises name.
 use Prim.Native.Nat.{ℕ}
 use mathlib.Core.List.{List, [], _∷_}
 use lib.ListN.{length}

@@ -47,15 +47,10 @@ unfoldable pub headOf : List ℕ → Head
 headOf s = cond (eqb (refusal s) 0) (Whole (idOf s) (sizeOf s)) (Bad (refusal s))
 
 -- one item in front of what the bytes behind it hold
-infixr 30 _before_ _then_
+infixr 30 _before_
 abbrev pub _before_ : Item → Finding → Finding
 i before refused code = refused code
 i before sound is = sound (i ∷ is)
-
--- items in front of what the bytes behind them hold
-abbrev pub _then_ : List Item → Finding → Finding
-[] then f = f
-(i ∷ is) then f = i before (is then f)
 
 -- the item of this id and size that bytes begin with
 abbrev pub itemIn : List ℕ → ℕ → ℕ → Item

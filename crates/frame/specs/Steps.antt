@@ -1,4 +1,4 @@
--- What the private functions of the reader hand back, said by what `specs/Items.antt` finds.
+-- Steps of the code: what the reader's private functions hand back, by what `specs/Items.antt` finds. No statement depends on this file.
 use Prim.Native.Nat.{ℕ, suc, _+_}
 use mathlib.Core.List.{List, [], _∷_}
 use mathlib.Core.Bool.{cond}

@@ -3,6 +3,7 @@ use Prim.Native.Nat.{ℕ, _+_, _≤_, _<_}
 use mathlib.Core.Path.{_≡_}
 use mathlib.Core.List.{List, [], _∷_, _++_}
 use lib.ListN.{length, take, getD}
+use denote.Ref.{RefT, ptr, now}
 use Rattle.wire.specs.declared.parts.Part.{Part}
 use Rattle.wire.specs.Parts.{nowhere}
 use Rattle.frame.specs.declared.writer.Appended.{Appended}
@@ -33,6 +34,12 @@ pub record HandedOut (block : List ℕ) (is : List Item) (k : ℕ) : Type 0 wher
   pub its-id : itemOf block k .id ≡ getD is k absent .id
   pub its-payload : payloadOf block k ≡ getD is k absent .payload
   pub no-other : length is ≤ k → itemOf block k ≡ refusedWith noItem
+
+-- Demand 2: the payload that a view hands back is the item's, and stands where `item` says.
+pub record Viewed (block : RefT (List ℕ)) (k : ℕ) (payload : RefT (List ℕ)) : Type 0 where
+  pub memory : ptr payload .0 ≡ ptr block .0
+  pub place : ptr payload .1 ≡ ptr block .1 + itemOf (now block) k .payload .at
+  pub bytes : now payload ≡ payloadOf (now block) k
 
 -- Demand 2: what we write reads back the same. An item appended behind a sound block is the last of the items there, and those before it
 -- are handed out as they were.

@@ -4,13 +4,18 @@ use crate::print;
 use crate::words::called;
 use crate::words::decode;
 use crate::words::number;
+use crate::words::octet;
 use crate::words::place;
 use crate::words::word;
-use frame::Part;
+use frame::Flag;
+use frame::Found;
+use wire::Part;
 
-fn part(p: Part) {
+// A part of a lent slice: its place, its length and its bytes.
+fn part(s: &[u8], p: Part) {
     print::count(p.at);
     print::count(p.len);
+    print::part(wire::part_at(s, p));
 }
 
 fn tally(block: &[u8]) {
@@ -19,12 +24,10 @@ fn tally(block: &[u8]) {
     print::count(c.items);
 }
 
-// An item without its payload: number, id, the payload's place and length.
-fn entry(block: &[u8], k: usize) {
-    let f = frame::item(block, k);
+// An item's number and id.
+fn entry(f: Found) {
     print::code(f.code);
     print::hex(f.id as u64, 8);
-    part(f.payload);
 }
 
 fn count(call: &[u8]) {
@@ -33,14 +36,14 @@ fn count(call: &[u8]) {
     tally(wire::head(&bytes, n));
 }
 
-// An item with its payload.
+// Number, id, and the payload.
 fn item(call: &[u8]) {
     let mut bytes = [0u8; 256];
     let n = decode(word(call, 2), &mut bytes);
     let block = wire::head(&bytes, n);
-    let k = place(word(call, 1));
-    entry(block, k);
-    print::part(frame::payload(block, k));
+    let f = frame::item(block, place(word(call, 1)));
+    entry(f);
+    part(block, f.payload);
 }
 
 // A block that is too long to show: its first item, and how many it has.
@@ -48,7 +51,10 @@ fn long_block(call: &[u8]) {
     let mut bytes = [0u8; 65536];
     decode(word(call, 2), &mut bytes);
     let block = wire::head(&bytes, place(word(call, 1)));
-    entry(block, 0);
+    let f = frame::item(block, 0);
+    entry(f);
+    print::count(f.payload.at);
+    print::count(f.payload.len);
     tally(block);
 }
 
@@ -65,7 +71,7 @@ fn append(call: &[u8]) {
     print::bytes(wire::tail(buf, place(word(call, 5))));
 }
 
-// Number, flags, the metadata's place and length, and the metadata.
+// Number, flags, and the metadata.
 fn header(call: &[u8]) {
     let mut bytes = [0u8; 256];
     let n = decode(word(call, 1), &mut bytes);
@@ -73,12 +79,26 @@ fn header(call: &[u8]) {
     let h = frame::header(packet);
     print::code(h.code);
     print::hex(h.flags as u64, 2);
-    part(h.metadata);
-    print::part(frame::metadata(packet));
+    part(packet, h.metadata);
+}
+
+fn flag(flags: u8, f: Flag) {
+    print::count(frame::has_flag(flags, f) as usize);
+}
+
+// Whether FID, EOF, PTS, SCR and ERR are set.
+fn flags(call: &[u8]) {
+    let byte = octet(word(call, 1), 0);
+    print::text(b" =");
+    flag(byte, Flag::Fid);
+    flag(byte, Flag::Eof);
+    flag(byte, Flag::Pts);
+    flag(byte, Flag::Scr);
+    flag(byte, Flag::Err);
 }
 
 // count BLOCK, item K BLOCK, long-block LENGTH BLOCK (zeros behind it up to the length), append ROOM PLACE ID PAYLOAD [FROM] (shown
-// from there on), header PACKET.
+// from there on), header PACKET, flags BYTE.
 pub(crate) fn run(call: &[u8]) {
     if called(call, b"count") {
         count(call);
@@ -94,5 +114,8 @@ pub(crate) fn run(call: &[u8]) {
     }
     if called(call, b"header") {
         header(call);
+    }
+    if called(call, b"flags") {
+        flags(call);
     }
 }

@@ -12,6 +12,7 @@ mod snapshots;
 mod words;
 
 use camera::Camera;
+use wire::Part;
 
 // The camera after a row.
 fn row(camera: Camera, line: &[u8]) -> Camera {
@@ -30,7 +31,8 @@ fn rows(s: &[u8]) {
     let mut at = 0;
     while at < s.len() {
         let end = words::until(s, at, b'\n', true);
-        camera = row(camera, wire::part(s, at, end - at));
+        let line = Part { at, len: end - at };
+        camera = row(camera, wire::part_at(s, line));
         at = end + 1;
     }
 }

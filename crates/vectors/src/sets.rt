@@ -25,8 +25,8 @@ fn entry(set: &[u8], k: usize) -> bool {
     print::count(p.kind);
     let i = p.interface;
     interface(i);
-    print::part(descriptors::property_name(set, k));
-    print::part(descriptors::property_value(set, k));
+    print::part(wire::part_at(set, p.name));
+    print::part(wire::part_at(set, p.value));
     p.code == 0
 }
 

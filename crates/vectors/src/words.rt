@@ -1,4 +1,5 @@
 // The words of a line, and the bytes that a word gives in hex.
+use wire::Part;
 ghost use Prim.Native.Nat.{_≤_, _<_};
 ghost use lib.ListN.{length};
 
@@ -34,7 +35,9 @@ pub(crate) fn word(s: &[u8], k: usize) -> &[u8] {
         at = until(s, until(s, at, b' ', true), b' ', false);
         i += 1;
     }
-    wire::part(s, at, until(s, at, b' ', true) - at)
+    let end = until(s, at, b' ', true);
+    let word = Part { at, len: end - at };
+    wire::part_at(s, word)
 }
 
 // Whether two words are the same.

@@ -9,12 +9,12 @@ use lib.Seq.{take-at}
 use lib.Dec.{ltb}
 use borrow.Author.Tests.{ltb-false}
 use Rattle.wire.proofs.Laws.Overlay as overlays
-use Rattle.frame.specs.Items.{Item, Finding, refused, sound, _before_, _then_, itemsFrom, itemsOf}
+use Rattle.frame.specs.Items.{Item, Finding, refused, sound, _before_, itemsFrom, itemsOf}
 use Rattle.frame.specs.Answers.{itemAt}
 use Rattle.frame.specs.Writer.{itemBytes, appendRefusal, writtenOf}
 use Rattle.frame.proofs.Laws.Fuel.{nothing-left}
 use Rattle.frame.proofs.Laws.Append.{accepted, writes}
-use Rattle.frame.proofs.Laws.Join.{Split, every, join}
+use Rattle.frame.proofs.Laws.Join.{_then_, Split, every, join}
 use Rattle.frame.proofs.Laws.Layout.{length-item, reads}
 
 -- item k of the items before, and item k of those behind

@@ -10,10 +10,16 @@ use borrow.Author.Tests.{ltb-true, ltb-false}
 use lib.Seq.{take-append-le, drop-append-le}
 use Rattle.frame.specs.declared.items.Head.{Head}
 use Rattle.frame.specs.declared.items.Head.the-variants.{Bad, Whole}
-use Rattle.frame.specs.Items.{Item, Finding, refused, sound, headOf, _before_, _then_, follow, itemsFrom, itemIn}
+use Rattle.frame.specs.Items.{Item, Finding, refused, sound, headOf, _before_, follow, itemsFrom, itemIn}
 use Rattle.frame.proofs.Laws.Heads.{Sound, sound-head, head-of}
 use Rattle.frame.proofs.Laws.Fuel.{nothing-left, one-then}
 use Rattle.frame.proofs.Laws.Bytes.{in-front}
+
+-- items in front of what the bytes behind them hold
+infixr 30 _then_
+abbrev pub _then_ : List Item → Finding → Finding
+[] then f = f
+(i ∷ is) then f = i before (is then f)
 
 -- the first item of a sound block, and the sound block behind it
 pub record Split (s : List ℕ) (is : List Item) : Type 0 where

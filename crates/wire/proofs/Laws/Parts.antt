@@ -1,5 +1,5 @@
 -- What parts of a slice have, and a part of a part. Assumes nothing.
-use Prim.Native.Nat.{ℕ, _+_, _-_, min}
+use Prim.Native.Nat.{ℕ, _+_, _-_, _≤_, min}
 use mathlib.Core.Path.{_≡_, sym, ap, _∙_}
 use mathlib.Core.List.{List}
 use lib.ListN.{length, take, drop, length-drop}
@@ -27,3 +27,7 @@ part-of-part {s} {t} p a b = record {
   place = b .place ∙ sym (at-start (ptr t .1) (length (now t))) ∙ a .place;
   bytes = b .bytes ∙ ap (take (p .len)) (rest a);
 }
+
+-- where a part that begins inside the slice stands
+pub stands-at : {s r : RefT (List ℕ)} (p : Part) → p .at ≤ length (now s) → PartOf s p r → ptr r .1 ≡ ptr s .1 + p .at
+stands-at p h part = omega (arith, part .place)

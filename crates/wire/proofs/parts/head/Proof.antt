@@ -6,7 +6,9 @@ use Rattle.wire.proofs.parts.head.Statement.{statement}
 use Rattle.wire.proofs.parts.head.Tie as tie
 
 returns : tie.Need-returns
-returns c = record { memory = refl; place = at-start _ _; bytes = sym (take-all (c .before .args .n) (c .before .args .s .now) (omega arith)) }
+returns c =
+    let a = c .before .args in
+    record { memory = refl; place = at-start _ _; bytes = sym (take-all (a .n) (a .s .now) (omega arith)) }
 
 slice-aggregate-result : tie.Need-slice-aggregate-result
 slice-aggregate-result c = sym (length-take-le _ _ (omega arith))

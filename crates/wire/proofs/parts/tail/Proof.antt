@@ -21,7 +21,13 @@ returns : tie.Need-returns
 returns c =
     let s = c .before .before .args .s .now in
     let h : length s ≤ c .before .before .args .i = omega arith in
-    record { memory = refl; place = omega arith; bytes = rw (drop-of-length-le s h, drop-length s) (take-nil (length s - length s) ∙ sym (take-nil (length s - c .before .before .args .i))) }
+    record {
+      memory = refl;
+      place = omega arith;
+      bytes =
+          rw (drop-of-length-le s h, drop-length s)
+          (take-nil (length s - length s) ∙ sym (take-nil (length s - c .before .before .args .i)));
+    }
 
 sub-result-2 : tie.Need-sub-result-2
 sub-result-2 c = search needs
