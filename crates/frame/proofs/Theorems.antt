@@ -23,7 +23,7 @@ use Rattle.frame.proofs.Laws.Append.{accepted, accepts, reports}
 use Rattle.frame.proofs.Laws.Packets.{header-inside}
 use Rattle.frame.proofs.Laws.Refusals.{item-refused, count-refused, append-refused, header-refused}
 use Rattle.frame.specs.Calls.{Call, item, count, append, header, outcomeOf}
-use Rattle.frame.specs.Theorems.{Refused, Inside, HandedOut, Viewed, ReadsBack, appending, afterwards}
+use Rattle.frame.specs.Theorems.{Refused, Inside, HandedOut, Viewed, AppendReadsBack, appending, afterwards}
 
 -- Demand 1: what a refused call leaves.
 pub refusal-leaves-nothing : (c : Call) → (outcomeOf c .code ≡ 0 → ⊥) → Refused c (outcomeOf c)
@@ -78,7 +78,7 @@ view-handed-out block k v w =
 -- Demand 2: what we write reads back the same. An item appended behind a sound block is the last of the items there, and those before it
 -- are handed out as they were.
 reads-back : (block new : List ℕ) (is : List Item) (i : Item)
-    → itemsOf block ≡ sound is → itemsOf new ≡ sound (is ++ i ∷ []) → ReadsBack block is i new
+    → itemsOf block ≡ sound is → itemsOf new ≡ sound (is ++ i ∷ []) → AppendReadsBack block is i new
 unfolding countOf
 reads-back block new is i e f =
     let out = item-handed-out new (is ++ i ∷ []) f in
@@ -97,7 +97,7 @@ reads-back block new is i e f =
 
 pub appended-reads-back : (block buf : List ℕ) (is : List Item) (i : Item)
     → itemsOf block ≡ sound is → take (length block) buf ≡ block → i .id < 256 ^ 4
-    → appending block buf i .code ≡ 0 → ReadsBack block is i (afterwards block buf i)
+    → appending block buf i .code ≡ 0 → AppendReadsBack block is i (afterwards block buf i)
 appended-reads-back block buf is i e begins small a =
     let z = accepts (length buf) (length block) (i .id) (length (i .payload)) a in
     let short = accepted (length buf) (length block) (i .id) (length (i .payload)) z .short in

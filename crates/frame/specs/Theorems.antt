@@ -43,7 +43,7 @@ pub record Viewed (block : RefT (List ℕ)) (k : ℕ) (payload : RefT (List ℕ)
 
 -- Demand 2: what we write reads back the same. An item appended behind a sound block is the last of the items there, and those before it
 -- are handed out as they were.
-pub record ReadsBack (block : List ℕ) (is : List Item) (i : Item) (new : List ℕ) : Type 0 where
+pub record AppendReadsBack (block : List ℕ) (is : List Item) (i : Item) (new : List ℕ) : Type 0 where
   pub items : itemsOf new ≡ sound (is ++ i ∷ [])
   pub one-more : countOf new ≡ record { code = 0; items = length is + 1 }
   pub earlier : (k : ℕ) → k < length is → (itemOf new k ≡ itemOf block k) × (payloadOf new k ≡ payloadOf block k)

@@ -14,8 +14,8 @@ bytesAt s p = take (p .len) (drop (p .at) s)
 abbrev pub upTo : ℕ → Part
 upTo n = record { at = 0; len = n }
 
-abbrev pub from : List ℕ → ℕ → Part
-from s i = record { at = i; len = length s - i }
+abbrev pub allFrom : List ℕ → ℕ → Part
+allFrom s i = record { at = i; len = length s - i }
 
 -- the empty part of a refusal
 abbrev pub nowhere : Part

@@ -7,21 +7,21 @@ use lib.Seq.{take-all}
 use native.Mathlib.Omega.{arith}
 use denote.Ref.{RefT, ptr, now}
 use Rattle.wire.specs.declared.parts.Part.{Part}
-use Rattle.wire.specs.Parts.{bytesAt, upTo, from, PartOf}
+use Rattle.wire.specs.Parts.{bytesAt, upTo, allFrom, PartOf}
 
 -- the bytes of all from i on
-pub from-bytes : (s : List ℕ) (i : ℕ) → bytesAt s (from s i) ≡ drop i s
-from-bytes s i = take-all (length s - i) (drop i s) (simp length-drop (omega arith))
+pub all-from : (s : List ℕ) (i : ℕ) → bytesAt s (allFrom s i) ≡ drop i s
+all-from s i = take-all (length s - i) (drop i s) (simp length-drop (omega arith))
 
-pub rest : {s r : RefT (List ℕ)} {i : ℕ} → PartOf s (from (now s) i) r → now r ≡ drop i (now s)
-rest {s} {i = i} p = p .bytes ∙ from-bytes (now s) i
+pub rest : {s r : RefT (List ℕ)} {i : ℕ} → PartOf s (allFrom (now s) i) r → now r ≡ drop i (now s)
+rest {s} {i = i} p = p .bytes ∙ all-from (now s) i
 
 -- where a part from the first byte on stands
 pub at-start : (a n : ℕ) → a ≡ a + min 0 n
 at-start a n = omega arith
 
 -- the first n bytes of all from i on are that part
-pub part-of-part : {s t r : RefT (List ℕ)} (p : Part) → PartOf s (from (now s) (p .at)) t → PartOf t (upTo (p .len)) r → PartOf s p r
+pub part-of-part : {s t r : RefT (List ℕ)} (p : Part) → PartOf s (allFrom (now s) (p .at)) t → PartOf t (upTo (p .len)) r → PartOf s p r
 part-of-part {s} {t} p a b = record {
   memory = b .memory ∙ a .memory;
   place = b .place ∙ sym (at-start (ptr t .1) (length (now t))) ∙ a .place;
