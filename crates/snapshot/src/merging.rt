@@ -2,6 +2,7 @@
 use crate::form::well_formed;
 use crate::keys::KEYS;
 use crate::records::passed_at;
+use wire::Part;
 use wire::uvc::MALFORMED_SNAPSHOT;
 use wire::uvc::NO_ROOM;
 ghost use mathlib.Core.Path.{_≡_};
@@ -47,7 +48,9 @@ fn write_merged(first: &[u8], second: &[u8], out: &mut [u8]) -> usize
     while key < KEYS {
         let p = passed_at(first, a, key);
         let q = passed_at(second, b, key);
-        n += put(wire::part(first, a, p), wire::part(second, b, q), out, n);
+        let x = wire::part_at(first, Part { at: a, len: p });
+        let y = wire::part_at(second, Part { at: b, len: q });
+        n += put(x, y, out, n);
         a += p;
         b += q;
         key += 1;

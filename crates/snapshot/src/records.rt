@@ -3,6 +3,7 @@ use crate::keys::KEYS;
 use crate::keys::key_for;
 use crate::keys::length_of;
 use crate::keys::size_of;
+use wire::Part;
 ghost use mathlib.Core.Path.{_≡_};
 ghost use lib.ListN.{drop};
 ghost use Rattle.wire.specs.Rows.{allOf};
@@ -50,7 +51,7 @@ pub fn key_at(s: &[u8], at: usize) -> usize
     let kind = wire::le16(r, 2);
     let entries = wire::byte(r, 4) as usize;
     let address = wire::byte(r, 5) as usize;
-    let tail = all_zero(wire::part(r, 12, 12));
+    let tail = all_zero(wire::part_at(r, Part { at: 12, len: 12 }));
     if is_sound(r.len(), len, kind, entries, address, tail) {
         return key_for(kind, address);
     }
@@ -89,5 +90,5 @@ pub fn record_of(s: &[u8], key: usize) -> &[u8]
     }
     let at = start_of(s, key);
     let n = passed_at(s, at, key);
-    wire::part(s, at, n)
+    wire::part_at(s, Part { at, len: n })
 }

@@ -22,7 +22,7 @@ turned d =
     let l = q .before .before .before .loop in
     let a = q .before .before .before .before .before .before .before .args in
     write-next (a .first .now) (a .second .now) (a .out .now) (l .out) (l .a) (l .b) (l .n) (l .key) (l .inv) (q .before .before .loop-test .taken)
-    (q .before .passed-at .ensures) (q .passed-at2 .ensures) (y .before .part .ensures) (y .part2 .ensures) (d .put .ensures .0) (d .put .ensures .1)
+    (q .before .passed-at .ensures) (q .passed-at2 .ensures) (y .before .part-at .ensures .bytes) (y .part-at2 .ensures .bytes) (d .put .ensures .0) (d .put .ensures .1)
 
 loop-holds : tie.Need-loop-holds Inv-loop μ-loop
 loop-holds c = unwritten _ _ _
@@ -33,11 +33,11 @@ passed-at-requires c κs = search needs
 passed-at-requires-2 : tie.Need-passed-at-requires-2 Inv-loop μ-loop
 passed-at-requires-2 c κs = search needs
 
-part-requires : tie.Need-part-requires Inv-loop μ-loop
-part-requires c κs = search needs
+part-at-requires : tie.Need-part-at-requires Inv-loop μ-loop
+part-at-requires c κs = search needs
 
-part-requires-2 : tie.Need-part-requires-2 Inv-loop μ-loop
-part-requires-2 c κs = search needs
+part-at-requires-2 : tie.Need-part-at-requires-2 Inv-loop μ-loop
+part-at-requires-2 c κs = search needs
 
 put-requires : tie.Need-put-requires Inv-loop μ-loop
 put-requires c κs = search needs
@@ -75,8 +75,8 @@ write-merged-spec =
     loop-holds
     passed-at-requires
     passed-at-requires-2
-    part-requires
-    part-requires-2
+    part-at-requires
+    part-at-requires-2
     put-requires
     add-n
     add-a

@@ -6,6 +6,7 @@ use lib.ListN.{length, getD, drop}
 use borrow.Author.Needs.{needs}
 use Rattle.wire.specs.Number.{leAt}
 use Rattle.wire.specs.Rows.{allOf}
+use Rattle.wire.proofs.Laws.Parts.{rest}
 use Rattle.snapshot.specs.Form.{keyFor, zeros, tests, tailAt, sound, keyAt}
 use Rattle.snapshot.specs.Records.{keyOf}
 use Rattle.snapshot.proofs.records.key_at.Statement.{statement}
@@ -24,8 +25,8 @@ at d =
     let z = d .before in
     let b = z .before .before .before in
     let w = b .before .before .before in
-    let r = read _ _ _ _ _ _ _ (w .tail .ensures) (b .before .before .le16 .ensures .0) (b .before .le162 .ensures .0) (b .byte .ensures) (z .before .before .byte2 .ensures)
-    (z .all-zero .ensures ∙ ap zeros (z .before .part .ensures)) in
+    let r = read _ _ _ _ _ _ _ (rest (w .tail .ensures)) (b .before .before .le16 .ensures .0) (b .before .le162 .ensures .0) (b .byte .ensures) (z .before .before .byte2 .ensures)
+    (z .all-zero .ensures ∙ ap zeros (z .before .part-at .ensures .bytes)) in
     (d .is-sound .ensures ∙ r .0, r .1)
 
 sound-key : (t : List ℕ) → sound t ≡ true → keyOf t ≡ keyAt t
@@ -57,8 +58,8 @@ byte-requires-2 c κs = search needs
 cast-address : tie.Need-cast-address
 cast-address c = search needs
 
-part-requires : tie.Need-part-requires
-part-requires c κs = search needs
+part-at-requires : tie.Need-part-at-requires
+part-at-requires c κs = search needs
 
 all-zero-requires : tie.Need-all-zero-requires
 all-zero-requires c κs = search needs
@@ -88,7 +89,7 @@ key-at-spec =
     cast-entries
     byte-requires-2
     cast-address
-    part-requires
+    part-at-requires
     all-zero-requires
     is-sound-requires
     key-for-requires
