@@ -6,9 +6,10 @@ use crate::keys::size_of;
 use wire::Part;
 ghost use mathlib.Core.Path.{_≡_};
 ghost use lib.ListN.{drop};
+ghost use Rattle.wire.specs.Parts.{PartOf};
 ghost use Rattle.wire.specs.Rows.{allOf};
 ghost use Rattle.snapshot.specs.Form.{tests, zeros};
-ghost use Rattle.snapshot.specs.Records.{keyOf, passed, decode, bytes, Cursor};
+ghost use Rattle.snapshot.specs.Records.{keyOf, passed, decode, bytes, recordPlace, Cursor};
 
 // Whether all bytes are zero.
 fn all_zero(s: &[u8]) -> bool
@@ -81,12 +82,12 @@ pub(crate) fn start_of(s: &[u8], key: usize) -> usize
     at
 }
 
-// The record of a key, whole; empty where there is none.
+// The record of a key, whole, where it stands; empty where there is none.
 pub fn record_of(s: &[u8], key: usize) -> &[u8]
-    ensures { λ r. ⌜ now r ≡ bytes (decode (now (s .entry)) key) ⌝ }
+    ensures { λ r. ⌜ (now r ≡ bytes (decode (now (s .entry)) key)) × PartOf (s .entry) (recordPlace (now (s .entry)) key) r ⌝ }
 {
     if KEYS <= key {
-        return wire::head(s, 0);
+        return wire::part_at(s, Part { at: 0, len: 0 });
     }
     let at = start_of(s, key);
     let n = passed_at(s, at, key);

@@ -15,14 +15,23 @@ turned : (d : tie.After-put Inv-loop μ-loop) →
     let l = d .before .before .before .before .before .before .before .loop in
     let a = d .before .before .before .before .before .before .before .before .before .before .before .args in
     Written (a .first .now) (a .second .now) (a .out .now) (d .put .last .1 .1 .0)
-    (l .a + d .before .before .before .before .before .passed-at .result) (l .b + d .before .before .before .before .passed-at2 .result) (l .n + d .put .result) (l .key + 1)
+    (l .a + d .before .before .before .before .before .passed-at .result)
+    (l .b + d .before .before .before .before .passed-at2 .result)
+    (l .n + d .put .result)
+    (l .key + 1)
 turned d =
     let y = d .before .before in
     let q = y .before .before in
     let l = q .before .before .before .loop in
     let a = q .before .before .before .before .before .before .before .args in
-    write-next (a .first .now) (a .second .now) (a .out .now) (l .out) (l .a) (l .b) (l .n) (l .key) (l .inv) (q .before .before .loop-test .taken)
-    (q .before .passed-at .ensures) (q .passed-at2 .ensures) (y .before .part-at .ensures .bytes) (y .part-at2 .ensures .bytes) (d .put .ensures .0) (d .put .ensures .1)
+    write-next (a .first .now) (a .second .now) (a .out .now) (l .out) (l .a) (l .b) (l .n) (l .key) (l .inv)
+    (q .before .before .loop-test .taken)
+    (q .before .passed-at .ensures)
+    (q .passed-at2 .ensures)
+    (y .before .part-at .ensures .bytes)
+    (y .part-at2 .ensures .bytes)
+    (d .put .ensures .0)
+    (d .put .ensures .1)
 
 loop-holds : tie.Need-loop-holds Inv-loop μ-loop
 loop-holds c = unwritten _ _ _
