@@ -16,7 +16,8 @@ use wire::Part;
 use wire::uvc::MALFORMED_RECORD;
 ghost use mathlib.Core.Path.{_≡_};
 ghost use Rattle.camera.specs.Items.{firstRefusal, puts};
-ghost use Rattle.camera.specs.Snapshots.{selectorAt, recordItem, itemIn, loadItem, loadGives, loaded};
+ghost use Rattle.camera.specs.Snapshots.{selectorAt, recordItem, loadItem, loadGives, loaded};
+ghost use Rattle.camera.specs.Steps.{itemIn};
 
 fn selector_at(key: usize) -> u8
     ensures { λ r. ⌜ r ≡ selectorAt key ⌝ }

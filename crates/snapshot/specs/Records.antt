@@ -31,11 +31,6 @@ unfoldable pub from : List ℕ → ℕ → List ℕ
 from s zero = s
 from s (suc k) = skip k (from s k)
 
--- the records of the keys below k of s end at `at`
-pub record Cursor (s : List ℕ) (at k : ℕ) : Type 0 where
-  pub within : at ≤ length s
-  pub here : drop at s ≡ from s k
-
 -- the record at the start of s, if that has key k
 unfoldable pub recordAt : ℕ → List ℕ → Option (List ℕ)
 recordAt k s = cond (stands k s) (some (take (sizeOf k) s)) none

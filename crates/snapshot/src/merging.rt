@@ -8,7 +8,8 @@ use wire::uvc::NO_ROOM;
 ghost use mathlib.Core.Path.{_≡_};
 ghost use lib.ListN.{length};
 ghost use Rattle.wire.specs.Overlay.{overlay};
-ghost use Rattle.snapshot.specs.Merge.{secondOr, merged, mergeCode, mergeLen, mergeOut};
+ghost use Rattle.snapshot.specs.Merge.{merged, mergeCode, mergeLen, mergeOut};
+ghost use Rattle.snapshot.specs.Steps.{secondOr};
 
 // The verdict, and how many bytes the merged snapshot has; 0 where it is refused.
 pub struct Merged {

@@ -9,7 +9,8 @@ ghost use lib.ListN.{drop};
 ghost use Rattle.wire.specs.Parts.{PartOf};
 ghost use Rattle.wire.specs.Rows.{allOf};
 ghost use Rattle.snapshot.specs.Form.{tests, zeros};
-ghost use Rattle.snapshot.specs.Records.{keyOf, passed, decode, bytes, recordPlace, Cursor};
+ghost use Rattle.snapshot.specs.Records.{keyOf, passed, decode, bytes, recordPlace};
+ghost use Rattle.snapshot.specs.Steps.{Cursor};
 
 // Whether all bytes are zero.
 fn all_zero(s: &[u8]) -> bool

@@ -13,7 +13,8 @@ use borrow.Author.Tests.{le-leb, lt-leb, eq-eqb, ne-eqb}
 use Rattle.wire.specs.declared.parts.Part.{Part}
 use Rattle.wire.specs.Parts.{nowhere}
 use Rattle.snapshot.specs.Form.{sizeOf, isEmpty, wellFormed}
-use Rattle.snapshot.specs.Records.{stands, passed, skip, from, recordAt, decode, bytes, recordPlace, Cursor}
+use Rattle.snapshot.specs.Records.{stands, passed, skip, from, recordAt, decode, bytes, recordPlace}
+use Rattle.snapshot.specs.Steps.{Cursor}
 use Rattle.snapshot.proofs.Laws.Sound.{stands-long}
 use Rattle.snapshot.proofs.Laws.Form.{formed-from}
 

@@ -8,8 +8,9 @@ use mathlib.Core.Option.{Option, none, some}
 use lib.ListN.{length, take, drop, length-append}
 use Rattle.wire.specs.Overlay.{overlay}
 use Rattle.wire.proofs.Laws.Overlay.{no-bytes, append, same-length}
-use Rattle.snapshot.specs.Records.{passed, decode, bytes, records, encode, GoodAt, Cursor}
-use Rattle.snapshot.specs.Merge.{over, overs, merged, secondOr}
+use Rattle.snapshot.specs.Records.{passed, decode, bytes, records, encode, GoodAt}
+use Rattle.snapshot.specs.Merge.{over, overs, merged}
+use Rattle.snapshot.specs.Steps.{Cursor, secondOr}
 use Rattle.snapshot.proofs.Laws.Sound.{stands-some}
 use Rattle.snapshot.proofs.Laws.Maps.{decode-good, records-split}
 use Rattle.snapshot.proofs.Laws.Merging.{merged-length}

@@ -4,7 +4,7 @@ use mathlib.Core.List.{List, [], _∷_}
 use native.Mathlib.Omega.{arith}
 use lib.ListN.{length}
 use Rattle.wire.specs.Overlay.{overlay}
-use Rattle.snapshot.specs.Merge.{secondOr}
+use Rattle.snapshot.specs.Steps.{secondOr}
 use borrow.Author.Needs.{needs}
 use Rattle.snapshot.proofs.merging.put.Statement.{statement}
 use Rattle.snapshot.proofs.merging.put.Tie as tie
