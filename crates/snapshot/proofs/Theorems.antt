@@ -75,7 +75,8 @@ pub program-neutral : specs.ProgramNeutral
 program-neutral s out w h =
     let e = merging.merged-nil s w in
     let r = accepts s [] out w form.nil-formed (rw e h) in
-    (r .accepted, (r .is-handed ∙ e, answers.same-answer s [] out [] s w form.nil-formed form.nil-formed w (e ∙ sym (merging.nil-merged s w))))
+    let q = e ∙ sym (merging.nil-merged s w) in
+    (r .accepted, (r .is-handed ∙ e, answers.same-answer s [] out [] s w form.nil-formed form.nil-formed w q))
 
 pub program-commutes : specs.ProgramCommutes
 program-commutes a b out p q h = answers.same-answer a b out b a p q q p (commutes a b h)

@@ -48,4 +48,7 @@ handed first second out = take (mergeLen first second out) (mergeOut first secon
 
 -- two merges into the same buffer answer alike: in verdict, length and every byte
 abbrev pub Alike : List ℕ → List ℕ → List ℕ → List ℕ → List ℕ → Type 0
-Alike a b c d out = (mergeCode a b out ≡ mergeCode c d out) × ((mergeLen a b out ≡ mergeLen c d out) × (mergeOut a b out ≡ mergeOut c d out))
+Alike a b c d out =
+    (mergeCode a b out ≡ mergeCode c d out)
+    × ((mergeLen a b out ≡ mergeLen c d out)
+    × (mergeOut a b out ≡ mergeOut c d out))

@@ -23,8 +23,8 @@ EncodeDecode = (s : List ℕ) → wellFormed s ≡ true → encode (decode s) �
 abbrev pub DecodeEncode : Type 0
 DecodeEncode = (m : ℕ → Option (List ℕ)) → Good m → (wellFormed (encode m) ≡ true) × (decode (encode m) ≡ m)
 
--- The records in order, as loading takes them: the keys ascend strictly, the record of each key is the one that is decoded, and there are no
--- other bytes.
+-- The records in order, as loading takes them: the keys ascend strictly, the record of each key is the one that is decoded, and there are
+-- no other bytes.
 pub record InOrder (s : List ℕ) : Type 0 where
   pub ascending : Ascending 0 (recordsOf s)
   pub each : (k : ℕ) → find k (recordsOf s) ≡ decode s k
@@ -43,7 +43,8 @@ KeyOrder =
 abbrev pub Longest : Type 0
 Longest = (m : ℕ → Option (List ℕ)) → Good m → (length (encode m) ≤ 250) × (recordCount 15 1 m ≤ 8 → length (encode m) ≤ 159)
 
--- Merging gives, in ascending order, one record for each key that is in either snapshot, the second's where both have it, and is well formed.
+-- Merging gives, in ascending order, one record for each key that is in either snapshot, the second's where both have it; it is well
+-- formed.
 pub record Merges (a b s : List ℕ) : Type 0 where
   pub formed : wellFormed s ≡ true
   pub has : (k : ℕ) → decode s k ≡ over (decode a k) (decode b k)

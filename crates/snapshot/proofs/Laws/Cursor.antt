@@ -18,7 +18,7 @@ use Rattle.snapshot.specs.Steps.{Cursor}
 use Rattle.snapshot.proofs.Laws.Sound.{stands-long}
 use Rattle.snapshot.proofs.Laws.Form.{formed-from}
 
-passed-long : (k : ℕ) (s : List ℕ) → passed k s ≤ length s
+pub passed-long : (k : ℕ) (s : List ℕ) → passed k s ≤ length s
 unfolding passed
 passed-long k s = go (stands k s) refl
   where
@@ -34,7 +34,7 @@ skip-passed k s = go (stands k s)
     go true = refl
     go false = refl
 
-record-passed : (k : ℕ) (s : List ℕ) → bytes (recordAt k s) ≡ take (passed k s) s
+pub record-passed : (k : ℕ) (s : List ℕ) → bytes (recordAt k s) ≡ take (passed k s) s
 unfolding recordAt passed
 record-passed k s = go (stands k s)
   where

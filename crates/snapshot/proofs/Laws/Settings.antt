@@ -41,7 +41,8 @@ module _ {Value : Type 0} (row : ℕ → Value → List ℕ) where
 
   pub rows-good : (l : List (Setting Value)) → Rows row l → Good (λ k. Option·map (row k) (lastOf l k))
   rows-good [] p k = tt
-  rows-good (x ∷ l) p k = over-map-good k (cond (eqb (x .0) k) (some (x .1)) none) (lastOf l k) (first (eqb (x .0) k) refl) (rows-good l (p .1) k)
+  rows-good (x ∷ l) p k =
+      over-map-good k (cond (eqb (x .0) k) (some (x .1)) none) (lastOf l k) (first (eqb (x .0) k) refl) (rows-good l (p .1) k)
     where
       first : (b : Bool) → eqb (x .0) k ≡ b → GoodAt k (Option·map (row k) (cond b (some (x .1)) none))
       first true e = subst (λ j. Record j (row j (x .1))) (eqb-true _ _ e) (p .0)
