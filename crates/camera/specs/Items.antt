@@ -1,7 +1,6 @@
 -- What a SET's payload, and a snapshot's records, come to item by item: the first refusal answers, or all are taken.
 use Prim.Native.Nat.{ℕ, zero, suc}
 use mathlib.Core.List.{List, [], _∷_, _++_}
-use mathlib.Core.Option.{Option, none, some}
 use mathlib.Core.Bool.{cond}
 use lib.Dec.{eqb}
 use lib.ListN.{getD}
@@ -18,12 +17,7 @@ use Rattle.camera.specs.declared.profile.Profile.{Profile}
 use Rattle.camera.specs.declared.record.Camera.{Camera}
 use Rattle.camera.specs.Record.{keyOf, put}
 
--- an item of a setting held
-abbrev pub itemHeld : Option Setting → Item
-itemHeld none = Absent
-itemHeld (some s) = Given s
-
--- the settings that it gives, each with its key
+-- the settings that an item gives, each with its key
 unfoldable pub givenOf : Item → List (ℕ × Setting)
 givenOf Absent = []
 givenOf (Refused code) = []

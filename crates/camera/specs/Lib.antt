@@ -1,4 +1,4 @@
--- What document 01 says of the camera record and of the calls that take it.
+-- What document 01 says of the camera record and of the calls that take it; last, the steps of the code.
 pub mod Selectors
 pub mod Profile
 pub mod Record
@@ -6,3 +6,4 @@ pub mod Items
 pub mod Requests
 pub mod Snapshots
 pub mod Calls
+pub mod Steps

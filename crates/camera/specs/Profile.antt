@@ -4,7 +4,6 @@ use mathlib.Core.List.{List, [], _∷_}
 use mathlib.Core.Bool.{Bool, cond, not, _||_}
 use lib.Dec.{eqb}
 use Rattle.wire.specs.Rows.{allOf}
-use Rattle.request.specs.declared.tests.Unit.{Unit}
 use Rattle.request.specs.Table.{Table, hasControl}
 use Rattle.exposure.specs.Ev.{evValid}
 use Rattle.face.specs.Face.{faceValid, takesFace}
@@ -51,12 +50,3 @@ takes p selector payload =
 -- the table of its controls
 abbrev pub table : Profile → Table
 table p = record { unit = p .unit; interface = p .interface; present = has p; settable = settable p; takes = takes p }
-
--- the same as numbers
-unfoldable pub unitOf : Profile → Unit
-unitOf p = record {
-  unit = p .unit;
-  interface = p .interface;
-  present = p .controls;
-  settable = cond (p .metadata .writable) 0x3124 0x3024;
-}

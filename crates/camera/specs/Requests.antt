@@ -9,7 +9,7 @@ use Rattle.wire.specs.Uvc.{malformedRecord, noRoom, wrongState}
 use Rattle.request.specs.Setup.{isSetRequest, wLengthOf}
 use Rattle.request.specs.Setup as setup
 use Rattle.request.specs.Tests.{requestTests}
-use Rattle.request.specs.Reply.{countOf, sentOf}
+use Rattle.request.specs.Reply.{countOf}
 use Rattle.exposure.specs.Ev.{evAnswer}
 use Rattle.face.specs.Face.{faceAnswer}
 use Rattle.controls.specs.Metadata.{metadataAnswer}
@@ -86,14 +86,3 @@ replied c s payload reply =
     cond (eqb (requestCode c s payload (length reply)) 0 && not (isSetRequest s))
     (take (sentCount c s) (asked c s) ++ drop (sentCount c s) reply)
     reply
-
--- past test 6: a SET of a selector, and a GET
-unfoldable pub setDone : Camera → ℕ → List ℕ → Outcome
-setDone c selector payload =
-    outcomeBy (firstOf (setTests (c .profile) (c .streaming) selector payload)) c
-    (record { code = 0; count = 0; camera = puts c (setGives (c .profile) selector payload) })
-
-unfoldable pub getDone : Camera → List ℕ → ℕ → Outcome
-getDone c s room =
-    let sent = sentOf (asked c s) (wLengthOf s) room in
-    record { code = sent .code; count = sent .count; camera = c }

@@ -1,12 +1,11 @@
 -- Document 01, "Settings sheet": loading a snapshot and writing one.
-use Prim.Native.Nat.{ℕ, _+_, min}
+use Prim.Native.Nat.{ℕ, _+_}
 use mathlib.Core.List.{List, [], _∷_, _++_}
 use mathlib.Core.Option.{Option, none, some}
 use mathlib.Core.Bool.{Bool, cond, not}
 use lib.Dec.{leb, ltb, eqb}
-use lib.ListN.{length, take, drop, replicate}
+use lib.ListN.{length, drop}
 use Rattle.wire.specs.Number.{bytesOf}
-use Rattle.wire.specs.Overlay.{overlay}
 use Rattle.wire.specs.Rows.{Row, _⇒_, firstOf}
 use Rattle.wire.specs.Uvc.{malformedRecord, malformedSnapshot, noRoom}
 use Rattle.snapshot.specs.Form as form
@@ -23,7 +22,6 @@ use Rattle.controls.specs.Throttle.{throttleBytes}
 use Rattle.camera.specs.declared.profile.Profile.{Profile}
 use Rattle.camera.specs.declared.record.Camera.{Camera}
 use Rattle.camera.specs.declared.calls.Outcome.{Outcome}
-use Rattle.camera.specs.declared.writing.Record.{Record}
 use Rattle.camera.specs.Record.{held, controlRefusal, wellFormed}
 use Rattle.camera.specs.Items.{firstRefusal, allGiven, puts, itemAt}
 use Rattle.camera.specs.Requests.{outcomeBy}
@@ -42,10 +40,6 @@ recordItem p streaming k r =
 unfoldable pub itemFor : Profile → Bool → ℕ → Option (List ℕ) → Item
 itemFor p streaming k none = Absent
 itemFor p streaming k (some r) = recordItem p streaming k r
-
--- the same where n bytes stand at a place of the snapshot; none where n is 0
-abbrev pub itemIn : Profile → Bool → ℕ → List ℕ → ℕ → ℕ → Item
-itemIn p streaming k s at n = cond (eqb n 0) Absent (recordItem p streaming k (take n (drop at s)))
 
 abbrev pub loadItem : Profile → Bool → List ℕ → ℕ → Item
 loadItem p streaming s k = itemFor p streaming k (decode s k)
@@ -98,12 +92,3 @@ written c room = outcomeBy (writeCode c room) c (record { code = 0; count = leng
 -- the lent buffer afterwards
 unfoldable pub writtenOut : Camera → List ℕ → List ℕ
 writtenOut c out = cond (eqb (writeCode c (length out)) 0) (snapshot c ++ drop (length (snapshot c)) out) out
-
--- a record as the code hands it on: its bytes with zeros behind them, and its length
-unfoldable pub recordOf : List ℕ → Record
-recordOf l = record { bytes = overlay (replicate 24 0) 0 l; len = min (length l) 24 }
-
--- the record of what a key holds, of no bytes where that is nothing
-abbrev pub rowHeld : ℕ → Option Setting → List ℕ
-rowHeld k none = []
-rowHeld k (some s) = row k s

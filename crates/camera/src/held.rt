@@ -13,7 +13,7 @@ use snapshot::KEYS;
 ghost use mathlib.Core.Path.{_≡_};
 ghost use Rattle.controls.specs.Settings.{settingOf};
 ghost use Rattle.camera.specs.Record.{evHeld, faceHeld, metadataHeld, hdrHeld, throttleHeld, held, kept, wellFormed};
-ghost use Rattle.camera.specs.Items.{itemHeld};
+ghost use Rattle.camera.specs.Steps.{itemHeld};
 
 fn held_ev(held: Ev) -> Item
     ensures { λ r. ⌜ r ≡ itemHeld (evHeld held) ⌝ }

@@ -12,10 +12,12 @@ use crate::setting::control_refusal;
 use crate::setting::item_at;
 use controls::Item;
 use snapshot::KEYS;
+use wire::Part;
 use wire::uvc::MALFORMED_RECORD;
 ghost use mathlib.Core.Path.{_≡_};
 ghost use Rattle.camera.specs.Items.{firstRefusal, puts};
-ghost use Rattle.camera.specs.Snapshots.{selectorAt, recordItem, itemIn, loadItem, loadGives, loaded};
+ghost use Rattle.camera.specs.Snapshots.{selectorAt, recordItem, loadItem, loadGives, loaded};
+ghost use Rattle.camera.specs.Steps.{itemIn};
 
 fn selector_at(key: usize) -> u8
     ensures { λ r. ⌜ r ≡ selectorAt key ⌝ }
@@ -54,7 +56,7 @@ fn item_of(p: Profile, streaming: bool, key: usize, s: &[u8], at: usize, n: usiz
     if n == 0 {
         return Item::Absent;
     }
-    record_item(p, streaming, key, wire::part(s, at, n))
+    record_item(p, streaming, key, wire::part_at(s, Part { at, len: n }))
 }
 
 // The number of the first record that is refused, or 0.

@@ -7,7 +7,8 @@ use request::Unit;
 ghost use mathlib.Core.Path.{_≡_};
 ghost use Prim.Native.Nat.{_≤_};
 ghost use Rattle.request.specs.Table.{hasControl};
-ghost use Rattle.camera.specs.Profile.{bitAt, presenceValid, profileValid, unitOf};
+ghost use Rattle.camera.specs.Profile.{bitAt, presenceValid, profileValid};
+ghost use Rattle.camera.specs.Steps.{unitOf};
 
 // Selectors of the five controls.
 pub const EV: u8 = 0x03;

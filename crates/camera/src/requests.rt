@@ -19,7 +19,8 @@ ghost use Rattle.request.specs.Setup.{wLengthOf};
 ghost use Rattle.request.specs.Reply.{replyOf};
 ghost use Rattle.controls.specs.Answers.{packed};
 ghost use Rattle.camera.specs.Items.{itemCount, setRefusal, setGives, puts};
-ghost use Rattle.camera.specs.Requests.{answerOf, asked, setDone, getDone, requested, replied};
+ghost use Rattle.camera.specs.Requests.{answerOf, asked, requested, replied};
+ghost use Rattle.camera.specs.Steps.{setDone, getDone};
 
 // How many items a SET's payload has.
 fn item_count(selector: u8, payload: &[u8]) -> u8

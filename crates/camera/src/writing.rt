@@ -12,7 +12,8 @@ ghost use Prim.Native.Nat.{_≤_};
 ghost use lib.ListN.{length};
 ghost use Rattle.wire.specs.Overlay.{overlay};
 ghost use Rattle.controls.specs.Settings.{settingOf};
-ghost use Rattle.camera.specs.Snapshots.{framed, recordOf, row, rowHeld, snapshot, written, writtenOut};
+ghost use Rattle.camera.specs.Snapshots.{framed, row, snapshot, written, writtenOut};
+ghost use Rattle.camera.specs.Steps.{recordOf, rowHeld};
 
 // A record's bytes, with as many zeros behind them as make 24.
 pub(crate) struct Record {

@@ -38,11 +38,12 @@ use Rattle.camera.specs.Profile.{has, takes}
 use Rattle.camera.specs.Record.{fresh, evHeld, metadataHeld, hdrHeld, throttleHeld, held, valueRefusal, controlRefusal, wellFormed}
 use Rattle.camera.specs.Items.{allGiven, puts, setRefusal, setGives}
 use Rattle.camera.specs.Requests.{answerOf, asked, sentCount, valueTests, requestRows, requestCode, requestDone, requested, replied}
-use Rattle.camera.specs.Snapshots.{selectorAt, itemFor, loadGives, snapshot}
+use Rattle.camera.specs.Snapshots.{selectorAt, itemFor, loadGives}
 use Rattle.camera.specs.Calls.{sensed, Call, request, load, outcome, left, next}
 use Rattle.demands.specs.Lists.{setAccepted, gives, run}
-use Rattle.demands.specs.Records.{Ok, Typed, Same, Written}
-use Rattle.demands.specs.Demand2.{NewSettings, Twelfths, SensorExact, CurrentIsHeld, SameAnswers, FaceLength, bytesBack, entryBytes, FaceReadsBack, ReadsBack, Sends, Gets, SnapshotReadsBack}
+use Rattle.demands.specs.Records.{Ok, Typed, Same}
+use Rattle.demands.specs.Demand2.{NewSettings, Twelfths, SensorExact, CurrentIsHeld, SameAnswers, FaceLength, FaceReadsBack, ReadsBack}
+use Rattle.demands.specs.Demand2.{bytesBack, entryBytes, Sends, Gets, SnapshotReadsBack, WriteSuffices}
 use Rattle.demands.proofs.Laws.Longest.{snapshot-short}
 use Rattle.demands.proofs.Laws.Held.{none-never, fresh-held, puts-profile}
 use Rattle.camera.proofs.Laws.Record.{formed-profile, valid-presence, valid-face, valid-ev}
@@ -320,6 +321,5 @@ snapshot-read-back c w t =
       written = λ out h. writes c out w h;
     }
 
--- 159 bytes are room for any camera's snapshot
-pub write-suffices : (c : Camera) → wellFormed c ≡ true → (out : List ℕ) → 159 ≤ length out → Written c (snapshot c) out
+pub write-suffices : (c : Camera) → wellFormed c ≡ true → WriteSuffices c
 write-suffices c w out h = writes c out w (omega (arith, snapshot-short c w))

@@ -12,13 +12,13 @@ use Rattle.wire.specs.Rows.{firstOf}
 use Rattle.snapshot.specs.Form as form
 use Rattle.snapshot.specs.Records.{decode}
 use Rattle.snapshot.specs.Merge.{over, merged}
-use Rattle.snapshot.specs.Settings.{lastOf, snapshotOf, Rows}
+use Rattle.snapshot.specs.Settings.{lastOf, snapshotOf}
 use Rattle.snapshot.proofs.Laws.Maps.{decode-encode}
 use Rattle.snapshot.proofs.Laws.Form.{encode-formed}
 use Rattle.snapshot.proofs.Laws.Merging.{over-assoc, over-none}
 use Rattle.snapshot.proofs.Laws.Answers.{Answer}
 use Rattle.snapshot.proofs.Laws.Answers as answers
-use Rattle.snapshot.proofs.Laws.Settings.{rows-append, snapshot-append}
+use Rattle.snapshot.proofs.Laws.Settings.{Rows, rows-append, snapshot-append}
 use Rattle.controls.specs.declared.settings.Setting.{Setting}
 use Rattle.controls.specs.Settings.{settingOf, codeOf}
 use Rattle.camera.specs.declared.profile.Profile.{Profile}

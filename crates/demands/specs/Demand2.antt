@@ -138,3 +138,7 @@ pub record SnapshotReadsBack (c : Camera) : Type 0 where
   pub records : (k : ℕ) → decode (snapshot c) k ≡ Option·map (row k) (held c k)
   pub settings : (k : ℕ) → settingOf (loadItem (c .profile) true (snapshot c) k) ≡ held c k
   pub written : (out : List ℕ) → length (snapshot c) ≤ length out → Written c (snapshot c) out
+
+-- 01's largest snapshot of a profile: 159 bytes are room for any camera's.
+abbrev pub WriteSuffices : Camera → Type 0
+WriteSuffices c = (out : List ℕ) → 159 ≤ length out → Written c (snapshot c) out

@@ -8,7 +8,7 @@ use mathlib.Core.Option.{Option, none, some}
 use lib.ListN.{length, take, drop}
 use lib.Dec.{leb, eqb}
 use Rattle.wire.specs.Uvc.{malformedSnapshot, noRoom}
-use Rattle.snapshot.specs.Form.{isEmpty, wellFormed}
+use Rattle.snapshot.specs.Form.{wellFormed}
 use Rattle.snapshot.specs.Records.{decode, encode}
 
 -- the second, or where there is none the first
@@ -48,8 +48,7 @@ handed first second out = take (mergeLen first second out) (mergeOut first secon
 
 -- two merges into the same buffer answer alike: in verdict, length and every byte
 abbrev pub Alike : List ℕ → List ℕ → List ℕ → List ℕ → List ℕ → Type 0
-Alike a b c d out = (mergeCode a b out ≡ mergeCode c d out) × ((mergeLen a b out ≡ mergeLen c d out) × (mergeOut a b out ≡ mergeOut c d out))
-
--- the second's record where it has bytes, else the first's
-abbrev pub secondOr : List ℕ → List ℕ → List ℕ
-secondOr first second = cond (isEmpty second) first second
+Alike a b c d out =
+    (mergeCode a b out ≡ mergeCode c d out)
+    × ((mergeLen a b out ≡ mergeLen c d out)
+    × (mergeOut a b out ≡ mergeOut c d out))

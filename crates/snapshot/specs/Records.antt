@@ -1,11 +1,13 @@
 -- The records of a snapshot: the record of each key in given bytes, the bytes of given records, and the records in order.
-use Prim.Native.Nat.{ℕ, zero, suc, _≤_}
+use Prim.Native.Nat.{ℕ, zero, suc, _-_, _≤_}
 use mathlib.Core.Path.{_≡_}
 use mathlib.Core.Bool.{Bool, true, cond, _&&_}
 use mathlib.Core.List.{List, [], _∷_, _++_}
 use mathlib.Core.Option.{Option, none, some}
 use lib.ListN.{length, take, drop}
-use lib.Dec.{eqb}
+use lib.Dec.{leb, eqb}
+use Rattle.wire.specs.declared.parts.Part.{Part}
+use Rattle.wire.specs.Parts.{nowhere}
 use Rattle.snapshot.specs.Form.{sizeOf, lengthAt, sound, keyAt}
 
 -- a sound record of key k stands at the start of s
@@ -29,11 +31,6 @@ unfoldable pub from : List ℕ → ℕ → List ℕ
 from s zero = s
 from s (suc k) = skip k (from s k)
 
--- the records of the keys below k of s end at `at`
-pub record Cursor (s : List ℕ) (at k : ℕ) : Type 0 where
-  pub within : at ≤ length s
-  pub here : drop at s ≡ from s k
-
 -- the record at the start of s, if that has key k
 unfoldable pub recordAt : ℕ → List ℕ → Option (List ℕ)
 recordAt k s = cond (stands k s) (some (take (sizeOf k) s)) none
@@ -41,6 +38,11 @@ recordAt k s = cond (stands k s) (some (take (sizeOf k) s)) none
 -- the record of key k in s, whole
 unfoldable pub decode : List ℕ → ℕ → Option (List ℕ)
 decode s k = recordAt k (from s k)
+
+-- where it stands in s: behind the records of the keys below k, and as long as it is, so of no length where s has none; nowhere where k is
+-- no key
+unfoldable pub recordPlace : List ℕ → ℕ → Part
+recordPlace s k = cond (leb 19 k) nowhere (record { at = length s - length (from s k); len = passed k (from s k) })
 
 abbrev pub bytes : Option (List ℕ) → List ℕ
 bytes none = []

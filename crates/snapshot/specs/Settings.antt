@@ -4,7 +4,7 @@ use mathlib.Core.Bool.{cond}
 use mathlib.Core.List.{List, [], _∷_}
 use mathlib.Core.Option.{Option, none, some, Option·map}
 use lib.Dec.{eqb}
-use Rattle.snapshot.specs.Records.{Record, encode}
+use Rattle.snapshot.specs.Records.{encode}
 use Rattle.snapshot.specs.Merge.{over}
 
 -- a setting that is given: its key, and its value
@@ -19,8 +19,3 @@ lastOf (p ∷ l) k = over (cond (eqb (p .0) k) (some (p .1)) none) (lastOf l k)
 -- the snapshot of the settings held, where `row k v` is the record of the value v of the key k
 abbrev pub snapshotOf : {Value : Type 0} → (ℕ → Value → List ℕ) → (ℕ → Option Value) → List ℕ
 snapshotOf row held = encode (λ k. Option·map (row k) (held k))
-
--- every setting of a list has a record of its key
-abbrev pub Rows : {Value : Type 0} → (ℕ → Value → List ℕ) → List (Setting Value) → Type 0
-Rows row [] = Unit {0}
-Rows row (p ∷ l) = Record (p .0) (row (p .0) (p .1)) × Rows row l

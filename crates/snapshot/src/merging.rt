@@ -2,12 +2,14 @@
 use crate::form::well_formed;
 use crate::keys::KEYS;
 use crate::records::passed_at;
+use wire::Part;
 use wire::uvc::MALFORMED_SNAPSHOT;
 use wire::uvc::NO_ROOM;
 ghost use mathlib.Core.Path.{_≡_};
 ghost use lib.ListN.{length};
 ghost use Rattle.wire.specs.Overlay.{overlay};
-ghost use Rattle.snapshot.specs.Merge.{secondOr, merged, mergeCode, mergeLen, mergeOut};
+ghost use Rattle.snapshot.specs.Merge.{merged, mergeCode, mergeLen, mergeOut};
+ghost use Rattle.snapshot.specs.Steps.{keptOf};
 
 // The verdict, and how many bytes the merged snapshot has; 0 where it is refused.
 pub struct Merged {
@@ -22,17 +24,11 @@ fn refused(code: u8) -> Merged
     Merged { code, len: 0 }
 }
 
-// Writes the second record where it has bytes, else the first, over out from `at` on, as far as out reaches, and returns its length.
-fn put(first: &[u8], second: &[u8], out: &mut [u8], at: usize) -> usize
-    ensures { λ r. ⌜ r ≡ length (secondOr (now (first .entry)) (now (second .entry))) ⌝ }
-    ensures { λ _. ⌜ now (out .exit) ≡ overlay (now (out .entry)) at (secondOr (now (first .entry)) (now (second .entry))) ⌝ }
+// How many bytes of the first's record of a key stay, by how many the two snapshots have: none where the second has a record.
+fn kept(first: usize, second: usize) -> usize
+    ensures { λ r. ⌜ r ≡ keptOf first second ⌝ }
 {
-    if second.len() == 0 {
-        wire::copy(out, at, first);
-        return first.len();
-    }
-    wire::copy(out, at, second);
-    second.len()
+    if second == 0 { first } else { 0 }
 }
 
 // Writes the merged snapshot over the start of out, as far as out reaches, and returns how long all of it is.
@@ -47,7 +43,11 @@ fn write_merged(first: &[u8], second: &[u8], out: &mut [u8]) -> usize
     while key < KEYS {
         let p = passed_at(first, a, key);
         let q = passed_at(second, b, key);
-        n += put(wire::part(first, a, p), wire::part(second, b, q), out, n);
+        let m = kept(p, q);
+        wire::copy(out, n, wire::part_at(first, Part { at: a, len: m }));
+        n += m;
+        wire::copy(out, n, wire::part_at(second, Part { at: b, len: q }));
+        n += q;
         a += p;
         b += q;
         key += 1;

@@ -3,11 +3,14 @@ use crate::keys::KEYS;
 use crate::keys::key_for;
 use crate::keys::length_of;
 use crate::keys::size_of;
+use wire::Part;
 ghost use mathlib.Core.Path.{_≡_};
 ghost use lib.ListN.{drop};
+ghost use Rattle.wire.specs.Parts.{PartOf};
 ghost use Rattle.wire.specs.Rows.{allOf};
 ghost use Rattle.snapshot.specs.Form.{tests, zeros};
-ghost use Rattle.snapshot.specs.Records.{keyOf, passed, decode, bytes, Cursor};
+ghost use Rattle.snapshot.specs.Records.{keyOf, passed, decode, bytes, recordPlace};
+ghost use Rattle.snapshot.specs.Steps.{Cursor};
 
 // Whether all bytes are zero.
 fn all_zero(s: &[u8]) -> bool
@@ -50,7 +53,7 @@ pub fn key_at(s: &[u8], at: usize) -> usize
     let kind = wire::le16(r, 2);
     let entries = wire::byte(r, 4) as usize;
     let address = wire::byte(r, 5) as usize;
-    let tail = all_zero(wire::part(r, 12, 12));
+    let tail = all_zero(wire::part_at(r, Part { at: 12, len: 12 }));
     if is_sound(r.len(), len, kind, entries, address, tail) {
         return key_for(kind, address);
     }
@@ -80,14 +83,14 @@ pub(crate) fn start_of(s: &[u8], key: usize) -> usize
     at
 }
 
-// The record of a key, whole; empty where there is none.
+// The record of a key, whole, where it stands; empty where there is none.
 pub fn record_of(s: &[u8], key: usize) -> &[u8]
-    ensures { λ r. ⌜ now r ≡ bytes (decode (now (s .entry)) key) ⌝ }
+    ensures { λ r. ⌜ (now r ≡ bytes (decode (now (s .entry)) key)) × PartOf (s .entry) (recordPlace (now (s .entry)) key) r ⌝ }
 {
     if KEYS <= key {
-        return wire::head(s, 0);
+        return wire::part_at(s, Part { at: 0, len: 0 });
     }
     let at = start_of(s, key);
     let n = passed_at(s, at, key);
-    wire::part(s, at, n)
+    wire::part_at(s, Part { at, len: n })
 }

@@ -11,7 +11,8 @@ use lib.ListN.{take, drop}
 use borrow.Author.Tests.{eq-eqb, ne-eqb}
 use borrow.Author.Count.{below-more}
 use Rattle.snapshot.specs.Form as form
-use Rattle.snapshot.specs.Records.{stands, passed, recordAt, decode, Cursor}
+use Rattle.snapshot.specs.Records.{stands, passed, recordAt, decode}
+use Rattle.snapshot.specs.Steps.{Cursor}
 use Rattle.snapshot.proofs.Laws.Sound.{stands-some}
 use Rattle.snapshot.proofs.Laws.Cursor.{start, next}
 use Rattle.controls.specs.declared.settings.Item.{Item}
@@ -22,7 +23,8 @@ use Rattle.camera.specs.declared.record.Camera.{Camera}
 use Rattle.camera.specs.Record.{controlRefusal, wellFormed}
 use Rattle.camera.specs.Requests.{refused}
 use Rattle.camera.specs.Items.{givenOf, firstRefusal, allGiven, puts, itemAt}
-use Rattle.camera.specs.Snapshots.{selectorAt, recordItem, itemFor, itemIn, loadItem, loadTests, loadCode, loadGives, loaded}
+use Rattle.camera.specs.Snapshots.{selectorAt, recordItem, itemFor, loadItem, loadTests, loadCode, loadGives, loaded}
+use Rattle.camera.specs.Steps.{itemIn}
 use Rattle.camera.proofs.Laws.Items.{refusal-at, refusal-none, puts-next}
 
 -- a record of key k as a SET, by what the calls ensure

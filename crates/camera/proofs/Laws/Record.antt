@@ -20,9 +20,9 @@ use Rattle.camera.specs.declared.profile.Profile.{Profile}
 use Rattle.camera.specs.declared.record.Camera.{Camera}
 use Rattle.camera.specs.Profile.{has, settable, presenceValid, profileValid}
 use Rattle.camera.specs.Record.{controlRefusal, valueRefusal, held, kept, withStreaming, wellFormed}
-use Rattle.camera.specs.Items.{itemHeld}
 use Rattle.camera.specs.Requests.{refused}
 use Rattle.camera.specs.Calls.{streamed, sensed}
+use Rattle.camera.specs.Steps.{itemHeld}
 
 -- five tests, one after the other
 pub all-five : (a b c d e : Bool) → a && b && c && d && e ≡ allOf (a ∷ b ∷ c ∷ d ∷ e ∷ [])

@@ -26,11 +26,13 @@ use Rattle.controls.proofs.Laws.Plain.{metadata-answer-length, hdr-answer-lengt
 use Rattle.camera.specs.declared.profile.Profile.{Profile}
 use Rattle.camera.specs.declared.record.Camera.{Camera}
 use Rattle.camera.specs.declared.calls.Outcome.{Outcome}
-use Rattle.camera.specs.Profile.{has, settable, takes, table, unitOf, profileValid}
+use Rattle.camera.specs.Profile.{has, settable, takes, table, profileValid}
 use Rattle.camera.specs.Record.{wellFormed}
 use Rattle.camera.specs.Items.{puts, setRefusal, setGives}
-use Rattle.camera.specs.Requests.{answerOf, asked, sentCount, valueTests, requestRows, requestCode, refused, requestDone, requested, replied, setDone, getDone}
+use Rattle.camera.specs.Requests.{answerOf, asked, sentCount, valueTests, requestRows}
+use Rattle.camera.specs.Requests.{requestCode, refused, requestDone, requested, replied}
 use Rattle.camera.specs.Selectors.{Control, ev, face, metadata, hdr, throttle}
+use Rattle.camera.specs.Steps.{unitOf, setDone, getDone}
 use Rattle.camera.proofs.Laws.Selectors.{control-known}
 use Rattle.camera.proofs.Laws.Record.{valid-presence}
 

@@ -23,9 +23,9 @@ use Rattle.controls.specs.Settings.{settingOf}
 use Rattle.camera.specs.declared.record.Camera.{Camera}
 use Rattle.camera.specs.declared.writing.Record.{Record}
 use Rattle.camera.specs.Record.{held, wellFormed}
-use Rattle.camera.specs.Items.{itemHeld}
 use Rattle.camera.specs.Requests.{refused}
-use Rattle.camera.specs.Snapshots.{framed, row, rowHeld, recordOf, snapshot, writeCode, written, writtenOut}
+use Rattle.camera.specs.Snapshots.{framed, row, snapshot, writeCode, written, writtenOut}
+use Rattle.camera.specs.Steps.{itemHeld, rowHeld, recordOf}
 
 -- the empty record that a record is laid over
 abbrev pub blank : List ℕ

@@ -10,7 +10,7 @@ use lib.ListN.{drop}
 use Rattle.wire.specs.Number.{bytesOf}
 use Rattle.snapshot.specs.Records.{Record, GoodAt}
 use Rattle.snapshot.specs.Records as records
-use Rattle.snapshot.specs.Settings.{Rows}
+use Rattle.snapshot.proofs.Laws.Settings.{Rows}
 use Rattle.snapshot.proofs.Laws.Controls.{record-ev, record-face, record-metadata, record-hdr, record-throttle}
 use Rattle.controls.specs.declared.settings.Setting.{Setting}
 use Rattle.controls.specs.declared.settings.Setting.the-variants as S

@@ -9,7 +9,7 @@ use lib.Dec.{eqb}
 use borrow.Author.Tests.{eqb-true}
 use Rattle.snapshot.specs.Records.{encode, Record, GoodAt, Good}
 use Rattle.snapshot.specs.Merge.{over, overs, merged}
-use Rattle.snapshot.specs.Settings.{Setting, lastOf, snapshotOf, Rows}
+use Rattle.snapshot.specs.Settings.{Setting, lastOf, snapshotOf}
 use Rattle.snapshot.proofs.Laws.Maps.{decode-encode}
 use Rattle.snapshot.proofs.Laws.Merging.{over-assoc, over-none}
 
@@ -24,24 +24,32 @@ pub over-map : {A B : Type 0} (f : A → B) (a b : Option A) → Option·map f (
 over-map f a none = refl
 over-map f a (some v) = refl
 
+-- every setting of a list has a record of its key
+abbrev pub Rows : {Value : Type 0} → (ℕ → Value → List ℕ) → List (Setting Value) → Type 0
+Rows row [] = Unit {0}
+Rows row (p ∷ l) = Record (p .0) (row (p .0) (p .1)) × Rows row l
+
 module _ {Value : Type 0} (row : ℕ → Value → List ℕ) where
   pub rows-append : (a b : List (Setting Value)) → Rows row a → Rows row b → Rows row (a ++ b)
   rows-append [] b p q = q
   rows-append (x ∷ a) b p q = (p .0, rows-append a b (p .1) q)
 
-  over-map-good : (k : ℕ) (a b : Option Value) → GoodAt k (Option·map (row k) a) → GoodAt k (Option·map (row k) b) → GoodAt k (Option·map (row k) (over a b))
+  over-map-good : (k : ℕ) (a b : Option Value) → GoodAt k (Option·map (row k) a) → GoodAt k (Option·map (row k) b)
+      → GoodAt k (Option·map (row k) (over a b))
   over-map-good k a none p q = p
   over-map-good k a (some v) p q = q
 
   pub rows-good : (l : List (Setting Value)) → Rows row l → Good (λ k. Option·map (row k) (lastOf l k))
   rows-good [] p k = tt
-  rows-good (x ∷ l) p k = over-map-good k (cond (eqb (x .0) k) (some (x .1)) none) (lastOf l k) (first (eqb (x .0) k) refl) (rows-good l (p .1) k)
+  rows-good (x ∷ l) p k =
+      over-map-good k (cond (eqb (x .0) k) (some (x .1)) none) (lastOf l k) (first (eqb (x .0) k) refl) (rows-good l (p .1) k)
     where
       first : (b : Bool) → eqb (x .0) k ≡ b → GoodAt k (Option·map (row k) (cond b (some (x .1)) none))
       first true e = subst (λ j. Record j (row j (x .1))) (eqb-true _ _ e) (p .0)
       first false e = tt
 
-  pub snapshot-append : (a b : List (Setting Value)) → Rows row a → Rows row b → snapshotOf row (lastOf (a ++ b)) ≡ merged (snapshotOf row (lastOf a)) (snapshotOf row (lastOf b))
+  pub snapshot-append : (a b : List (Setting Value)) → Rows row a → Rows row b
+      → snapshotOf row (lastOf (a ++ b)) ≡ merged (snapshotOf row (lastOf a)) (snapshotOf row (lastOf b))
   unfolding merged
   snapshot-append a b p q =
       ap encode (fun-ext λ k. ap (Option·map (row k)) (last-append a b k) ∙ over-map (row k) (lastOf a k) (lastOf b k))

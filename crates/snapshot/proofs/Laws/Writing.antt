@@ -3,17 +3,23 @@ use Prim.Native.Nat.{ℕ, _+_, _-_, _≤_, _<_}
 use native.Mathlib.Omega.{arith}
 use native.Mathlib.Nat.{add-zero}
 use mathlib.Core.Path.{_≡_, refl, sym, ap, ap₂, _∙_}
-use mathlib.Core.List.{List, [], _∷_, _++_, append-nil}
-use mathlib.Core.Option.{Option, none, some}
+use mathlib.Core.Bool.{Bool, true, false, cond}
+use mathlib.Core.List.{List, _++_, append-nil, append-assoc}
+use mathlib.Core.Option.{none, some}
 use lib.ListN.{length, take, drop, length-append}
+use lib.Seq.{length-take-le}
+use lib.Dec.{eqb}
+use borrow.Author.Tests.{ne-eqb}
 use Rattle.wire.specs.Overlay.{overlay}
 use Rattle.wire.proofs.Laws.Overlay.{no-bytes, append, same-length}
-use Rattle.snapshot.specs.Records.{passed, decode, bytes, records, encode, GoodAt, Cursor}
-use Rattle.snapshot.specs.Merge.{over, overs, merged, secondOr}
+use Rattle.snapshot.specs.Form.{sizeOf}
+use Rattle.snapshot.specs.Records.{stands, passed, recordAt, decode, bytes, records, encode}
+use Rattle.snapshot.specs.Merge.{over, overs, merged}
+use Rattle.snapshot.specs.Steps.{Cursor, keptOf}
 use Rattle.snapshot.proofs.Laws.Sound.{stands-some}
-use Rattle.snapshot.proofs.Laws.Maps.{decode-good, records-split}
+use Rattle.snapshot.proofs.Laws.Maps.{records-split}
 use Rattle.snapshot.proofs.Laws.Merging.{merged-length}
-use Rattle.snapshot.proofs.Laws.Cursor.{start, next, cursor-record}
+use Rattle.snapshot.proofs.Laws.Cursor.{passed-long, record-passed, start, next}
 
 -- the merged records of the keys below k
 abbrev pub front : List ℕ → List ℕ → ℕ → List ℕ
@@ -40,11 +46,24 @@ front-short s t k h =
     let f = sym (front-all s t) ∙ ap (front s t) (sym e) ∙ records-split m k (19 - k) 0 in
     omega (arith, merged-length s t, ap length f, length-append (front s t k) (records (19 - k) (k + 0) m))
 
--- the record that is put is that of the merge
-second-over : (k : ℕ) (x y : Option (List ℕ)) → GoodAt k y → secondOr (bytes x) (bytes y) ≡ bytes (over x y)
-second-over k x none p = refl
-second-over k x (some []) p = absurd (omega (arith, p .long, stands-some k [] (p .is)))
-second-over k x (some (b ∷ r)) p = refl
+-- what is put of the two records is the record of the merge
+put-piece : (k : ℕ) (u v : List ℕ)
+    → take (keptOf (passed k u) (passed k v)) u ++ take (passed k v) v ≡ bytes (over (recordAt k u) (recordAt k v))
+unfolding passed recordAt
+put-piece k u v = go (stands k v) refl
+  where
+    go : (b : Bool) → stands k v ≡ b
+        → take (keptOf (passed k u) (cond b (sizeOf k) 0)) u ++ take (cond b (sizeOf k) 0) v
+        ≡ bytes (over (recordAt k u) (cond b (some (take (sizeOf k) v)) none))
+    go true e = simp (ne-eqb (sizeOf k) 0 (omega (arith, stands-some k v e)))
+    go false e = append-nil _ ∙ sym (record-passed k u)
+
+kept-few : (p q : ℕ) → keptOf p q ≤ p
+kept-few p q = go (eqb q 0)
+  where
+    go : (b : Bool) → cond b p 0 ≤ p
+    go true = omega arith
+    go false = omega arith
 
 -- what stands at key k: both cursors before it, and the records of the keys below it written
 pub record Written (s t old out : List ℕ) (a b n k : ℕ) : Type 0 where
@@ -60,33 +79,66 @@ unwritten s t old = record { few = omega arith; first = start s; second = start 
 
 -- a turn: the record of key k is put, and both cursors go on
 module _ (s t old out : List ℕ) (a b n k : ℕ) (w : Written s t old out a b n k) (h : k < 19) where
-  abbrev taken : List ℕ
-  taken = secondOr (take (passed k (drop a s)) (drop a s)) (take (passed k (drop b t)) (drop b t))
+  -- how many bytes the two have, how many of the first's stay, and what is put
+  abbrev first-len : ℕ
+  first-len = passed k (drop a s)
 
-  taken-piece : taken ≡ piece s t k
-  taken-piece = ap₂ secondOr (cursor-record s a k (w .first)) (cursor-record t b k (w .second)) ∙ second-over k (decode s k) (decode t k) (decode-good t k)
+  abbrev second-len : ℕ
+  second-len = passed k (drop b t)
 
-  front-taken : front s t (k + 1) ≡ front s t k ++ taken
-  front-taken = front-next s t k ∙ ap (λ l. front s t k ++ l) (sym taken-piece)
+  abbrev stay : ℕ
+  stay = keptOf first-len second-len
 
-  after : Written s t old (overlay out n taken) (a + passed k (drop a s)) (b + passed k (drop b t)) (n + length taken) (k + 1)
+  abbrev x : List ℕ
+  x = take stay (drop a s)
+
+  abbrev y : List ℕ
+  y = take second-len (drop b t)
+
+  abbrev before : List ℕ
+  before = front s t k ++ x
+
+  front-put : front s t (k + 1) ≡ before ++ y
+  unfolding decode
+  front-put =
+      let e = ap₂ (λ u v. bytes (over (recordAt k u) (recordAt k v))) (w .first .here) (w .second .here) in
+      front-next s t k
+      ∙ ap (λ l. front s t k ++ l) (sym (put-piece k (drop a s) (drop b t) ∙ e))
+      ∙ sym (append-assoc (front s t k) x y)
+
+  x-long : length x ≡ stay
+  x-long = length-take-le stay (drop a s) (omega (arith, passed-long k (drop a s), kept-few first-len second-len))
+
+  y-long : length y ≡ second-len
+  y-long = length-take-le second-len (drop b t) (passed-long k (drop b t))
+
+  before-long : n + stay ≡ length before
+  before-long = omega (arith, w .long, x-long, length-append (front s t k) x)
+
+  before-is : overlay out n x ≡ overlay old 0 before
+  before-is = ap₂ (λ o i. overlay o i x) (w .is) (w .long) ∙ append old (front s t k) x
+
+  after : Written s t old (overlay (overlay out n x) (n + stay) y) (a + first-len) (b + second-len) (n + stay + second-len) (k + 1)
   after = record {
     few = omega arith;
     first = next s a k (w .first);
     second = next t b k (w .second);
-    long = omega (arith, w .long, ap length front-taken, length-append (front s t k) taken);
-    is = ap₂ (λ o m. overlay o m taken) (w .is) (w .long) ∙ append old (front s t k) taken ∙ ap (overlay old 0) (sym front-taken);
+    long = omega (arith, before-long, y-long, ap length front-put, length-append before y);
+    is = ap₂ (λ o i. overlay o i y) before-is before-long ∙ append old before y ∙ ap (overlay old 0) (sym front-put);
   }
 
   -- the same from what the calls ensure
-  pub write-next : {p q r : ℕ} {x y out′ : List ℕ} → p ≡ passed k (drop a s) → q ≡ passed k (drop b t) → x ≡ take p (drop a s) → y ≡ take q (drop b t)
-      → r ≡ length (secondOr x y) → out′ ≡ overlay out n (secondOr x y) → Written s t old out′ (a + p) (b + q) (n + r) (k + 1)
-  write-next e f g i j l = rw (l, j, g, i, e, f) after
+  module _ {p q m : ℕ} (e : p ≡ passed k (drop a s)) (f : q ≡ passed k (drop b t)) (g : m ≡ keptOf p q) where
+    pub write-room : (a + p ≤ length s) × ((b + q ≤ length t) × (n + m + q ≤ 250))
+    write-room =
+        rw (g, e, f) (after .first .within, (after .second .within, omega (arith, after .long, front-short s t (k + 1) (omega arith))))
+
+    pub write-next : {u v out₁ out₂ : List ℕ} → u ≡ take m (drop a s) → v ≡ take q (drop b t)
+        → out₁ ≡ overlay out n u → out₂ ≡ overlay out₁ (n + m) v
+        → Written s t old out₂ (a + p) (b + q) (n + m + q) (k + 1)
+    write-next i j l o = rw (o, l, i, j, g, e, f) after
 
 module _ (s t old out : List ℕ) (a b n k : ℕ) (w : Written s t old out a b n k) where
-  pub write-short : n ≤ 250
-  write-short = omega (arith, w .long, front-short s t k (w .few))
-
   pub write-length : length out ≡ length old
   write-length = ap length (w .is) ∙ same-length old 0 (front s t k)
 

@@ -1,4 +1,5 @@
 use borrow.Author.Needs.{needs}
+use Rattle.wire.proofs.Laws.Parts.{rest}
 use Rattle.camera.proofs.Laws.Loading.{record-refused, record-tested}
 use Rattle.camera.proofs.loading.record_item.Statement.{statement}
 use Rattle.camera.proofs.loading.record_item.Tie as tie
@@ -22,7 +23,7 @@ returns-2 : tie.Need-returns-2
 returns-2 c =
     let d = c .before .before in
     record-tested _ _ _ _ (d .before .before .selector-at .ensures) (d .before .control-refusal .ensures) (d .if1 .left)
-    (c .before .tail .ensures) (c .item-at .ensures)
+    (rest (c .before .tail .ensures)) (c .item-at .ensures)
 
 pub record-item-spec : {M : Type 1} → statement M
 record-item-spec =

@@ -4,7 +4,8 @@ use Prim.Native.Nat.{ℕ}
 use lib.ListN.{getD}
 use borrow.Author.Needs.{needs}
 use Rattle.wire.specs.Number.{bytesOf}
-use Rattle.camera.specs.Snapshots.{framed, row, recordOf}
+use Rattle.camera.specs.Snapshots.{framed, row}
+use Rattle.camera.specs.Steps.{recordOf}
 use Rattle.camera.proofs.writing.face_record.Statement.{statement}
 use Rattle.camera.proofs.writing.face_record.Tie as tie
 

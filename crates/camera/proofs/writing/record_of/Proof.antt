@@ -2,7 +2,8 @@ use mathlib.Core.Path.{ap, sym, _∙_}
 use borrow.Author.Needs.{needs}
 use Rattle.controls.specs.declared.settings.Setting.{Setting}
 use Rattle.camera.specs.declared.writing.Record.{Record}
-use Rattle.camera.specs.Snapshots.{framed, row, recordOf}
+use Rattle.camera.specs.Snapshots.{framed, row}
+use Rattle.camera.specs.Steps.{recordOf}
 use Rattle.camera.proofs.writing.record_of.Statement.{statement}
 use Rattle.camera.proofs.writing.record_of.Tie as tie
 

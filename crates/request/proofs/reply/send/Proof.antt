@@ -26,7 +26,7 @@ returns-2 c =
     let l = h .before .before .before in
     let s = l .before .before .before .args in
     let r = room (s .answer .now) (s .wlength) (s .reply .now) (omega arith) in
-    (rw (l .least .ensures) (r .0), c .before .before .copy .ensures ∙ rw (h .head .ensures, l .least .ensures) (r .1))
+    (rw (l .least .ensures) (r .0), c .before .before .copy .ensures ∙ rw (h .head .ensures .bytes, l .least .ensures) (r .1))
 
 pub send-spec : {M : Type 1} → statement M
 send-spec =

@@ -1,5 +1,6 @@
 use mathlib.Core.Bool.{not, cond, true}
 use mathlib.Core.Path.{_≡_, ap, sym, _∙_}
+use native.Mathlib.Omega.{arith}
 use lib.Dec.{eqb}
 use lib.ListN.{length}
 use borrow.Author.Tests.{eq-eqb, ne-eqb}
@@ -13,7 +14,7 @@ use Rattle.request.proofs.tests.refusal.Tie as tie
 
 -- what each test says of its row
 eight : (c : tie.Else1) → eqb (length (c .before .before .before .args .setup .now)) 8 ≡ true
-eight c = eq-eqb (length (c .before .before .before .args .setup .now)) 8 (c .if1 .left)
+eight c = eq-eqb (length (c .before .before .before .args .setup .now)) 8 (omega arith)
 
 addressed-row : (c : tie.After-is-addressed) → let s = c .before .before .before .before .args in not (addressed (tableOf (s .u) 0) (s .setup .now)) ≡ not (c .is-addressed .result)
 addressed-row c = ap not (sym (c .is-addressed .ensures))
@@ -34,7 +35,7 @@ sized-row c = ap not (sym (c .is-sized .ensures))
 
 returns : tie.Need-returns
 unfolding requestTests
-returns c = rw (ne-eqb (length (c .before .before .before .args .setup .now)) 8 (c .if1 .taken))
+returns c = rw (ne-eqb (length (c .before .before .before .args .setup .now)) 8 (omega arith))
 
 is-addressed-requires : tie.Need-is-addressed-requires
 is-addressed-requires c κs = search needs

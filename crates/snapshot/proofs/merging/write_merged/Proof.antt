@@ -1,7 +1,8 @@
-use Prim.Native.Nat.{_-_, _+_}
+use Prim.Native.Nat.{_+_, _-_, _≤_}
 use native.Mathlib.Omega.{arith}
+use lib.ListN.{length}
 use borrow.Author.Needs.{needs}
-use Rattle.snapshot.proofs.Laws.Writing.{Written, unwritten, write-next, write-short, write-length, write-end}
+use Rattle.snapshot.proofs.Laws.Writing.{Written, unwritten, write-room, write-next, write-length, write-end}
 use Rattle.snapshot.proofs.merging.write_merged.Statement.{statement}
 use Rattle.snapshot.proofs.merging.write_merged.Tie as tie
 
@@ -11,18 +12,20 @@ Inv-loop first second out₀ a₀ b₀ n₀ key₀ out a b n key = Written first
 abbrev μ-loop : tie.MeasureT-loop
 μ-loop first second out₀ a₀ b₀ n₀ key₀ out a b n key = 19 - key
 
-turned : (d : tie.After-put Inv-loop μ-loop) →
-    let l = d .before .before .before .before .before .before .before .loop in
-    let a = d .before .before .before .before .before .before .before .before .before .before .before .args in
-    Written (a .first .now) (a .second .now) (a .out .now) (d .put .last .1 .1 .0)
-    (l .a + d .before .before .before .before .before .passed-at .result) (l .b + d .before .before .before .before .passed-at2 .result) (l .n + d .put .result) (l .key + 1)
-turned d =
-    let y = d .before .before in
-    let q = y .before .before in
-    let l = q .before .before .before .loop in
-    let a = q .before .before .before .before .before .before .before .args in
-    write-next (a .first .now) (a .second .now) (a .out .now) (l .out) (l .a) (l .b) (l .n) (l .key) (l .inv) (q .before .before .loop-test .taken)
-    (q .before .passed-at .ensures) (q .passed-at2 .ensures) (y .before .part .ensures) (y .part2 .ensures) (d .put .ensures .0) (d .put .ensures .1)
+-- what a turn comes to stays within the snapshots, and within 250 bytes
+room : (d : tie.After-kept Inv-loop μ-loop) →
+    let l = d .before .before .before .before .loop in
+    let a = d .before .before .before .before .before .before .before .before .args in
+    (l .a + d .before .before .passed-at .result ≤ length (a .first .now))
+    × ((l .b + d .before .passed-at2 .result ≤ length (a .second .now))
+    × (l .n + d .kept .result + d .before .passed-at2 .result ≤ 250))
+room d =
+    let q = d .before in
+    let i = q .before .before in
+    write-room _ _ _ _ _ _ _ _ (i .before .loop .inv) (i .loop-test .taken)
+    (q .before .passed-at .ensures)
+    (q .passed-at2 .ensures)
+    (d .kept .ensures)
 
 loop-holds : tie.Need-loop-holds Inv-loop μ-loop
 loop-holds c = unwritten _ _ _
@@ -33,23 +36,32 @@ passed-at-requires c κs = search needs
 passed-at-requires-2 : tie.Need-passed-at-requires-2 Inv-loop μ-loop
 passed-at-requires-2 c κs = search needs
 
-part-requires : tie.Need-part-requires Inv-loop μ-loop
-part-requires c κs = search needs
+kept-requires : tie.Need-kept-requires Inv-loop μ-loop
+kept-requires c κs = search needs
 
-part-requires-2 : tie.Need-part-requires-2 Inv-loop μ-loop
-part-requires-2 c κs = search needs
+part-at-requires : tie.Need-part-at-requires Inv-loop μ-loop
+part-at-requires c κs = search needs
 
-put-requires : tie.Need-put-requires Inv-loop μ-loop
-put-requires c κs = search needs
+copy-requires : tie.Need-copy-requires Inv-loop μ-loop
+copy-requires c κs = search needs
 
 add-n : tie.Need-add-n Inv-loop μ-loop
-add-n c = omega (arith, write-short _ _ _ _ _ _ _ _ (turned (c .before .before)))
+add-n c = omega (arith, room (c .before .before .before .before .before))
+
+part-at-requires-2 : tie.Need-part-at-requires-2 Inv-loop μ-loop
+part-at-requires-2 c κs = search needs
+
+copy-requires-2 : tie.Need-copy-requires-2 Inv-loop μ-loop
+copy-requires-2 c κs = search needs
+
+add-n-2 : tie.Need-add-n-2 Inv-loop μ-loop
+add-n-2 c = omega (arith, room (c .before .before .before .before .before .before .before .before .before .before))
 
 add-a : tie.Need-add-a Inv-loop μ-loop
-add-a c = omega (arith, turned (c .before .before) .first .within)
+add-a c = omega (arith, room (c .before .before .before .before .before .before .before .before .before .before))
 
 add-b : tie.Need-add-b Inv-loop μ-loop
-add-b c = omega (arith, turned (c .before .before) .second .within)
+add-b c = omega (arith, room (c .before .before .before .before .before .before .before .before .before .before))
 
 add-key : tie.Need-add-key Inv-loop μ-loop
 add-key c = omega arith
@@ -58,7 +70,20 @@ loop-less : tie.Need-loop-less Inv-loop μ-loop
 loop-less c = omega arith
 
 loop-again : tie.Need-loop-again Inv-loop μ-loop
-loop-again c = turned (c .before .before)
+loop-again c =
+    let y = c .before .before in
+    let x = y .before .before .before .before .before in
+    let d = x .before .before .before in
+    let q = d .before in
+    let i = q .before .before in
+    write-next _ _ _ _ _ _ _ _ (i .before .loop .inv) (i .loop-test .taken)
+    (q .before .passed-at .ensures)
+    (q .passed-at2 .ensures)
+    (d .kept .ensures)
+    (x .before .part-at .ensures .bytes)
+    (y .before .part-at2 .ensures .bytes)
+    (x .copy .ensures)
+    (y .copy2 .ensures)
 
 same-length : tie.Need-same-length Inv-loop μ-loop
 same-length c = write-length _ _ _ _ _ _ _ _ (c .before .loop .inv)
@@ -75,10 +100,13 @@ write-merged-spec =
     loop-holds
     passed-at-requires
     passed-at-requires-2
-    part-requires
-    part-requires-2
-    put-requires
+    kept-requires
+    part-at-requires
+    copy-requires
     add-n
+    part-at-requires-2
+    copy-requires-2
+    add-n-2
     add-a
     add-b
     add-key

@@ -6,26 +6,34 @@ use lib.ListN.{length, getD, drop}
 use borrow.Author.Needs.{needs}
 use Rattle.wire.specs.Number.{leAt}
 use Rattle.wire.specs.Rows.{allOf}
+use Rattle.wire.proofs.Laws.Parts.{rest}
 use Rattle.snapshot.specs.Form.{keyFor, zeros, tests, tailAt, sound, keyAt}
 use Rattle.snapshot.specs.Records.{keyOf}
 use Rattle.snapshot.proofs.records.key_at.Statement.{statement}
 use Rattle.snapshot.proofs.records.key_at.Tie as tie
 
 -- the tests of what was read from r, which are the bytes t
-read : (t r : List ℕ) (len kind n address : ℕ) (tail : Bool) → r ≡ t → len ≡ leAt 2 r 0 → kind ≡ leAt 2 r 2 → n ≡ getD r 4 0 → address ≡ getD r 5 0
+read : (t r : List ℕ) (len kind n address : ℕ) (tail : Bool)
+    → r ≡ t → len ≡ leAt 2 r 0 → kind ≡ leAt 2 r 2 → n ≡ getD r 4 0 → address ≡ getD r 5 0
     → tail ≡ zeros (tailAt r) → (allOf (tests (length r) len kind n address tail) ≡ sound t) × (keyFor kind address ≡ keyAt t)
 unfolding sound keyAt
 read t r len kind n address tail e f g h i j = rw (f, g, h, i, j, e) (refl, refl)
 
 at : (d : tie.After-is-sound) → let a = d .before .before .before .before .before .before .before .before .before .args in
     (d .is-sound .result ≡ sound (drop (a .at) (a .s .now)))
-    × (keyFor (d .before .before .before .before .before .le162 .result) (d .before .before .before .byte2 .result) ≡ keyAt (drop (a .at) (a .s .now)))
+    × (keyFor (d .before .before .before .before .before .le162 .result) (d .before .before .before .byte2 .result)
+    ≡ keyAt (drop (a .at) (a .s .now)))
 at d =
     let z = d .before in
     let b = z .before .before .before in
     let w = b .before .before .before in
-    let r = read _ _ _ _ _ _ _ (w .tail .ensures) (b .before .before .le16 .ensures .0) (b .before .le162 .ensures .0) (b .byte .ensures) (z .before .before .byte2 .ensures)
-    (z .all-zero .ensures ∙ ap zeros (z .before .part .ensures)) in
+    let r =
+    read _ _ _ _ _ _ _ (rest (w .tail .ensures))
+    (b .before .before .le16 .ensures .0)
+    (b .before .le162 .ensures .0)
+    (b .byte .ensures)
+    (z .before .before .byte2 .ensures)
+    (z .all-zero .ensures ∙ ap zeros (z .before .part-at .ensures .bytes)) in
     (d .is-sound .ensures ∙ r .0, r .1)
 
 sound-key : (t : List ℕ) → sound t ≡ true → keyOf t ≡ keyAt t
@@ -57,8 +65,8 @@ byte-requires-2 c κs = search needs
 cast-address : tie.Need-cast-address
 cast-address c = search needs
 
-part-requires : tie.Need-part-requires
-part-requires c κs = search needs
+part-at-requires : tie.Need-part-at-requires
+part-at-requires c κs = search needs
 
 all-zero-requires : tie.Need-all-zero-requires
 all-zero-requires c κs = search needs
@@ -88,7 +96,7 @@ key-at-spec =
     cast-entries
     byte-requires-2
     cast-address
-    part-requires
+    part-at-requires
     all-zero-requires
     is-sound-requires
     key-for-requires

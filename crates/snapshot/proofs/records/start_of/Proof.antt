@@ -3,7 +3,7 @@ use mathlib.Core.Path.{_≡_}
 use native.Mathlib.Omega.{arith}
 use borrow.Author.Needs.{needs}
 use Rattle.snapshot.proofs.Laws.Cursor.{start, cursor-within, next}
-use Rattle.snapshot.specs.Records.{Cursor}
+use Rattle.snapshot.specs.Steps.{Cursor}
 use Rattle.snapshot.proofs.records.start_of.Statement.{statement}
 use Rattle.snapshot.proofs.records.start_of.Tie as tie
 

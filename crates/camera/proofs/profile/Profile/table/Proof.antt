@@ -1,5 +1,5 @@
 use borrow.Author.Tests.{not-true, not-false}
-use Rattle.camera.specs.Profile.{unitOf}
+use Rattle.camera.specs.Steps.{unitOf}
 use Rattle.camera.proofs.profile.Profile.table.Statement.{statement}
 use Rattle.camera.proofs.profile.Profile.table.Tie as tie
 

@@ -5,7 +5,8 @@ use lib.ListN.{length, take}
 use Rattle.request.specs.declared.reply.Sent.{Sent}
 use Rattle.request.specs.Reply.{sentOf, replyOf}
 use Rattle.controls.proofs.Laws.Packed.{unpack, unpack-room, unpack-length}
-use Rattle.camera.specs.Requests.{answerOf, asked, getDone}
+use Rattle.camera.specs.Requests.{answerOf, asked}
+use Rattle.camera.specs.Steps.{getDone}
 use Rattle.camera.proofs.Laws.Requests.{answer-fits}
 use borrow.Author.Needs.{needs}
 use Rattle.camera.proofs.record.Camera.get.Statement.{statement}

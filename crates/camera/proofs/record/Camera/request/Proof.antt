@@ -8,7 +8,8 @@ use Rattle.request.specs.Table.{tableOf}
 use Rattle.request.specs.Tests.{requestTests}
 use Rattle.camera.specs.Profile.{takes, table}
 use Rattle.camera.specs.Record.{wellFormed}
-use Rattle.camera.specs.Requests.{refused, setDone}
+use Rattle.camera.specs.Requests.{refused}
+use Rattle.camera.specs.Steps.{setDone}
 use Rattle.camera.proofs.Laws.Record.{formed-profile}
 use Rattle.camera.proofs.Laws.Requests.{tables-agree, malformed, tests-fail, a-set, a-get}
 use borrow.Author.Needs.{needs}

@@ -47,7 +47,9 @@ loop-again c =
     let d = c .before .before in
     let r = d .before .before .before .before .before in
     let t = r .before .before in
-    write-next _ _ (t .before .loop .inv) (t .loop-test .taken) (r .before .held .ensures) (r .record-held .ensures) (d .before .head .ensures) (d .copy .ensures)
+    write-next _ _ (t .before .loop .inv) (t .loop-test .taken) (r .before .held .ensures) (r .record-held .ensures)
+    (d .before .head .ensures .bytes)
+    (d .copy .ensures)
 
 same-length : tie.Need-same-length Inv-loop μ-loop
 same-length c = write-length (c .before .loop .inv)
