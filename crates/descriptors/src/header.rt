@@ -7,7 +7,8 @@ use crate::word::word;
 ghost use mathlib.Core.Path.{_≡_};
 ghost use Prim.Native.Nat.{_+_, _≤_, _<_};
 ghost use lib.ListN.{length};
-ghost use Rattle.descriptors.specs.Header.{lengthAt, allowed, goodFields, subsetAt, propertyAt, inner, descriptorAt};
+ghost use Rattle.descriptors.specs.Header.{lengthAt, allowed, goodFields, inner, descriptorAt};
+ghost use Rattle.descriptors.specs.Look.{subsetAt, propertyAt};
 
 // A function's first interface; none where there is no function.
 pub enum Interface {
