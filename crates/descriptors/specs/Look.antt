@@ -1,5 +1,5 @@
--- Steps of the code: the two kinds of descriptors that `look` of `src/header.rt` hands on to a function of their own. No statement
--- depends on this file.
+-- Steps of the code: the two kinds of descriptors that `look` hands on to a function of their own (`src/header.rt`, `src/fields.rt`). No
+-- statement depends on this file.
 use Prim.Native.Nat.{ℕ}
 use mathlib.Core.List.{List}
 use Rattle.descriptors.specs.declared.header.Parent.{Parent}
