@@ -1,26 +1,30 @@
--- What the owner demands of descriptor sets, said of the definitions that the promises of `src/` equate the calls' answers to. Assumes nothing.
+-- What the owner demands of descriptor sets; specs/Theorems.antt says what the words of each theorem mean. Assumes nothing.
 use Prim.Native.Nat.{ℕ, zero, suc, _+_, _-_, _%_, _≤_, _<_}
 use mathlib.Core.Path.{_≡_, refl, sym, _∙_, ap, ap₂}
 use mathlib.Core.List.{List, [], _∷_, _++_, List·Memᴰ}
 use mathlib.Core.Bool.{Bool, true, false, not, _||_, or-true, cond, false≢true}
 use mathlib.Core.Logic.{_⊎_, inl, inr, _↔_}
+use mathlib.Core.Option.{some}
 use native.Mathlib.Omega.{arith}
 use lib.ListN.{length, take, drop, length-drop}
 use lib.Seq.{length-take-le}
 use lib.Dec.{eqb}
 use borrow.Author.Tests.{leb-true, eqb-true, eq-eqb}
-use Rattle.wire.specs.Number.{leAt}
+use Rattle.wire.specs.Parts.{nowhere}
 use Rattle.descriptors.specs.declared.header.Interface.{Interface}
 use Rattle.descriptors.specs.declared.header.Interface.the-variants.{Nowhere, First}
 use Rattle.descriptors.specs.declared.header.Parent.{Parent}
 use Rattle.descriptors.specs.declared.header.Parent.the-variants.{Set, Configuration, Function}
 use Rattle.descriptors.specs.declared.header.Descriptor.the-variants.{Subset}
 use Rattle.descriptors.specs.declared.properties.RegistryProperty.{RegistryProperty}
-use Rattle.descriptors.specs.Codes.{badSetHeader, badField, noProperty}
-use Rattle.descriptors.specs.Header.{lengthAt, typeAt, kindAt, nameLengthAt, nameEndAt, dataLengthAt, propertyTests, goodFields, refusal, descriptorAt, interfaceOf}
+use Rattle.descriptors.specs.Codes.{badSetHeader, noProperty}
+use Rattle.descriptors.specs.Header.{lengthAt, kindAt, nameLengthAt, nameEndAt, dataLengthAt, propertyTests, goodFields}
+use Rattle.descriptors.specs.Header.{refusal, descriptorAt, interfaceOf, firstInterface}
 use Rattle.descriptors.specs.Reading.{Entry, Finding, refused, sound, contentsOf, goodHeader, setOf, isSound, listed, propertiesOf}
-use Rattle.descriptors.specs.Property.{refusedWith, foundAt, nth, inFinding, propertyOf, bytesOf}
-use Rattle.descriptors.specs.Calls.{Call, check, property, name, value, codeOf, partsOf}
+use Rattle.descriptors.specs.Property.{refusedWith, foundAt, nth, inFinding, propertyOf}
+use Rattle.descriptors.specs.Calls.{Call, check, boot-check, property, codeOf, partsOf}
+use Rattle.descriptors.specs.Theorems.{AllNowhere, FirstFault, RefusedFor, Accepted, StandingProperty, Inside}
+use Rattle.descriptors.specs.Scan.{depth}
 use Rattle.descriptors.specs.Levels.{spansOf, Reached, top, behind, inside, Stands, InFunction, Follows, Ascends}
 use Rattle.descriptors.proofs.Laws.Sound.{holds, sum-holds, known-as}
 use Rattle.descriptors.proofs.Laws.Contents.{sound-accepts}
@@ -33,57 +37,44 @@ use Rattle.descriptors.proofs.Laws.Listed.{listed-stands, stands-listed
 use Rattle.descriptors.proofs.Laws.Places.{same-place, in-function, function-around}
 use Rattle.descriptors.proofs.Laws.Levels.{level-follows}
 use Rattle.descriptors.proofs.Laws.Order.{contents-ordered}
+use Rattle.descriptors.proofs.Laws.Scan.{depth-low, nth-past}
 
--- Demand 1, nothing leaks from a refusal: whatever call is refused, every part of the set that it hands back is empty.
-abbrev pub AllEmpty : List (List ℕ) → Type 0
-AllEmpty [] = Unit {0}
-AllEmpty (p ∷ ps) = (p ≡ []) × AllEmpty ps
+-- Demand 1, nothing leaks from a refusal: whatever call is refused, every part that it hands back is empty.
+abbrev NoParts : RegistryProperty → Type 0
+NoParts f = (f .name ≡ nowhere) × (f .value ≡ nowhere)
 
-nth-parts : (s : List ℕ) (k : ℕ) (ps : List Entry) → (nth s k ps .code ≡ 0 → ⊥) → (bytesOf s (nth s k ps .name) ≡ []) × (bytesOf s (nth s k ps .value) ≡ [])
+nth-parts : (s : List ℕ) (k : ℕ) (ps : List Entry) → (nth s k ps .code ≡ 0 → ⊥) → NoParts (nth s k ps)
 unfolding nth refusedWith foundAt
 nth-parts s k [] n = (refl, refl)
 nth-parts s zero (q ∷ qs) n = absurd (n refl)
 nth-parts s (suc k) (q ∷ qs) n = nth-parts s k qs n
 
-property-parts : (s : List ℕ) (k : ℕ) → (propertyOf s k .code ≡ 0 → ⊥) → (bytesOf s (propertyOf s k .name) ≡ []) × (bytesOf s (propertyOf s k .value) ≡ [])
+property-parts : (s : List ℕ) (k : ℕ) → (propertyOf s k .code ≡ 0 → ⊥) → NoParts (propertyOf s k)
 unfolding propertyOf inFinding refusedWith
 property-parts s k = go (setOf s)
   where
-    go : (f : Finding) → (inFinding s k f .code ≡ 0 → ⊥) → (bytesOf s (inFinding s k f .name) ≡ []) × (bytesOf s (inFinding s k f .value) ≡ [])
+    go : (f : Finding) → (inFinding s k f .code ≡ 0 → ⊥) → NoParts (inFinding s k f)
     go (refused code offset) n = (refl, refl)
     go (sound ps) n = nth-parts s k ps n
 
-pub refusals-are-empty : (s : List ℕ) (c : Call) → (codeOf s c ≡ 0 → ⊥) → AllEmpty (partsOf s c)
+pub refusals-are-empty : (s : List ℕ) (c : Call) → (codeOf s c ≡ 0 → ⊥) → AllNowhere (partsOf s c)
 unfolding codeOf partsOf
 refusals-are-empty s check n = tt
+refusals-are-empty s boot-check n = tt
 refusals-are-empty s (property k) n = let e = property-parts s k n in (e .0, (e .1, tt))
-refusals-are-empty s (name k) n = (property-parts s k n .0, tt)
-refusals-are-empty s (value k) n = (property-parts s k n .1, tt)
 
--- Demand 1, the place of a fault: a set is refused for its own header, at 0, or for the first of the faulty descriptors that stand in it, at whatever
--- level, by that descriptor's own refusal. No two descriptors stand at one offset, so a set has one first fault, and it is refused for that one.
-pub record FirstFault (s : List ℕ) (code offset : ℕ) : Type 0 where
-  pub parent : Parent
-  pub end : ℕ
-  pub stands : Stands s parent offset end
-  pub refused-there : refusal s parent offset end ≡ code
-  pub faulty : (0 < code) × (code ≤ badField)
-  pub within : offset < length s
-  pub none-before : (p : Parent) (at stop : ℕ) → Stands s p at stop → at < offset → refusal s p at stop ≡ 0
-
--- what a set is refused for
-abbrev pub RefusedFor : List ℕ → ℕ → ℕ → Type 0
-RefusedFor s code offset = ((goodHeader s ≡ false) × (code ≡ badSetHeader) × (offset ≡ 0)) ⊎ ((goodHeader s ≡ true) × FirstFault s code offset)
-
+-- Demand 1, the place of a fault: no two descriptors stand at one offset, so a set has one first fault, and it is refused for that one.
 pub one-place : (s : List ℕ) (p q : Parent) (at end stop : ℕ) → Stands s p at end → Stands s q at stop → (p ≡ q) × (end ≡ stop)
 one-place s p q at end stop d e =
-    same-place s p q at end at stop Set 10 (length s) (held s _ p at end (d .reached)) (held s _ q at stop (e .reached)) refl (d .more) (e .more)
+    same-place s p q at end at stop Set 10 (length s) (held s _ p at end (d .reached)) (held s _ q at stop (e .reached)) refl
+    (d .more) (e .more)
 
 pub fault-place : (s : List ℕ) (code offset : ℕ) → setOf s ≡ refused code offset → RefusedFor s code offset
 unfolding setOf
 fault-place s code offset = go (goodHeader s) refl
   where
-    go : (g : Bool) → goodHeader s ≡ g → cond g (contentsOf s Set 10 (length s)) (refused badSetHeader 0) ≡ refused code offset → RefusedFor s code offset
+    go : (g : Bool) → goodHeader s ≡ g → cond g (contentsOf s Set 10 (length s)) (refused badSetHeader 0) ≡ refused code offset
+        → RefusedFor s code offset
     go true h e =
         let f = first-fault s code offset Set 10 (length s) (omega arith) e in
         let p : Proper s (refused code offset) = rw e at (contents-proper s Set 10 (length s) (omega arith)) in
@@ -101,14 +92,11 @@ fault-place s code offset = go (goodHeader s) refl
         )
     go false h e = inl (h, cc, cc)
 
--- a sound set is one with a good header in which no test refuses a descriptor that stands in it
-pub record Accepted (s : List ℕ) : Type 0 where
-  pub header : goodHeader s ≡ true
-  pub descriptors : (p : Parent) (at end : ℕ) → Stands s p at end → refusal s p at end ≡ 0
-
+-- Demand 2, what a sound set is.
 module _ (s : List ℕ) where
   -- what is reached in a sound set is read without a fault
-  read-on : isSound (setOf s) ≡ true → (d : ℕ) (p : Parent) (at end : ℕ) → Reached s d p at end → (at ≤ end) × (end ≤ length s) × (isSound (contentsOf s p at end) ≡ true)
+  read-on : isSound (setOf s) ≡ true → (d : ℕ) (p : Parent) (at end : ℕ) → Reached s d p at end
+      → (at ≤ end) × (end ≤ length s) × (isSound (contentsOf s p at end) ≡ true)
   read-on e d p at end r =
       let good = sound-header s e in
       let h = held s d p at end r in
@@ -154,8 +142,8 @@ module _ (s : List ℕ) where
       go (refused c o) e = same c o (fault-place s c o e)
       go (sound ps) e = absurd (omega (arith, sound-accepted (rw e) .descriptors (f .parent) offset (f .end) (f .stands)))
 
--- Demand 2, which answer property k gets: of a faulty set its refusal; of a sound one the property that stands k-th in the set's list, and past
--- the list none. The list is in byte order, and so has each property once.
+-- Demand 2, which answer property k gets: of a faulty set its refusal; of a sound one the property that stands k-th in the set's list, and
+-- past the list none. The list is in byte order, and so has each property once.
 module _ (s : List ℕ) where
   pub faulty-set : (k code offset : ℕ) → setOf s ≡ refused code offset → propertyOf s k ≡ refusedWith code offset
   unfolding propertyOf inFinding
@@ -174,17 +162,12 @@ module _ (s : List ℕ) where
   reach [] q qs = refl
   reach (p ∷ ps) q qs = reach ps q qs
 
-  pub each-property : isSound (setOf s) ≡ true → (ps : List Entry) (q : Entry) (qs : List Entry) → propertiesOf s ≡ ps ++ q ∷ qs → propertyOf s (length ps) ≡ foundAt s q
+  pub each-property : isSound (setOf s) ≡ true → (ps : List Entry) (q : Entry) (qs : List Entry) → propertiesOf s ≡ ps ++ q ∷ qs
+      → propertyOf s (length ps) ≡ foundAt s q
   each-property e ps q qs f = of-list (length ps) e ∙ ap (nth s (length ps)) f ∙ reach ps q qs
 
-  past : (ps : List Entry) (k : ℕ) → length ps ≤ k → nth s k ps ≡ refusedWith noProperty 0
-  unfolding nth
-  past [] k h = refl
-  past (p ∷ ps) zero h = absurd (omega arith)
-  past (p ∷ ps) (suc k) h = past ps k (omega arith)
-
   pub no-other : isSound (setOf s) ≡ true → (k : ℕ) → length (propertiesOf s) ≤ k → propertyOf s k ≡ refusedWith noProperty 0
-  no-other e k h = of-list k e ∙ past (propertiesOf s) k h
+  no-other e k h = of-list k e ∙ nth-past s k (propertiesOf s) h
 
   pub byte-order : Ascends 10 (length s) (propertiesOf s)
   unfolding listed
@@ -196,32 +179,30 @@ module _ (s : List ℕ) where
           let good = sound-header s (rw e) in
           rw (sym (good-set s good) ∙ e) at (contents-ordered s Set 10 (length s) (header-room s good))
 
--- Demand 2, what the list of a sound set holds: the properties that stand in it, at whatever level, and no others. The first interface is that of the
--- function that the property lies inside, and there is none outside a function.
-pub record StandingProperty (s : List ℕ) (q : Entry) : Type 0 where
-  pub parent : Parent
-  pub end : ℕ
-  pub stands : Stands s parent (q .at) end
-  pub property : typeAt s (q .at) ≡ 4
-  pub interface : (i : ℕ) → (q .interface ≡ First i) ↔ InFunction s (q .at) i
-
-parent-is : (p : Parent) (i : ℕ) → interfaceOf p ≡ First i → p ≡ Function i
+-- Demand 2, what the list of a sound set holds: the properties that stand in it, and no others.
+parent-is : (p : Parent) (i : ℕ) → firstInterface (interfaceOf p) ≡ some i → p ≡ Function i
+unfolding firstInterface
 parent-is Set i e = absurd (let z : _≡_ {A = ℕ} 0 1 = cc in omega arith)
 parent-is Configuration i e = absurd (let z : _≡_ {A = ℕ} 0 1 = cc in omega arith)
 parent-is (Function j) i e = let same : j ≡ i = cc in rw same
 
-module _ (s : List ℕ) (p : Parent) (at end : ℕ) (d : Stands s p at end) where
-  first-interface : (i : ℕ) → (interfaceOf p ≡ First i) ↔ InFunction s at i
-  first-interface i = (λ e. function-around s at end i (rw (parent-is p i e) at d), λ f. rw (in-function s p at end i d f))
+of-function : (p : Parent) (i : ℕ) → p ≡ Function i → firstInterface (interfaceOf p) ≡ some i
+unfolding firstInterface
+of-function p i e = rw e
 
-  interface-is : (x : Interface) → ((i : ℕ) → (x ≡ First i) ↔ InFunction s at i) → x ≡ interfaceOf p
-  interface-is (First i) f = sym (first-interface i .1 (f i .0 refl))
+module _ (s : List ℕ) (p : Parent) (at end : ℕ) (d : Stands s p at end) where
+  first-interface : (i : ℕ) → (firstInterface (interfaceOf p) ≡ some i) ↔ InFunction s at i
+  first-interface i = (λ e. function-around s at end i (rw (parent-is p i e) at d), λ f. of-function p i (in-function s p at end i d f))
+
+  interface-is : (x : Interface) → ((i : ℕ) → (firstInterface x ≡ some i) ↔ InFunction s at i) → x ≡ interfaceOf p
+  unfolding firstInterface
+  interface-is (First i) f = rw (parent-is p i (first-interface i .1 (f i .0 refl)))
   interface-is Nowhere f = go p refl
     where
       go : (q : Parent) → p ≡ q → Nowhere ≡ interfaceOf q
       go Set e = refl
       go Configuration e = refl
-      go (Function i) e = f i .1 (first-interface i .0 (rw e))
+      go (Function i) e = absurd (let n = f i .1 (first-interface i .0 (of-function p i e)) in let z : _≡_ {A = ℕ} 0 1 = cc in omega arith)
 
 pub listed-properties : (s : List ℕ) → isSound (setOf s) ≡ true → (q : Entry) → List·Memᴰ q (propertiesOf s) ↔ StandingProperty s q
 listed-properties s e q = (one-way, other-way)
@@ -258,19 +239,7 @@ listed-properties s e q = (one-way, other-way)
           interface = interface-is s (p .parent) (q .at) (p .end) d (q .interface) (p .interface);
         }))
 
--- Demand 2, a property that is handed back lies in its descriptor and that in the set, one part behind the other, and keeps 01's rules.
-pub record Inside (s : List ℕ) (f : RegistryProperty) : Type 0 where
-  pub name-start : f .name .at ≡ f .offset + 8
-  pub value-start : f .value .at ≡ f .name .at + f .name .len + 2
-  pub value-end : f .value .at + f .value .len ≡ f .offset + lengthAt s (f .offset)
-  pub within : f .value .at + f .value .len ≤ length s
-  pub name-bytes : length (bytesOf s (f .name)) ≡ f .name .len
-  pub value-bytes : length (bytesOf s (f .value)) ≡ f .value .len
-  pub kind : (1 ≤ f .kind) × (f .kind ≤ 7)
-  pub name-even : (2 ≤ f .name .len) × (f .name .len % 2 ≡ 0)
-  pub name-end : leAt 2 s (f .name .at + f .name .len - 2) ≡ 0
-  pub four-bytes : (f .kind ≡ 4) ⊎ (f .kind ≡ 5) → f .value .len ≡ 4
-
+-- Demand 2, a property that is handed back lies in its descriptor and that in the set.
 part-length : (s : List ℕ) (at n : ℕ) → at + n ≤ length s → length (take n (drop at s)) ≡ n
 part-length s at n h = length-take-le n (drop at s) (simp length-drop (omega arith))
 
@@ -317,32 +286,29 @@ properties-inside s k = go (setOf s) refl (set-coded s)
     go (refused code offset) g w e = absurd (omega arith)
     go (sound ps) g w e = nth-lies s k ps (set-lies s ps g) e
 
--- Demand 1, every call ends, in a stack that is known: nothing of a set, sound or not, is nested in more than two subsets. `walk` is called on the
--- inside of the set, and again only by `read`, on the inside of a subset that `look` found: so no more than three walks are under way at a time.
-abbrev rank : Parent → ℕ
-rank Set = 2
-rank Configuration = 1
-rank (Function i) = 0
-
-deeper : (s : List ℕ) (p : Parent) (at end size : ℕ) (q : Parent) → descriptorAt s p at end ≡ Subset size q → suc (rank q) ≡ rank p
+-- Demand 1, every call ends, in a stack that is known: nothing of a set, sound or not, is nested in more than two subsets. `walk` is called
+-- on the inside of the set, and again only by `read`, on the inside of a subset that `look` found: so no more than three walks are under
+-- way at a time. `property` has no recursion.
+deeper : (s : List ℕ) (p : Parent) (at end size : ℕ) (q : Parent) → descriptorAt s p at end ≡ Subset size q → depth q ≡ suc (depth p)
 deeper s Set at end size q e = rw (known-as s Set at end _ e .3)
 deeper s Configuration at end size q e = rw (known-as s Configuration at end _ e .3)
 deeper s (Function i) at end size q e = absurd (known-as s (Function i) at end _ e .4)
 
-depth : (s : List ℕ) (d : ℕ) (p : Parent) (at end : ℕ) → Reached s d p at end → d + rank p ≡ 2
-depth s d p at end top = refl
-depth s d p at end (behind {at = at′} r l e) = depth s d p at′ end r
-depth s d p at end (inside {depth = d′} {p = p′} {at = at′} {end = end′} size q r l e) =
-    let i = depth s d′ p′ at′ end′ r in
+level : (s : List ℕ) (d : ℕ) (p : Parent) (at end : ℕ) → Reached s d p at end → d ≡ depth p
+level s d p at end top = refl
+level s d p at end (behind {at = at′} r l e) = level s d p at′ end r
+level s d p at end (inside {depth = d′} {p = p′} {at = at′} {end = end′} size q r l e) =
+    let i = level s d′ p′ at′ end′ r in
     let j = deeper s p′ at′ end′ size q e in
     omega arith
 
 pub shallow : (s : List ℕ) (d : ℕ) (p : Parent) (at end : ℕ) → Reached s d p at end → d ≤ 2
-shallow s d p at end r = omega (arith, depth s d p at end r)
+shallow s d p at end r = omega (arith, level s d p at end r, depth-low p)
 
--- Demand 2, nothing of a sound set is left out or read twice: from every offset that is reached, and so at every level from its first descriptor on, each
--- descriptor starts where the one before it ended, and the last ends where the parent does.
-pub covers : (s : List ℕ) → isSound (setOf s) ≡ true → (d : ℕ) (p : Parent) (at end : ℕ) → Reached s d p at end → Follows at end (spansOf s p at end)
+-- Demand 2, nothing of a sound set is left out or read twice: from every offset that is reached, and so at every level from its first
+-- descriptor on, each descriptor starts where the one before it ended, and the last ends where the parent does.
+pub covers : (s : List ℕ) → isSound (setOf s) ≡ true → (d : ℕ) (p : Parent) (at end : ℕ) → Reached s d p at end
+    → Follows at end (spansOf s p at end)
 covers s e d p at end r =
     let i = read-on s e d p at end r in
     level-follows s p at end (i .0) (i .1) (i .2)

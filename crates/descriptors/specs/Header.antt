@@ -2,6 +2,7 @@
 -- A set is the list of its bytes, and a descriptor's offset counts from the set's start.
 use Prim.Native.Nat.{ℕ, _+_, _-_, _%_}
 use mathlib.Core.List.{List, [], _∷_}
+use mathlib.Core.Option.{Option, none, some}
 use mathlib.Core.Bool.{Bool, not, _&&_, _||_, cond}
 use lib.ListN.{getD}
 use lib.Dec.{ltb, leb, eqb}
@@ -120,13 +121,6 @@ inner s (Function i) at = Function i
 abbrev pub unless : ℕ → Descriptor → Descriptor
 unless code d = cond (eqb code 0) d (Refused code)
 
-unfoldable pub subsetAt : List ℕ → Parent → ℕ → ℕ → Descriptor
-subsetAt s p at left =
-    unless (subsetRefusal left (lengthAt s at) (totalAt s at) (reservedAt s at)) (Subset (totalAt s at) (inner s p at))
-
-unfoldable pub propertyAt : List ℕ → ℕ → Descriptor
-propertyAt s at = unless (propertyRefusal s at) (Property (lengthAt s at))
-
 -- the descriptor at `at` by itself: its refusal, or its bytes in all, and of a subset what it is to those inside it
 unfoldable pub descriptorAt : List ℕ → Parent → ℕ → ℕ → Descriptor
 descriptorAt s p at end =
@@ -139,3 +133,8 @@ abbrev pub interfaceOf : Parent → Interface
 interfaceOf Set = Nowhere
 interfaceOf Configuration = Nowhere
 interfaceOf (Function i) = First i
+
+-- 01's value of an interface in an answer
+unfoldable pub firstInterface : Interface → Option ℕ
+firstInterface Nowhere = none
+firstInterface (First i) = some i

@@ -1,9 +1,12 @@
--- What a descriptor set holds, and what each function of `src/` answers.
+-- What a descriptor set holds, what each call of `src/` answers, and what is proved of the answers. Look, Stops and Scan only describe
+-- steps of the code.
 pub mod Codes
 pub mod Header
 pub mod Reading
 pub mod Property
 pub mod Calls
 pub mod Levels
+pub mod Theorems
+pub mod Look
 pub mod Stops
 pub mod Scan

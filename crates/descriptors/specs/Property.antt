@@ -1,9 +1,8 @@
 -- What asking for property k hands back.
 use Prim.Native.Nat.{ℕ, zero, suc, _+_}
 use mathlib.Core.List.{List, [], _∷_}
-use lib.ListN.{take, drop}
+use Rattle.wire.specs.Parts.{nowhere}
 use Rattle.descriptors.specs.declared.header.Interface.the-variants.{Nowhere}
-use Rattle.descriptors.specs.declared.properties.Part.{Part}
 use Rattle.descriptors.specs.declared.properties.RegistryProperty.{RegistryProperty}
 use Rattle.descriptors.specs.Codes.{noProperty}
 use Rattle.descriptors.specs.Header.{kindAt, nameLengthAt, dataLengthAt}
@@ -15,13 +14,13 @@ refusedWith code offset = record {
   code = code;
   offset = offset;
   kind = 0;
-  name = record { at = 0; len = 0 };
-  value = record { at = 0; len = 0 };
+  name = nowhere;
+  value = nowhere;
   interface = Nowhere;
 }
 
--- the property whose descriptor is at q's offset: its data type, its name with the zero pair, its data and its first interface; that the offset
--- shown is the descriptor's own is our choice
+-- the property whose descriptor is at q's offset: its data type, its name with the zero pair, its data and its first interface; that the
+-- offset shown is the descriptor's own is our choice
 unfoldable pub foundAt : List ℕ → Entry → RegistryProperty
 foundAt s q = record {
   code = 0;
@@ -45,7 +44,3 @@ inFinding s k (sound ps) = nth s k ps
 -- property k of the set s
 unfoldable pub propertyOf : List ℕ → ℕ → RegistryProperty
 propertyOf s k = inFinding s k (setOf s)
-
--- the bytes of a part
-abbrev pub bytesOf : List ℕ → Part → List ℕ
-bytesOf s p = take (p .len) (drop (p .at) s)

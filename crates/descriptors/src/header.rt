@@ -3,11 +3,13 @@ use crate::codes::BAD_FIELD;
 use crate::codes::BAD_LENGTH;
 use crate::codes::BAD_TYPE;
 use crate::codes::PAST_PARENT;
+use crate::fields::property_at;
 use crate::word::word;
 ghost use mathlib.Core.Path.{_≡_};
 ghost use Prim.Native.Nat.{_+_, _≤_, _<_};
 ghost use lib.ListN.{length};
-ghost use Rattle.descriptors.specs.Header.{lengthAt, allowed, goodFields, subsetAt, propertyAt, inner, descriptorAt};
+ghost use Rattle.descriptors.specs.Header.{lengthAt, allowed, inner, descriptorAt};
+ghost use Rattle.descriptors.specs.Look.{subsetAt};
 
 // A function's first interface; none where there is no function.
 pub enum Interface {
@@ -75,38 +77,6 @@ fn subset_at(s: &[u8], p: Parent, at: usize, left: usize, len: usize) -> Descrip
         return Descriptor::Refused(BAD_FIELD);
     }
     Descriptor::Subset(total, inside(s, p, at))
-}
-
-// Whether the fields of a property are what they must be.
-fn good_fields(len: usize, kind: usize, name: usize, ending: usize, value: usize) -> bool
-    requires { ⌜ (name < 65536) × (value < 65536) ⌝ }
-    ensures { λ r. ⌜ r ≡ goodFields len kind name ending value ⌝ }
-{
-    let in_range = (1 <= kind) & (kind <= 7);
-    let named = (2 <= name) & (name % 2 == 0) & (ending == 0);
-    let four = !((kind == 4) | (kind == 5)) | (value == 4);
-    in_range & named & (len == 10 + name + value) & four
-}
-
-// The property at `at`. Nothing behind the descriptor is read.
-fn property_at(s: &[u8], at: usize, len: usize) -> Descriptor
-    requires { ⌜ (len ≡ lengthAt (now s) at) × (at + len ≤ length (now s)) ⌝ }
-    ensures { λ r. ⌜ r ≡ propertyAt (now (s .entry)) at ⌝ }
-{
-    if len < 12 {
-        return Descriptor::Refused(BAD_LENGTH);
-    }
-    let name = word(s, at + 6);
-    if len < 10 + name {
-        return Descriptor::Refused(BAD_FIELD);
-    }
-    let kind = word(s, at + 4);
-    let ending = word(s, at + 6 + name);
-    let value = word(s, at + 8 + name);
-    if good_fields(len, kind, name, ending, value) {
-        return Descriptor::Property(len);
-    }
-    Descriptor::Refused(BAD_FIELD)
 }
 
 // The descriptor at `at` by itself, in the parent p that ends at `end`.

@@ -1,20 +1,19 @@
-// Registry property k of a set, with its name and its data as parts of the caller's bytes.
+// Registry property k of a set. Its name and its data are handed back by their places: `wire::part_at` gives the bytes themselves.
+use crate::codes::BAD_SET_HEADER;
 use crate::codes::NO_PROPERTY;
 use crate::header::Interface;
+use crate::header::Parent;
 use crate::scan::Cursor;
-use crate::set::check;
+use crate::scan::interface_of;
+use crate::set::good_header;
+use crate::word::word;
+use wire::Part;
 ghost use mathlib.Core.Path.{_≡_};
-ghost use mathlib.Core.Bool.{true};
-ghost use Prim.Native.Nat.{_<_};
-ghost use Rattle.descriptors.specs.Reading.{setOf, isSound};
-ghost use Rattle.descriptors.specs.Property.{refusedWith, foundAt, propertyOf, bytesOf};
-ghost use Rattle.descriptors.specs.Scan.{entryAt, countAt};
-
-// A part of the set: `len` bytes from `at`.
-pub struct Part {
-    pub at: usize,
-    pub len: usize,
-}
+ghost use Prim.Native.Nat.{_+_, _≤_};
+ghost use lib.ListN.{length};
+ghost use Rattle.descriptors.specs.Header.{nameLengthAt};
+ghost use Rattle.descriptors.specs.Property.{refusedWith, foundAt, propertyOf};
+ghost use Rattle.descriptors.specs.Scan.{entryOf};
 
 // A property, with code 0: its descriptor's offset, its data type, its name with the zero pair, its data and its first interface.
 // Or a refusal, with the faulty descriptor's offset (0 where the set has fewer properties), data type 0, empty parts and no interface.
@@ -40,16 +39,15 @@ fn refused_with(code: u8, offset: usize) -> RegistryProperty
     }
 }
 
-// The property at the cursor.
-fn found_at(set: &[u8], c: Cursor) -> RegistryProperty
-    requires { ⌜ c .at < 65536 ⌝ }
-    ensures { λ r. ⌜ r ≡ foundAt (now (set .entry)) (entryAt c) ⌝ }
+// The property whose descriptor is at `at`, in the parent p.
+fn found_at(set: &[u8], at: usize, p: Parent) -> RegistryProperty
+    requires { ⌜ at + 10 + nameLengthAt (now set) at ≤ length (now set) ⌝ }
+    ensures { λ r. ⌜ r ≡ foundAt (now (set .entry)) (entryOf at p) ⌝ }
 {
-    let at = c.at;
-    let kind = wire::le16(set, at + 4);
-    let name_len = wire::le16(set, at + 6);
-    let value_len = wire::le16(set, at + 8 + name_len);
-    let interface = c.interface();
+    let kind = word(set, at + 4);
+    let name_len = word(set, at + 6);
+    let value_len = word(set, at + 8 + name_len);
+    let interface = interface_of(p);
     let name = Part {
         at: at + 8,
         len: name_len,
@@ -68,62 +66,24 @@ fn found_at(set: &[u8], c: Cursor) -> RegistryProperty
     }
 }
 
-// 1 where the descriptor at the cursor is a property, else 0.
-fn properties_at(set: &[u8], at: usize) -> usize
-    requires { ⌜ at < 65536 ⌝ }
-    ensures { λ r. ⌜ r ≡ countAt (now (set .entry)) at ⌝ }
-{
-    if wire::le16(set, at + 2) == 4 {
-        return 1;
-    }
-    0
-}
-
-// Property k of a sound set.
-fn find(set: &[u8], k: usize) -> RegistryProperty
-    requires { ⌜ isSound (setOf (now set)) ≡ true ⌝ }
-    ensures { λ r. ⌜ r ≡ propertyOf (now (set .entry)) k ⌝ }
-{
-    let total = wire::le16(set, 8);
-    let mut c = Cursor::start();
-    let mut left = k;
-    while c.at < total {
-        let n = properties_at(set, c.at);
-        if left < n {
-            return found_at(set, c);
-        }
-        left -= n;
-        c = c.next(set);
-    }
-    refused_with(NO_PROPERTY, 0)
-}
-
 // Property k of the set, k from 0 in byte order.
 pub fn property(set: &[u8], k: usize) -> RegistryProperty
     ensures { λ r. ⌜ r ≡ propertyOf (now (set .entry)) k ⌝ }
 {
-    let f = check(set);
-    let code = f.code;
-    if code != 0 {
-        return refused_with(code, f.offset);
+    if !good_header(set) {
+        return refused_with(BAD_SET_HEADER, 0);
     }
-    find(set, k)
-}
-
-// The name of property k with its zero pair; empty where `property` refuses.
-pub fn property_name(set: &[u8], k: usize) -> &[u8]
-    ensures { λ r. ⌜ now r ≡ bytesOf (now (set .entry)) (propertyOf (now (set .entry)) k .name) ⌝ }
-{
-    let f = property(set, k);
-    let p = f.name;
-    wire::part(set, p.at, p.len)
-}
-
-// The data of property k; empty where `property` refuses.
-pub fn property_value(set: &[u8], k: usize) -> &[u8]
-    ensures { λ r. ⌜ now r ≡ bytesOf (now (set .entry)) (propertyOf (now (set .entry)) k .value) ⌝ }
-{
-    let f = property(set, k);
-    let p = f.value;
-    wire::part(set, p.at, p.len)
+    let mut c = Cursor::start(set.len());
+    while c.at < set.len() {
+        c = c.next(set, k);
+    }
+    let stop = c.at;
+    if 65536 <= stop {
+        return refused_with((stop / 65536) as u8, stop % 65536);
+    }
+    if c.seen <= k {
+        return refused_with(NO_PROPERTY, 0);
+    }
+    let holder = c.holder;
+    found_at(set, c.hit, holder)
 }

@@ -1,63 +1,179 @@
-// Going through a set that is known to be sound: each header is followed by the next one, and only the function that a descriptor stands in is kept.
+// Reading a set for property k in one pass: a cursor goes from header to header and into each subset, every descriptor is looked at as the
+// check looks at it, and the properties are counted on the way.
+use crate::header::Descriptor;
 use crate::header::Interface;
+use crate::header::Parent;
+use crate::header::look;
+use crate::walk::refused;
 ghost use mathlib.Core.Path.{_≡_};
-ghost use Prim.Native.Nat.{_<_};
-ghost use Rattle.descriptors.specs.Scan.{interfaceAt, nextCursor};
+ghost use Prim.Native.Nat.{_+_, _<_};
+ghost use lib.ListN.{length};
+ghost use Rattle.descriptors.specs.Header.{interfaceOf};
+ghost use Rattle.descriptors.specs.Stops.{refusalNumber};
+ghost use Rattle.descriptors.specs.Scan.{around, movedTo, outOf, intoSubset, passing, Scanning, Stepped};
+ghost use Rattle.descriptors.specs.declared.header.Parent.the-variants.{Set};
 
-// A descriptor's offset, and the function subset passed last: its end and its first interface.
+// The parent that the cursor is in, the offset that reading has come to, the end of the parent, and the end of what the parent stands in. A
+// refusal stands in place of the offset, as in the walk's answer. Then the properties seen so far, and of property k, once it is seen, its
+// offset and its parent.
 pub struct Cursor {
+    pub parent: Parent,
     pub at: usize,
     pub end: usize,
-    pub first: u8,
+    pub outer: usize,
+    pub seen: usize,
+    pub hit: usize,
+    pub holder: Parent,
+}
+
+// What a parent stands in.
+fn stands_in(p: Parent) -> Parent
+    ensures { λ r. ⌜ r ≡ around p ⌝ }
+{
+    match p {
+        Parent::Set => Parent::Set,
+        Parent::Configuration => Parent::Set,
+        Parent::Function(_) => Parent::Configuration,
+    }
+}
+
+// The first interface; none outside a function.
+pub(crate) fn interface_of(p: Parent) -> Interface
+    ensures { λ r. ⌜ r ≡ interfaceOf p ⌝ }
+{
+    match p {
+        Parent::Set => Interface::Nowhere,
+        Parent::Configuration => Interface::Nowhere,
+        Parent::Function(i) => Interface::First(i),
+    }
 }
 
 impl Cursor {
-    // The first descriptor of a set.
-    pub(crate) fn start() -> Cursor
-        ensures { λ r. ⌜ (r .at ≡ 10) × (r .end ≡ 0) × (r .first ≡ 0) ⌝ }
+    // Behind the header of a set of so many bytes.
+    pub(crate) fn start(total: usize) -> Cursor
+        ensures { λ r. ⌜ (r .parent ≡ Set) × (r .at ≡ 10) × (r .end ≡ total) × (r .seen ≡ 0) ⌝ }
     {
         Cursor {
+            parent: Parent::Set,
             at: 10,
-            end: 0,
-            first: 0,
+            end: total,
+            outer: total,
+            seen: 0,
+            hit: 0,
+            holder: Parent::Set,
         }
     }
 
-    // The first interface of the function that the descriptor stands in.
-    pub(crate) fn interface(self) -> Interface
-        ensures { λ r. ⌜ r ≡ interfaceAt self ⌝ }
+    // At the end of the parent: on in what that stands in.
+    fn out(self, total: usize) -> Cursor
+        ensures { λ r. ⌜ r ≡ outOf self total ⌝ }
     {
-        if self.at < self.end {
-            return Interface::First(self.first);
+        let parent = self.parent;
+        let holder = self.holder;
+        Cursor {
+            parent: stands_in(parent),
+            at: self.at,
+            end: self.outer,
+            outer: total,
+            seen: self.seen,
+            hit: self.hit,
+            holder,
         }
-        Interface::Nowhere
     }
 
-    // The descriptor whose header comes next: inside a subset, or behind anything else.
-    pub(crate) fn next(self, s: &[u8]) -> Cursor
+    fn stop(self, code: u8) -> Cursor
         requires { ⌜ self .at < 65536 ⌝ }
-        ensures { λ r. ⌜ r ≡ nextCursor (now (s .entry)) self ⌝ }
+        ensures { λ r. ⌜ r ≡ movedTo self (refusalNumber code (self .at)) ⌝ }
     {
-        let at = self.at;
-        let t = wire::le16(s, at + 2);
-        if t == 2 {
-            return Cursor {
-                at: at + 8,
-                end: at + wire::le16(s, at + 6),
-                first: wire::byte(s, at + 4),
-            };
+        let parent = self.parent;
+        let holder = self.holder;
+        Cursor {
+            parent,
+            at: refused(code, self.at),
+            end: self.end,
+            outer: self.outer,
+            seen: self.seen,
+            hit: self.hit,
+            holder,
         }
-        if t == 1 {
+    }
+
+    fn behind(self, size: usize) -> Cursor
+        requires { ⌜ self .at + size < 65536 ⌝ }
+        ensures { λ r. ⌜ r ≡ movedTo self (self .at + size) ⌝ }
+    {
+        let parent = self.parent;
+        let holder = self.holder;
+        Cursor {
+            parent,
+            at: self.at + size,
+            end: self.end,
+            outer: self.outer,
+            seen: self.seen,
+            hit: self.hit,
+            holder,
+        }
+    }
+
+    fn into_subset(self, size: usize, q: Parent) -> Cursor
+        requires { ⌜ self .at + size < 65536 ⌝ }
+        ensures { λ r. ⌜ r ≡ intoSubset self size q ⌝ }
+    {
+        let holder = self.holder;
+        Cursor {
+            parent: q,
+            at: self.at + 8,
+            end: self.at + size,
+            outer: self.end,
+            seen: self.seen,
+            hit: self.hit,
+            holder,
+        }
+    }
+
+    // Behind a property, which may be the one that is asked for.
+    fn pass(self, k: usize, size: usize) -> Cursor
+        requires { ⌜ (self .at + size < 65536) × (self .seen < 65536) ⌝ }
+        ensures { λ r. ⌜ r ≡ passing self k size ⌝ }
+    {
+        let parent = self.parent;
+        let holder = self.holder;
+        if self.seen == k {
             return Cursor {
-                at: at + 8,
+                parent,
+                at: self.at + size,
                 end: self.end,
-                first: self.first,
+                outer: self.outer,
+                seen: self.seen + 1,
+                hit: self.at,
+                holder: parent,
             };
         }
         Cursor {
-            at: at + wire::le16(s, at),
+            parent,
+            at: self.at + size,
             end: self.end,
-            first: self.first,
+            outer: self.outer,
+            seen: self.seen + 1,
+            hit: self.hit,
+            holder,
+        }
+    }
+
+    // One descriptor further, or out of a parent that has ended.
+    pub(crate) fn next(self, s: &[u8], k: usize) -> Cursor
+        requires { ⌜ Scanning (now s) k self × (self .at < length (now s)) × (length (now s) < 65536) ⌝ }
+        ensures { λ r. ⌜ Stepped (now (s .entry)) k self r ⌝ }
+    {
+        if self.at == self.end {
+            return self.out(s.len());
+        }
+        let p = self.parent;
+        match look(s, p, self.at, self.end) {
+            Descriptor::Refused(code) => self.stop(code),
+            Descriptor::Opaque(size) => self.behind(size),
+            Descriptor::Property(size) => self.pass(k, size),
+            Descriptor::Subset(size, q) => self.into_subset(size, q),
         }
     }
 }

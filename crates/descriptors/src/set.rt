@@ -16,7 +16,7 @@ pub struct Fault {
 }
 
 // Whether the set's own header is what it must be. A total is two bytes, so a longer set's is wrong.
-fn good_header(set: &[u8]) -> bool
+pub(crate) fn good_header(set: &[u8]) -> bool
     ensures { λ r. ⌜ (r ≡ goodHeader (now (set .entry))) × (r ≡ true → length (now (set .entry)) < 65536) ⌝ }
 {
     if set.len() < 10 {

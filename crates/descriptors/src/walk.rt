@@ -1,5 +1,6 @@
 // The walk: a subset is read by reading each descriptor inside it, and a descriptor that is a subset by walking what it holds.
-// Both answer one number, an offset below 65536 or, above every offset, a refusal: 65536 times its code and then the faulty descriptor's offset.
+// Both answer one number, an offset below 65536 or, above every offset, a refusal: 65536 times its code and then the faulty descriptor's
+// offset.
 // So a refusal ends every loop that it comes back to, and nothing but a number is handed on.
 use crate::header::Descriptor;
 use crate::header::Parent;
@@ -9,7 +10,7 @@ ghost use Prim.Native.Nat.{_≤_, _<_};
 ghost use Rattle.descriptors.specs.Stops.{Walkable, refusalNumber, stopAt, stopFrom};
 
 // A refusal as a number above every offset.
-fn refused(code: u8, at: usize) -> usize
+pub(crate) fn refused(code: u8, at: usize) -> usize
     requires { ⌜ at < 65536 ⌝ }
     ensures { λ r. ⌜ r ≡ refusalNumber code at ⌝ }
 {

@@ -13,7 +13,10 @@ use Rattle.descriptors.specs.declared.header.Parent.the-variants.{Set, C
 use Rattle.descriptors.specs.declared.header.Descriptor.the-variants.{Refused, Opaque, Property, Subset}
 use Rattle.descriptors.specs.Codes.{pastParent, badType, badLength, badField}
 use Rattle.wire.specs.Rows.{_⇒_, firstOf, allOf}
-use Rattle.descriptors.specs.Header.{lengthAt, typeAt, reservedAt, totalAt, kindAt, nameLengthAt, nameEndAt, dataLengthAt, isSubset, isProperty, allowed, propertyTests, goodFields, goodProperty, propertyRefusal, subsetRefusal, refusal, inner, subsetAt, propertyAt, descriptorAt}
+use Rattle.descriptors.specs.Header.{lengthAt, typeAt, reservedAt, totalAt, kindAt, nameLengthAt, nameEndAt, dataLengthAt}
+use Rattle.descriptors.specs.Header.{isSubset, isProperty, allowed, propertyTests, goodFields, goodProperty}
+use Rattle.descriptors.specs.Header.{propertyRefusal, subsetRefusal, refusal, inner, descriptorAt}
+use Rattle.descriptors.specs.Look.{subsetAt, propertyAt}
 
 -- what may stand where
 module _ (t : ℕ) where

@@ -1,13 +1,13 @@
--- Going through a sound set header by header finds its properties in the order in which they are listed. Assumes nothing.
-use Prim.Native.Nat.{ℕ, zero, suc, _+_, _-_, _≤_, _<_}
-use mathlib.Core.Path.{_≡_, refl, sym, ap, ap₂, _∙_}
-use mathlib.Core.List.{List, [], _∷_, append-nil, append-assoc}
-use mathlib.Core.Bool.{Bool, true, false, false≢true}
-use mathlib.Core.Logic.{_⊎_, inl, inr}
+-- One step of the cursor after the other reads the set as it is listed. Assumes nothing.
+use Prim.Native.Nat.{ℕ, zero, suc, _+_, _/_, _%_, _≤_, _<_}
+use mathlib.Core.Path.{_≡_, refl, sym, ap, _∙_}
+use mathlib.Core.List.{List, [], _∷_, _++_, append-nil, append-assoc}
+use mathlib.Core.Bool.{Bool, true, false, cond}
+use mathlib.Core.Logic.{inl, inr}
 use native.Mathlib.Omega.{arith}
-use lib.ListN.{length}
-use lib.Dec.{ltb}
-use borrow.Author.Tests.{le-ltb, eq-eqb, ne-eqb, ltb-true, ltb-false}
+use lib.ListN.{length, length-append}
+use lib.Dec.{eqb}
+use borrow.Author.Tests.{eqb-true, eqb-false}
 use Rattle.wire.specs.Number.{leAt}
 use Rattle.descriptors.specs.declared.header.Interface.{Interface}
 use Rattle.descriptors.specs.declared.header.Parent.{Parent}
@@ -16,14 +16,16 @@ use Rattle.descriptors.specs.declared.header.Descriptor.{Descriptor}
 use Rattle.descriptors.specs.declared.header.Descriptor.the-variants.{Refused, Opaque, Property, Subset}
 use Rattle.descriptors.specs.declared.scan.Cursor.{Cursor}
 use Rattle.descriptors.specs.declared.properties.RegistryProperty.{RegistryProperty}
-use Rattle.descriptors.specs.Codes.{noProperty}
-use Rattle.descriptors.specs.Header.{lengthAt, typeAt, totalAt, interfaceByte, kindAt, nameLengthAt, interfaceOf, descriptorAt}
-use Rattle.descriptors.specs.Reading.{Entry, Finding, refused, sound, _then_, descriptor, sizeOf, contentsOf, setOf, isSound}
+use Rattle.descriptors.specs.Codes.{badSetHeader, noProperty}
+use Rattle.descriptors.specs.Header.{kindAt, nameLengthAt, interfaceOf, descriptorAt}
+use Rattle.descriptors.specs.Reading.{Entry, Finding, refused, sound, _then_, descriptor, sizeOf, contentsOf, goodHeader, setOf}
 use Rattle.descriptors.specs.Property.{refusedWith, foundAt, nth, inFinding, propertyOf}
-use Rattle.descriptors.specs.Scan.{interfaceAt, entryAt, countAt, nextCursor}
-use Rattle.descriptors.proofs.Laws.Sound.{Known, known, Opens}
+use Rattle.descriptors.specs.Stops.{refusalNumber}
+use Rattle.descriptors.specs.Scan.{around, depth, entryOf, movedTo, outOf, intoSubset, counted, passing}
+use Rattle.descriptors.specs.Scan.{outside, Within, Kept, Going, Scanning, Stepped}
+use Rattle.descriptors.proofs.Laws.Sound.{known-as, sum-holds}
 use Rattle.descriptors.proofs.Laws.Contents.{at-end, one-then}
-use Rattle.descriptors.proofs.Laws.Whole.{sound-header, header-room, good-set}
+use Rattle.descriptors.proofs.Laws.Whole.{header-room, good-set}
 
 -- one stretch and then the next, and then a third
 then-assoc : (a b c : Finding) → ((a then b) then c) ≡ (a then (b then c))
@@ -40,255 +42,297 @@ then-nothing : (a : Finding) → (a then sound []) ≡ a
 then-nothing (refused x o) = refl
 then-nothing (sound ps) = ap sound (append-nil ps)
 
--- the cursor is in the set, in a configuration or in the function passed last, and `rest` are the properties from it on:
--- those of what it is in, and then of what that stands in
-data Ahead (s : List ℕ) (c : Cursor) (rest : List Entry) : Type 0 where
-  in-set : c .end ≤ c .at → c .at ≤ length s
-      → (contentsOf s Set (c .at) (length s) then sound []) ≡ sound rest → Ahead s c rest
-  in-configuration : (end : ℕ) → c .end ≤ c .at → c .at ≤ end → end ≤ length s
-      → (contentsOf s Configuration (c .at) end then (contentsOf s Set end (length s) then sound [])) ≡ sound rest → Ahead s c rest
-  in-function : (end : ℕ) → c .at ≤ c .end → c .end ≤ end → end ≤ length s
-      → (contentsOf s (Function (c .first)) (c .at) (c .end) then (contentsOf s Configuration (c .end) end then (contentsOf s Set end (length s) then sound []))) ≡ sound rest
-      → Ahead s c rest
+-- what is read from the cursor on
+abbrev ahead : List ℕ → Parent → ℕ → ℕ → ℕ → Finding
+ahead s p at end outer = contentsOf s p at end then outside s p end outer
 
--- one step: the properties at the cursor, none or one, and then those from the next header on
-abbrev Passed : List ℕ → Cursor → List Entry → List Entry → Type 0
-Passed s c rest later = ((countAt s (c .at) ≡ 0) × (rest ≡ later)) ⊎ ((countAt s (c .at) ≡ 1) × (rest ≡ entryAt c ∷ later))
+abbrev descriptorHere : List ℕ → Cursor → Descriptor
+descriptorHere s c = descriptorAt s (c .parent) (c .at) (c .end)
 
-record Step (s : List ℕ) (c : Cursor) (rest : List Entry) : Type 0 where
-  more : c .at < length s
-  later : List Entry
-  ahead : Ahead s (nextCursor s c) later
-  forth : c .at < nextCursor s c .at
-  passed : Passed s c rest later
+end-within : (s : List ℕ) (p : Parent) (end outer : ℕ) → Within s p end outer → end ≤ length s
+end-within s Set end outer w = omega arith
+end-within s Configuration end outer w = omega arith
+end-within s (Function i) end outer w = omega arith
 
-abbrev Done : List ℕ → Cursor → List Entry → Type 0
-Done s c rest = (rest ≡ []) × (length s ≤ c .at)
+-- the parent has ended: what is behind it is read in what it stands in
+module _ (s : List ℕ) (at end outer : ℕ) (l : at < length s) (e : at ≡ end) where
+  ended : (p : Parent) → Within s p end outer → ahead s p at end outer ≡ ahead s (around p) at outer (length s)
+  ended Set w = absurd (omega arith)
+  ended Configuration w =
+      rw (at-end s Configuration at end (omega arith))
+      (nothing-then (contentsOf s Set end (length s)) ∙ rw (e, w .1) (sym (then-nothing (contentsOf s Set end (length s)))))
+  ended (Function i) w =
+      rw (at-end s (Function i) at end (omega arith))
+      (nothing-then (contentsOf s Configuration end outer then contentsOf s Set outer (length s)) ∙ rw e)
 
--- the next cursor, by the type
-next-2 : (s : List ℕ) (c : Cursor) → typeAt s (c .at) ≡ 2 → nextCursor s c ≡ record { at = c .at + 8; end = c .at + totalAt s (c .at); first = interfaceByte s (c .at) }
-next-2 s c e = simp (eq-eqb _ _ e)
+  around-within : (p : Parent) → Within s p end outer → Within s (around p) outer (length s) × (at ≤ outer) × (depth (around p) < depth p)
+  around-within Set w = absurd (omega arith)
+  around-within Configuration w = (w .1, omega arith, omega arith)
+  around-within (Function i) w = ((w .1, refl), omega arith, omega arith)
 
-next-1 : (s : List ℕ) (c : Cursor) → typeAt s (c .at) ≡ 1 → nextCursor s c ≡ record { at = c .at + 8; end = c .end; first = c .first }
-next-1 s c e = simp (ne-eqb (typeAt s (c .at)) 2 (omega arith), eq-eqb _ _ e)
+-- one descriptor, and then what is behind it
+one-ahead : (s : List ℕ) (p : Parent) (at end outer : ℕ) (d : Descriptor) → descriptorAt s p at end ≡ d → at < end → end ≤ length s
+    → ahead s p at end outer ≡ (descriptor (contentsOf s) p at d then ahead s p (at + sizeOf d) end outer)
+one-ahead s p at end outer d e l w =
+    ap (λ (f : Finding). f then outside s p end outer) (one-then s p at end l w)
+    ∙ rw e (then-assoc (descriptor (contentsOf s) p at d) (contentsOf s p (at + sizeOf d) end) (outside s p end outer))
 
-next-other : (s : List ℕ) (c : Cursor) → (typeAt s (c .at) ≡ 1 → ⊥) → (typeAt s (c .at) ≡ 2 → ⊥)
-    → nextCursor s c ≡ record { at = c .at + lengthAt s (c .at); end = c .end; first = c .first }
-next-other s c e f = simp (ne-eqb _ _ f, ne-eqb _ _ e)
+pub depth-low : (p : Parent) → depth p ≤ 2
+depth-low Set = omega arith
+depth-low Configuration = omega arith
+depth-low (Function i) = omega arith
 
-abbrev entry : ℕ → Interface → Entry
-entry at i = record { at = at; interface = i }
+-- a subset is entered
+module _ (s : List ℕ) (at end outer size : ℕ) (q : Parent) where
+  entered : (p : Parent) → Within s p end outer → descriptorAt s p at end ≡ Subset size q
+      → (ahead s p (at + size) end outer ≡ outside s q (at + size) end) × (at + size ≤ end → Within s q (at + size) end)
+  entered Set w e =
+      let k = known-as s Set at end _ e in
+      rw (k .3, w) (then-nothing (contentsOf s Set (at + size) (length s)), λ b. (b, refl))
+  entered Configuration w e = let k = known-as s Configuration at end _ e in rw (k .3) (refl, λ b. (b, omega arith))
+  entered (Function i) w e = absurd (known-as s (Function i) at end _ e .4)
 
--- one property and then the rest
-one-property : (q : Entry) (f : Finding) (rest : List Entry) → (sound (q ∷ []) then f) ≡ sound rest → (later : List Entry) × (f ≡ sound later) × (rest ≡ q ∷ later)
-one-property q (refused x o) rest e = absurd (let z : _≡_ {A = ℕ} 0 1 = cc in omega arith)
-one-property q (sound qs) rest e = (qs, refl, cc)
-
--- a subset is no property
-no-property : (s : List ℕ) (at : ℕ) (p : Parent) → Opens p (typeAt s at) → countAt s at ≡ 0
-no-property s at Set e = simp (ne-eqb (typeAt s at) 4 (omega arith))
-no-property s at Configuration e = simp (ne-eqb (typeAt s at) 4 (omega arith))
-no-property s at (Function i) e = absurd e
-
--- a step in the parent p, behind which `behind` is read. A feature leaves the cursor in p, and a subset takes it inside
-module _ (s : List ℕ) (c : Cursor) (rest : List Entry) (p : Parent) (end : ℕ) (behind : Finding)
-    (l : c .at < end) (w : end ≤ length s) (r : (contentsOf s p (c .at) end then behind) ≡ sound rest)
-    (seen : interfaceOf p ≡ interfaceAt c)
-    (stay : (n : ℕ) (later : List Entry) → 4 ≤ n → n ≤ end - c .at → (contentsOf s p (c .at + n) end then behind) ≡ sound later
-    → Ahead s (record { at = c .at + n; end = c .end; first = c .first }) later)
-    (enter : (n : ℕ) (q : Parent) → Known s p (c .at) (end - c .at) (Subset n q)
-    → (contentsOf s q (c .at + 8) (c .at + n) then (contentsOf s p (c .at + n) end then behind)) ≡ sound rest → Ahead s (nextCursor s c) rest × (c .at < nextCursor s c .at)) where
-  opened : (descriptor (contentsOf s) p (c .at) (descriptorAt s p (c .at) end) then (contentsOf s p (c .at + sizeOf (descriptorAt s p (c .at) end)) end then behind)) ≡ sound rest
-  opened =
-      let d = descriptorAt s p (c .at) end in
-      sym (then-assoc (descriptor (contentsOf s) p (c .at) d) (contentsOf s p (c .at + sizeOf d) end) behind) ∙ rw (one-then s p (c .at) end l w) at r
-
-  feature : (n : ℕ) (later : List Entry) → 4 ≤ n → n ≤ end - c .at → n ≡ lengthAt s (c .at) → (typeAt s (c .at) ≡ 1 → ⊥) → (typeAt s (c .at) ≡ 2 → ⊥)
-      → (contentsOf s p (c .at + n) end then behind) ≡ sound later → Passed s c rest later → Step s c rest
-  feature n later h k e f g d x =
-      let same = next-other s c f g in
-      record { more = omega arith; later = later; ahead = rw (same, ← e) (stay n later h k d); forth = rw same (omega arith); passed = x }
-
-  step-in : Step s c rest
-  step-in = go (descriptorAt s p (c .at) end) (known s p (c .at) end) opened
-    where
-      go : (d : Descriptor) → Known s p (c .at) (end - c .at) d
-          → (descriptor (contentsOf s) p (c .at) d then (contentsOf s p (c .at + sizeOf d) end then behind)) ≡ sound rest → Step s c rest
-      go (Refused code) k e = absurd (let z : _≡_ {A = ℕ} 0 1 = cc in omega arith)
-      go (Opaque n) k e =
-          feature n rest (k .0) (k .1) (k .2) (k .3) (k .4) (sym (nothing-then (contentsOf s p (c .at + n) end then behind)) ∙ e) (inl (simp (ne-eqb _ _ (k .5)), refl))
-      go (Property n) k e =
-          let o = one-property (record { at = c .at; interface = interfaceOf p }) (contentsOf s p (c .at + n) end then behind) rest e in
-          feature n (o .0) (omega arith) (k .1) (k .2) (λ z. omega arith) (λ z. omega arith) (o .1) (inr (simp (eq-eqb _ _ (k .3)), o .2 ∙ ap (λ (x : Interface). entry (c .at) x ∷ o .0) seen))
-      go (Subset n q) k e =
-          let i = enter n q k e in
-          record { more = omega arith; later = rest; ahead = i .0; forth = i .1; passed = inl (no-property s (c .at) p (k .4), refl) }
-
--- behind the end of p nothing is left to read there
-left-out : (s : List ℕ) (p : Parent) (at end : ℕ) (behind : Finding) (rest : List Entry) → end ≤ at → (contentsOf s p at end then behind) ≡ sound rest → behind ≡ sound rest
-left-out s p at end behind rest h r = sym (nothing-then behind) ∙ rw (at-end s p at end h) at r
-
--- a step in each of the three
-module _ (s : List ℕ) (c : Cursor) (rest : List Entry) where
-  step-set : c .end ≤ c .at → c .at ≤ length s → (contentsOf s Set (c .at) (length s) then sound []) ≡ sound rest → Step s c rest ⊎ Done s c rest
-  step-set f b r = go (ltb (c .at) (length s)) refl
-    where
-      enter : (n : ℕ) (q : Parent) → Known s Set (c .at) (length s - c .at) (Subset n q)
-          → (contentsOf s q (c .at + 8) (c .at + n) then (contentsOf s Set (c .at + n) (length s) then sound [])) ≡ sound rest
-          → Ahead s (nextCursor s c) rest × (c .at < nextCursor s c .at)
-      enter n q k e = rw (next-1 s c (k .4)) (in-configuration (c .at + n) (omega arith) (omega arith) (omega arith) (rw (k .3) at e), omega arith)
-
-      go : (t : Bool) → ltb (c .at) (length s) ≡ t → Step s c rest ⊎ Done s c rest
-      go true e =
-          inl
-          (step-in s c rest Set (length s) (sound []) (ltb-true _ _ e) (omega arith) r (simp (le-ltb _ _ f))
-          (λ n later h k d. in-set (omega arith) (omega arith) d) enter)
-      go false e =
-          let h = ltb-false (c .at) (length s) e in
-          let z : _≡_ {A = Finding} (sound []) (sound rest) = left-out s Set (c .at) (length s) (sound []) rest h r in
-          inr (cc, h)
-
-  step-configuration : (end : ℕ) → c .end ≤ c .at → c .at ≤ end → end ≤ length s
-      → (contentsOf s Configuration (c .at) end then (contentsOf s Set end (length s) then sound [])) ≡ sound rest → Step s c rest ⊎ Done s c rest
-  step-configuration end f b w r = go (ltb (c .at) end) refl
-    where
-      outside : Finding
-      outside = contentsOf s Set end (length s) then sound []
-
-      enter : (n : ℕ) (q : Parent) → Known s Configuration (c .at) (end - c .at) (Subset n q)
-          → (contentsOf s q (c .at + 8) (c .at + n) then (contentsOf s Configuration (c .at + n) end then outside)) ≡ sound rest
-          → Ahead s (nextCursor s c) rest × (c .at < nextCursor s c .at)
-      enter n q k e = rw (next-2 s c (k .4), ← (k .2)) (in-function end (omega arith) (omega arith) w (rw (k .3) at e), omega arith)
-
-      go : (t : Bool) → ltb (c .at) end ≡ t → Step s c rest ⊎ Done s c rest
-      go true e =
-          inl
-          (step-in s c rest Configuration end outside (ltb-true _ _ e) w r (simp (le-ltb _ _ f))
-          (λ n later h k d. in-configuration end (omega arith) (omega arith) w d) enter)
-      go false e =
-          let h = ltb-false (c .at) end e in
-          let same : end ≡ c .at = omega arith in
-          step-set f (omega arith) (rw same at (left-out s Configuration (c .at) end outside rest h r))
-
-  step-function : (end : ℕ) → c .at ≤ c .end → c .end ≤ end → end ≤ length s
-      → (contentsOf s (Function (c .first)) (c .at) (c .end) then (contentsOf s Configuration (c .end) end then (contentsOf s Set end (length s) then sound []))) ≡ sound rest
-      → Step s c rest ⊎ Done s c rest
-  step-function end b f w r = go (ltb (c .at) (c .end)) refl
-    where
-      outside : Finding
-      outside = contentsOf s Configuration (c .end) end then (contentsOf s Set end (length s) then sound [])
-
-      go : (t : Bool) → ltb (c .at) (c .end) ≡ t → Step s c rest ⊎ Done s c rest
-      go true e =
-          inl
-          (step-in s c rest (Function (c .first)) (c .end) outside (ltb-true _ _ e) (omega arith) r (simp e)
-          (λ n later h k d. in-function end (omega arith) f w d) (λ n q k d. absurd (k .4)))
-      go false e =
-          let h = ltb-false (c .at) (c .end) e in
-          let same : c .end ≡ c .at = omega arith in
-          step-configuration end (omega arith) (omega arith) w (rw same at (left-out s (Function (c .first)) (c .at) (c .end) outside rest h r))
-
-  step : Ahead s c rest → Step s c rest ⊎ Done s c rest
-  step (in-set f b r) = step-set f b r
-  step (in-configuration end f b w r) = step-configuration end f b w r
-  step (in-function end b f w r) = step-function end b f w r
-
--- what the loop knows: property k of the set is property `left` of those from the cursor on
-pub record Scanning (s : List ℕ) (k : ℕ) (c : Cursor) (left : ℕ) : Type 0 where
-  rest : List Entry
-  ahead : Ahead s c rest
-  same : nth s left rest ≡ propertyOf s k
-
-module _ (s : List ℕ) (k : ℕ) where
-  of-sound : (ps : List Entry) → setOf s ≡ sound ps → nth s k ps ≡ propertyOf s k
-  unfolding propertyOf inFinding
-  of-sound ps e = rw e
-
-  pub begins : (c : Cursor) → (c .at ≡ 10) × (c .end ≡ 0) × (c .first ≡ 0) → isSound (setOf s) ≡ true → Scanning s k c k
-  begins c a e = go (contentsOf s Set 10 (length s)) refl (good-set s (sound-header s e))
-    where
-      go : (f : Finding) → contentsOf s Set 10 (length s) ≡ f → setOf s ≡ f → Scanning s k c k
-      go (refused x o) g h = absurd (false≢true (rw h at e))
-      go (sound ps) g h =
-          let room = header-room s (sound-header s e) in
-          record {
-            rest = ps;
-            ahead = in-set (omega arith) (omega arith) (rw (a .0) (then-nothing (contentsOf s Set 10 (length s)) ∙ g));
-            same = of-sound ps h;
-          }
-
-nth-first : (s : List ℕ) (n : ℕ) (q : Entry) (later : List Entry) → n < 1 → nth s n (q ∷ later) ≡ foundAt s q
+-- property k of a list that one more property was put to
+nth-kept : (s : List ℕ) (k : ℕ) (ps : List Entry) (q : Entry) → k < length ps → nth s k (ps ++ q ∷ []) ≡ nth s k ps
 unfolding nth
-nth-first s zero q later h = refl
-nth-first s (suc n) q later h = absurd (omega arith)
+nth-kept s k [] q h = absurd (omega arith)
+nth-kept s zero (p ∷ ps) q h = refl
+nth-kept s (suc k) (p ∷ ps) q h = nth-kept s k ps q (omega arith)
 
-nth-later : (s : List ℕ) (n : ℕ) (q : Entry) (later : List Entry) → 1 ≤ n → nth s (n - 1) later ≡ nth s n (q ∷ later)
+nth-last : (s : List ℕ) (k : ℕ) (ps : List Entry) (q : Entry) → length ps ≡ k → nth s k (ps ++ q ∷ []) ≡ foundAt s q
 unfolding nth
-nth-later s zero q later h = absurd (omega arith)
-nth-later s (suc n) q later h = ap (λ (m : ℕ). nth s m later) (omega arith)
+nth-last s zero [] q h = refl
+nth-last s (suc k) [] q h = absurd (omega arith)
+nth-last s zero (p ∷ ps) q h = absurd (omega arith)
+nth-last s (suc k) (p ∷ ps) q h = nth-last s k ps q (omega arith)
 
-passed-on : (s : List ℕ) (c : Cursor) (n : ℕ) (rest later : List Entry) → Passed s c rest later → countAt s (c .at) ≤ n → nth s (n - countAt s (c .at)) later ≡ nth s n rest
-passed-on s c n rest later (inl z) h =
-    let same : n - countAt s (c .at) ≡ n = omega arith in
-    ap₂ (nth s) same (sym (z .1))
-passed-on s c n rest later (inr z) h =
-    let one : n - countAt s (c .at) ≡ n - 1 = omega arith in
-    ap (λ (m : ℕ). nth s m later) one ∙ nth-later s n (entryAt c) later (omega arith) ∙ ap (nth s n) (sym (z .1))
-
-nth-none : (s : List ℕ) (n : ℕ) → nth s n [] ≡ refusedWith noProperty 0
+pub nth-past : (s : List ℕ) (k : ℕ) (ps : List Entry) → length ps ≤ k → nth s k ps ≡ refusedWith noProperty 0
 unfolding nth
-nth-none s n = refl
+nth-past s k [] h = refl
+nth-past s zero (p ∷ ps) h = absurd (omega arith)
+nth-past s (suc k) (p ∷ ps) h = nth-past s k ps (omega arith)
 
-module _ (s : List ℕ) (k : ℕ) (c : Cursor) (left : ℕ) (i : Scanning s k c left) where
-  pub hit : c .at < length s → (n : ℕ) → n ≡ countAt s (c .at) → left < n → foundAt s (entryAt c) ≡ propertyOf s k
-  hit l n e h = go (step s c (i .rest) (i .ahead))
+-- one step from an offset in the set
+module _ (s : List ℕ) (k : ℕ) (c : Cursor) (pre : Scanning s k c × (c .at < length s) × (length s < 65536)) where
+  l : c .at < length s
+  l = pre .1
+
+  g : Going s k c
+  g = go (pre .0)
     where
-      go : Step s c (i .rest) ⊎ Done s c (i .rest) → foundAt s (entryAt c) ≡ propertyOf s k
-      go (inr d) = absurd (omega arith)
-      go (inl t) = one (t .passed)
-        where
-          one : Passed s c (i .rest) (t .later) → foundAt s (entryAt c) ≡ propertyOf s k
-          one (inl z) = absurd (omega arith)
-          one (inr z) = sym (nth-first s left (entryAt c) (t .later) (omega arith)) ∙ rw (z .1) at (i .same)
+      go : Scanning s k c → Going s k c
+      go (inl x) = x
+      go (inr t) = absurd (omega (arith, t .number, t .known, pre .1, pre .2))
 
-  pub miss : c .at < length s → (n : ℕ) → n ≡ countAt s (c .at) → n ≤ left → (next : Cursor) → next ≡ nextCursor s c → Scanning s k next (left - n) × (c .at < next .at)
-  miss l n e h next f = rw (e, f) (go (step s c (i .rest) (i .ahead)))
+  pub bounds : (c .seen ≤ c .at) × (c .at ≤ c .end) × (c .end ≤ length s)
+  bounds = (g .few, g .before, end-within s (c .parent) (c .end) (c .outer) (g .within))
+
+  -- the same set, by what is ahead of the cursor
+  on : (f : Finding) → ahead s (c .parent) (c .at) (c .end) (c .outer) ≡ f → setOf s ≡ (sound (g .passed) then f)
+  on f e = g .same ∙ ap (λ (x : Finding). sound (g .passed) then x) e
+
+  pub leaves : c .at ≡ c .end → (r : Cursor) → r ≡ outOf c (length s) → Stepped s k c r
+  leaves e r f =
+      let a = around-within s (c .at) (c .end) (c .outer) l e (c .parent) (g .within) in
+      rw f (
+        inl
+            (record {
+              passed = g .passed;
+              same = on _ (ended s (c .at) (c .end) (c .outer) l e (c .parent) (g .within));
+              count = g .count;
+              few = g .few;
+              kept = g .kept;
+              before = a .1;
+              within = a .0;
+            }),
+        omega arith,
+      )
+
+  -- what is ahead of it so many bytes further on in the same parent
+  behind : ℕ → Finding
+  behind size = ahead s (c .parent) (c .at + size) (c .end) (c .outer)
+
+  module _ (n : c .at ≡ c .end → ⊥) where
+    next : (d : Descriptor) → descriptorHere s c ≡ d
+        → setOf s ≡ (sound (g .passed) then (descriptor (contentsOf s) (c .parent) (c .at) d then behind (sizeOf d)))
+    unfolding behind
+    next d e = on _ (one-ahead s (c .parent) (c .at) (c .end) (c .outer) d e (omega (arith, bounds)) (bounds .2))
+
+    pub stops : (code : ℕ) → descriptorHere s c ≡ Refused code → (r : Cursor) → r ≡ movedTo c (refusalNumber code (c .at)) → Stepped s k c r
+    stops code e r f =
+        let w = known-as s (c .parent) (c .at) (c .end) _ e in
+        rw f (inr (record { code = code; offset = c .at; same = next _ e; number = refl; known = w; inside = l }), omega arith)
+
+    pub skips : (size : ℕ) → descriptorHere s c ≡ Opaque size → (r : Cursor) → r ≡ movedTo c (c .at + size) → Stepped s k c r
+    unfolding behind
+    skips size e r f =
+        let w = known-as s (c .parent) (c .at) (c .end) _ e in
+        rw f (
+          inl
+              (record {
+                passed = g .passed;
+                same = next _ e ∙ ap (λ (x : Finding). sound (g .passed) then x) (nothing-then (behind size));
+                count = g .count;
+                few = omega (arith, g .few);
+                kept = g .kept;
+                before = omega arith;
+                within = g .within;
+              }),
+          omega arith,
+        )
+
+    pub enters : (size : ℕ) (q : Parent) → descriptorHere s c ≡ Subset size q → (r : Cursor) → r ≡ intoSubset c size q → Stepped s k c r
+    unfolding behind
+    enters size q e r f =
+        let w = known-as s (c .parent) (c .at) (c .end) _ e in
+        let i = entered s (c .at) (c .end) (c .outer) size q (c .parent) (g .within) e in
+        rw f (
+          inl
+              (record {
+                passed = g .passed;
+                same = rw (← (i .0)) (next _ e);
+                count = g .count;
+                few = omega (arith, g .few);
+                kept = g .kept;
+                before = omega arith;
+                within = i .1 (omega arith);
+              }),
+          omega (arith, depth-low q),
+        )
+
+    -- a property is put to those passed
+    listed : (size hit : ℕ) (holder : Parent) → descriptorHere s c ≡ Property size
+        → (k < length (g .passed ++ entryOf (c .at) (c .parent) ∷ []) → Kept s k hit holder (g .passed ++ entryOf (c .at) (c .parent) ∷ []))
+        → Stepped s k c (counted c size hit holder)
+    unfolding behind
+    listed size hit holder e kept =
+        let w = known-as s (c .parent) (c .at) (c .end) _ e in
+        let q = entryOf (c .at) (c .parent) in (
+          inl
+              (record {
+                passed = g .passed ++ q ∷ [];
+                same = next _ e ∙ sym (then-assoc (sound (g .passed)) (sound (q ∷ [])) (behind size));
+                count = simp length-append (omega (arith, g .count));
+                few = omega (arith, g .few);
+                kept = kept;
+                before = omega arith;
+                within = g .within;
+              }),
+          omega arith,
+        )
+
+    pub passes : (size : ℕ) → descriptorHere s c ≡ Property size → (r : Cursor) → r ≡ passing c k size → Stepped s k c r
+    passes size e r f = rw f (go (eqb (c .seen) k) refl)
+      where
+        q : Entry
+        q = entryOf (c .at) (c .parent)
+
+        room : c .at + 10 + nameLengthAt s (c .at) ≤ length s
+        room =
+            let w = known-as s (c .parent) (c .at) (c .end) _ e in
+            omega (arith, sum-holds s (c .at) (w .4), bounds .2)
+
+        go : (b : Bool) → eqb (c .seen) k ≡ b
+            → Stepped s k c (cond b (counted c size (c .at) (c .parent)) (counted c size (c .hit) (c .holder)))
+        go true t =
+            listed size (c .at) (c .parent) e
+            (λ h. record { found = sym (nth-last s k (g .passed) q (sym (g .count) ∙ eqb-true _ _ t)); room = room })
+        go false t =
+            listed size (c .hit) (c .holder) e
+            (λ h.
+            let other : (c .seen ≡ k → ⊥) = eqb-false (c .seen) k t in
+            let one : length (g .passed ++ q ∷ []) ≡ length (g .passed) + 1 = simp length-append in
+            let less : k < length (g .passed) = omega (arith, g .count) in
+            let kept = g .kept less in
+            record { found = kept .found ∙ sym (nth-kept s k (g .passed) q less); room = kept .room })
+
+-- the loop begins behind a good header
+pub begins : (s : List ℕ) (k : ℕ) (c : Cursor) → (c .parent ≡ Set) × (c .at ≡ 10) × (c .end ≡ length s) × (c .seen ≡ 0)
+    → goodHeader s ≡ true → Scanning s k c
+begins s k c a g =
+    inl
+    (record {
+      passed = [];
+      same = good-set s g ∙ rw (a .0, a .1, a .2) (sym (nothing-then _ ∙ then-nothing (contentsOf s Set 10 (length s))));
+      count = a .3;
+      few = omega arith;
+      kept = λ h. absurd (omega arith);
+      before = omega (arith, header-room s g);
+      within = rw (a .0) (a .2);
+    })
+
+-- and ends where nothing is left to read
+all-read : (s : List ℕ) (p : Parent) (at end outer : ℕ) → Within s p end outer → at ≤ end → length s ≤ at
+    → ahead s p at end outer ≡ sound []
+all-read s Set at end outer w b h = rw (at-end s Set at end (omega arith))
+all-read s Configuration at end outer w b h = rw (at-end s Configuration at end (omega arith), at-end s Set end (length s) (omega arith))
+all-read s (Function i) at end outer w b h =
+    let function = at-end s (Function i) at end (omega arith) in
+    rw (function, at-end s Configuration end outer (omega arith), at-end s Set outer (length s) (omega arith))
+
+-- the list of a sound set, as the cursor has it
+record Listing (s : List ℕ) (k : ℕ) (c : Cursor) : Type 0 where
+  all : List Entry
+  same : setOf s ≡ sound all
+  count : c .seen ≡ length all
+  kept : k < length all → Kept s k (c .hit) (c .holder) all
+
+module _ (s : List ℕ) (k : ℕ) (c : Cursor) (i : Scanning s k c × (length s < 65536)) (h : length s ≤ c .at) where
+  of-set : (f : Finding) → setOf s ≡ f → inFinding s k f ≡ propertyOf s k
+  unfolding propertyOf
+  of-set f e = rw e
+
+  listing : c .at < 65536 → Listing s k c
+  listing l = go (i .0)
     where
-      go : Step s c (i .rest) ⊎ Done s c (i .rest) → Scanning s k (nextCursor s c) (left - countAt s (c .at)) × (c .at < nextCursor s c .at)
-      go (inr d) = absurd (omega arith)
-      go (inl t) = (record { rest = t .later; ahead = t .ahead; same = passed-on s c left (i .rest) (t .later) (t .passed) (omega arith) ∙ i .same }, t .forth)
+      go : Scanning s k c → Listing s k c
+      go (inr t) = absurd (omega (arith, t .number, t .known))
+      go (inl g) =
+          let none = all-read s (c .parent) (c .at) (c .end) (c .outer) (g .within) (g .before) h in
+          record { all = g .passed; same = g .same ∙ rw none (ap sound (append-nil (g .passed))); count = g .count; kept = g .kept }
 
-  pub ends : length s ≤ c .at → refusedWith noProperty 0 ≡ propertyOf s k
-  ends l = go (step s c (i .rest) (i .ahead))
+  pub none-such : c .at < 65536 → c .seen ≤ k → refusedWith noProperty 0 ≡ propertyOf s k
+  unfolding inFinding
+  none-such l m =
+      let a = listing l in
+      sym (nth-past s k (a .all) (omega (arith, a .count))) ∙ of-set (sound (a .all)) (a .same)
+
+  pub found-room : c .at < 65536 → k < c .seen → c .hit + 10 + nameLengthAt s (c .hit) ≤ length s
+  found-room l m = let a = listing l in a .kept (omega (arith, a .count)) .room
+
+  pub found-there : c .at < 65536 → k < c .seen → foundAt s (entryOf (c .hit) (c .holder)) ≡ propertyOf s k
+  unfolding inFinding
+  found-there l m =
+      let a = listing l in
+      a .kept (omega (arith, a .count)) .found ∙ of-set (sound (a .all)) (a .same)
+
+  pub refused-there : 65536 ≤ c .at → (refusedWith (c .at / 65536) (c .at % 65536) ≡ propertyOf s k) × (c .at / 65536 < 256)
+  unfolding inFinding
+  refused-there l = go (i .0)
     where
-      go : Step s c (i .rest) ⊎ Done s c (i .rest) → refusedWith noProperty 0 ≡ propertyOf s k
-      go (inl t) = let m = t .more in absurd (omega arith)
-      go (inr d) = sym (nth-none s left) ∙ rw (d .0) at (i .same)
+      go : Scanning s k c → (refusedWith (c .at / 65536) (c .at % 65536) ≡ propertyOf s k) × (c .at / 65536 < 256)
+      go (inl g) = absurd (omega (arith, i .1, g .before, end-within s (c .parent) (c .end) (c .outer) (g .within)))
+      go (inr t) =
+          let code : c .at / 65536 ≡ t .code = omega (arith, i .1, t .number, t .inside) in
+          let offset : c .at % 65536 ≡ t .offset = omega (arith, i .1, t .number, t .inside) in
+          (rw (code, offset) (of-set (refused (t .code) (t .offset)) (t .same)), omega (arith, t .known))
 
--- the code's cursor and count, by the type that was read
-module _ (s : List ℕ) (c : Cursor) (t : ℕ) (e : t ≡ typeAt s (c .at)) where
-  pub into-function : t ≡ 2 → (total first : ℕ) → total ≡ totalAt s (c .at) → first ≡ interfaceByte s (c .at)
-      → _≡_ {A = Cursor} (record { at = c .at + 8; end = c .at + total; first = first }) (nextCursor s c)
-  into-function h total first f g = rw (f, g) (sym (next-2 s c (omega arith)))
-
-  pub into-configuration : (t ≡ 2 → ⊥) → t ≡ 1 → _≡_ {A = Cursor} (record { at = c .at + 8; end = c .end; first = c .first }) (nextCursor s c)
-  into-configuration h k = sym (next-1 s c (omega arith))
-
-  pub behind : (t ≡ 2 → ⊥) → (t ≡ 1 → ⊥) → (len : ℕ) → len ≡ lengthAt s (c .at)
-      → _≡_ {A = Cursor} (record { at = c .at + len; end = c .end; first = c .first }) (nextCursor s c)
-  behind h k len f = rw f (sym (next-other s c (omega arith) (omega arith)))
+pub bad-header : (s : List ℕ) (k : ℕ) → goodHeader s ≡ false → refusedWith badSetHeader 0 ≡ propertyOf s k
+unfolding propertyOf inFinding setOf
+bad-header s k e = simp e
 
 -- the fields of a property as they were read
-pub found : (s : List ℕ) (c : Cursor) (kind n d : ℕ) (i : Interface) → kind ≡ kindAt s (c .at) → n ≡ nameLengthAt s (c .at) → d ≡ leAt 2 s (c .at + 8 + n) → i ≡ interfaceAt c
+pub found : (s : List ℕ) (at : ℕ) (p : Parent) (kind n d : ℕ) (i : Interface)
+    → kind ≡ kindAt s at → n ≡ nameLengthAt s at → d ≡ leAt 2 s (at + 8 + n) → i ≡ interfaceOf p
     → _≡_ {A = RegistryProperty}
-    (record { code = 0; offset = c .at; kind = kind; name = record { at = c .at + 8; len = n }; value = record { at = c .at + 10 + n; len = d }; interface = i })
-    (foundAt s (entryAt c))
+    (record {
+      code = 0;
+      offset = at;
+      kind = kind;
+      name = record { at = at + 8; len = n };
+      value = record { at = at + 10 + n; len = d };
+      interface = i;
+    })
+    (foundAt s (entryOf at p))
 unfolding foundAt
-found s c kind n d i a b e f = rw (e, a, b, f)
-
-module _ (s : List ℕ) (at t : ℕ) (e : t ≡ typeAt s at) where
-  pub counts : t ≡ 4 → 1 ≡ countAt s at
-  counts h = simp (← e, eq-eqb _ _ h)
-
-  pub counts-not : (t ≡ 4 → ⊥) → 0 ≡ countAt s at
-  counts-not h = simp (← e, ne-eqb _ _ h)
+found s at p kind n d i a b e f = rw (e, a, b, f)

@@ -1,66 +1,91 @@
--- `Cursor::next` meets its contract, by the type. Assumes nothing.
-use Rattle.descriptors.proofs.Laws.Scan.{into-function, into-configuration, behind}
+-- `Cursor::next` meets its contract: out of the parent, or by what the descriptor is found to be. Assumes nothing.
+use mathlib.Core.Path.{sym, _∙_}
+use native.Mathlib.Omega.{arith}
+use Rattle.descriptors.proofs.Laws.Sound.{known-as}
+use Rattle.descriptors.proofs.Laws.Scan.{bounds, leaves, stops, skips, passes, enters}
 use borrow.Author.Needs.{needs}
 use Rattle.descriptors.proofs.scan.Cursor.next.Statement.{statement}
 use Rattle.descriptors.proofs.scan.Cursor.next.Tie as tie
 
-add-le16 : tie.Need-add-le16
-add-le16 c = search needs
-
-le16-requires : tie.Need-le16-requires
-le16-requires c κs = search needs
-
-add-t7 : tie.Need-add-t7
-add-t7 c = search needs
-
-add-le16-2 : tie.Need-add-le16-2
-add-le16-2 c = search needs
-
-le16-requires-2 : tie.Need-le16-requires-2
-le16-requires-2 c κs = search needs
-
-add-t10 : tie.Need-add-t10
-add-t10 c = search needs
-
-add-byte : tie.Need-add-byte
-add-byte c = search needs
-
-byte-requires : tie.Need-byte-requires
-byte-requires c κs = search needs
+out-requires : tie.Need-out-requires
+out-requires c κs = search needs
 
 returns : tie.Need-returns
-returns c = into-function _ _ _ (c .before .before .before .le16 .ensures .0) (c .before .before .if1 .taken) _ _ (c .before .le162 .ensures .0) (c .byte .ensures)
+returns c = leaves _ _ _ (c .before .before .before .before .pre) (c .before .if1 .taken) _ (c .out .ensures)
 
-add-t13 : tie.Need-add-t13
-add-t13 c = search needs
+look-requires : tie.Need-look-requires
+look-requires c κs = omega (arith, bounds _ _ _ (c .before .before .before .pre))
+
+enum-known-code : tie.Need-enum-known-code
+enum-known-code c = search needs
+
+stop-requires : tie.Need-stop-requires
+stop-requires c κs = search needs
+
+enum-known-size : tie.Need-enum-known-size
+enum-known-size c = search needs
+
+behind-requires : tie.Need-behind-requires
+behind-requires c κs =
+    let b = bounds _ _ _ (c .before .before .before .before .before .before .before .pre) in
+    omega (arith, known-as _ _ _ _ _ (sym (c .before .before .before .look .ensures) ∙ c .before .size .given .1))
+
+enum-known-size-2 : tie.Need-enum-known-size-2
+enum-known-size-2 c = search needs
+
+pass-requires : tie.Need-pass-requires
+pass-requires c κs =
+    let b = bounds _ _ _ (c .before .before .before .before .before .before .before .pre) in
+    omega (arith, known-as _ _ _ _ _ (sym (c .before .before .before .look .ensures) ∙ c .before .size2 .given .1))
+
+enum-known-size-3 : tie.Need-enum-known-size-3
+enum-known-size-3 c = search needs
+
+into-subset-requires : tie.Need-into-subset-requires
+into-subset-requires c κs =
+    let b = bounds _ _ _ (c .before .before .before .before .before .before .before .pre) in
+    omega (arith, known-as _ _ _ _ _ (sym (c .before .before .before .look .ensures) ∙ c .before .size3 .given .1))
 
 returns-2 : tie.Need-returns-2
-returns-2 c = into-configuration _ _ _ (c .before .before .le16 .ensures .0) (c .before .if1 .left) (c .if2 .taken)
-
-le16-requires-3 : tie.Need-le16-requires-3
-le16-requires-3 c κs = search needs
-
-add-t14 : tie.Need-add-t14
-add-t14 c = search needs
+returns-2 c =
+    let found = sym (c .before .before .before .before .look .ensures) ∙ c .before .before .code .given .1 in
+    stops _ _ _ (c .before .before .before .before .before .before .before .before .pre)
+    (c .before .before .before .before .before .if1 .left) _ found _ (c .stop .ensures)
 
 returns-3 : tie.Need-returns-3
-returns-3 c = behind _ _ _ (c .before .before .before .le16 .ensures .0) (c .before .before .if1 .left) (c .before .if2 .left) _ (c .le163 .ensures .0)
+returns-3 c =
+    let found = sym (c .before .before .before .before .look .ensures) ∙ c .before .before .size .given .1 in
+    skips _ _ _ (c .before .before .before .before .before .before .before .before .pre)
+    (c .before .before .before .before .before .if1 .left) _ found _ (c .behind .ensures)
+
+returns-4 : tie.Need-returns-4
+returns-4 c =
+    let found = sym (c .before .before .before .before .look .ensures) ∙ c .before .before .size2 .given .1 in
+    passes _ _ _ (c .before .before .before .before .before .before .before .before .pre)
+    (c .before .before .before .before .before .if1 .left) _ found _ (c .pass .ensures)
+
+returns-5 : tie.Need-returns-5
+returns-5 c =
+    let found = sym (c .before .before .before .before .look .ensures) ∙ c .before .before .size3 .given .1 in
+    enters _ _ _ (c .before .before .before .before .before .before .before .before .pre)
+    (c .before .before .before .before .before .if1 .left) _ _ found _ (c .into-subset .ensures)
 
 pub next-spec : {M : Type 1} → statement M
 next-spec =
     tie.close
     (tie.spec
-    add-le16
-    le16-requires
-    add-t7
-    add-le16-2
-    le16-requires-2
-    add-t10
-    add-byte
-    byte-requires
+    out-requires
     returns
-    add-t13
+    look-requires
+    enum-known-code
+    stop-requires
+    enum-known-size
+    behind-requires
+    enum-known-size-2
+    pass-requires
+    enum-known-size-3
+    into-subset-requires
     returns-2
-    le16-requires-3
-    add-t14
-    returns-3)
+    returns-3
+    returns-4
+    returns-5)

@@ -2,8 +2,8 @@
 use Rattle.descriptors.specs.Header.{goodFields}
 use mathlib.Core.Bool.{and-assoc, and-true}
 use borrow.Author.Needs.{needs}
-use Rattle.descriptors.proofs.header.good_fields.Statement.{statement}
-use Rattle.descriptors.proofs.header.good_fields.Tie as tie
+use Rattle.descriptors.proofs.fields.good_fields.Statement.{statement}
+use Rattle.descriptors.proofs.fields.good_fields.Tie as tie
 
 add-result : tie.Need-add-result
 add-result c = search needs

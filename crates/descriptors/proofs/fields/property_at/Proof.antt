@@ -1,10 +1,10 @@
--- `property_at` meets its contract. Where the name leaves no room for the data length, the sum fails whatever stands there. Assumes nothing.
-use Rattle.descriptors.proofs.Laws.Rows.{name-past}
+-- `property_at` meets its contract. Where the name leaves no room for the data length, the sum fails whatever stands there. Assumes
+-- nothing.
 use native.Mathlib.Omega.{arith}
-use Rattle.descriptors.proofs.Laws.Rows.{property-length, property-good, property-bad, gathered}
+use Rattle.descriptors.proofs.Laws.Rows.{property-length, property-good, property-bad, name-past, gathered}
 use borrow.Author.Needs.{needs}
-use Rattle.descriptors.proofs.header.property_at.Statement.{statement}
-use Rattle.descriptors.proofs.header.property_at.Tie as tie
+use Rattle.descriptors.proofs.fields.property_at.Statement.{statement}
+use Rattle.descriptors.proofs.fields.property_at.Tie as tie
 
 returns : tie.Need-returns
 returns c = property-length _ _ (omega arith)
@@ -49,10 +49,17 @@ good-fields-requires : tie.Need-good-fields-requires
 good-fields-requires c κs = search needs
 
 returns-3 : tie.Need-returns-3
-returns-3 c = property-good _ _ (omega arith) (gathered _ _ _ _ _ _ _ _ _ (c .before .good-fields .ensures) (omega arith) (omega arith) (omega arith) (omega arith) (omega arith) (c .if3 .taken)) _ (omega arith)
+returns-3 c =
+    property-good _ _ (omega arith)
+    (gathered _ _ _ _ _ _ _ _ _ (c .before .good-fields .ensures) (omega arith) (omega arith) (omega arith) (omega arith) (omega arith)
+    (c .if3 .taken))
+    _ (omega arith)
 
 returns-4 : tie.Need-returns-4
-returns-4 c = property-bad _ _ (omega arith) (gathered _ _ _ _ _ _ _ _ _ (c .before .good-fields .ensures) (omega arith) (omega arith) (omega arith) (omega arith) (omega arith) (c .if3 .left))
+returns-4 c =
+    property-bad _ _ (omega arith)
+    (gathered _ _ _ _ _ _ _ _ _ (c .before .good-fields .ensures) (omega arith) (omega arith) (omega arith) (omega arith) (omega arith)
+    (c .if3 .left))
 
 pub property-at-spec : {M : Type 1} → statement M
 property-at-spec =

@@ -1,0 +1,13 @@
+-- `Cursor::stop` meets its contract. Assumes nothing.
+use borrow.Author.Needs.{needs}
+use Rattle.descriptors.proofs.scan.Cursor.stop.Statement.{statement}
+use Rattle.descriptors.proofs.scan.Cursor.stop.Tie as tie
+
+refused-requires : tie.Need-refused-requires
+refused-requires c κs = search needs
+
+returns : tie.Need-returns
+returns c = rw (c .refused .ensures)
+
+pub stop-spec : {M : Type 1} → statement M
+stop-spec = tie.close (tie.spec refused-requires returns)
