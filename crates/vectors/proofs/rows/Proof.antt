@@ -19,11 +19,11 @@ loop-holds c = search needs
 until-requires : tie.Need-until-requires Inv-loop μ-loop
 until-requires c κs = search needs
 
-sub-part : tie.Need-sub-part Inv-loop μ-loop
-sub-part c = search needs
+sub-t6 : tie.Need-sub-t6 Inv-loop μ-loop
+sub-t6 c = search needs
 
-part-requires : tie.Need-part-requires Inv-loop μ-loop
-part-requires c κs = search needs
+part-at-requires : tie.Need-part-at-requires Inv-loop μ-loop
+part-at-requires c κs = search needs
 
 row-requires : tie.Need-row-requires Inv-loop μ-loop
 row-requires c κs = search needs
@@ -49,8 +49,8 @@ rows-spec =
     first-requires
     loop-holds
     until-requires
-    sub-part
-    part-requires
+    sub-t6
+    part-at-requires
     row-requires
     add-at
     loop-less

@@ -19,11 +19,11 @@ property-requires c κs = search needs
 returns : tie.Need-returns Inv-loop μ-loop
 returns c = search needs
 
-property-name-requires : tie.Need-property-name-requires Inv-loop μ-loop
-property-name-requires c κs = search needs
+part-at-requires : tie.Need-part-at-requires Inv-loop μ-loop
+part-at-requires c κs = search needs
 
-property-value-requires : tie.Need-property-value-requires Inv-loop μ-loop
-property-value-requires c κs = search needs
+part-at-requires-2 : tie.Need-part-at-requires-2 Inv-loop μ-loop
+part-at-requires-2 c κs = search needs
 
 property-requires-2 : tie.Need-property-requires-2 Inv-loop μ-loop
 property-requires-2 c κs = search needs
@@ -49,8 +49,8 @@ properties-spec =
     loop-holds
     property-requires
     returns
-    property-name-requires
-    property-value-requires
+    part-at-requires
+    part-at-requires-2
     property-requires-2
     add-k
     loop-less

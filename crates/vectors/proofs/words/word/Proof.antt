@@ -31,11 +31,11 @@ loop-again c = search needs
 until-requires-3 : tie.Need-until-requires-3 Inv-loop μ-loop
 until-requires-3 c κs = search needs
 
-sub-part : tie.Need-sub-part Inv-loop μ-loop
-sub-part c = search needs
+sub-t9 : tie.Need-sub-t9 Inv-loop μ-loop
+sub-t9 c = search needs
 
-part-requires : tie.Need-part-requires Inv-loop μ-loop
-part-requires c κs = search needs
+part-at-requires : tie.Need-part-at-requires Inv-loop μ-loop
+part-at-requires c κs = search needs
 
 returns : tie.Need-returns Inv-loop μ-loop
 returns c = search needs
@@ -53,6 +53,6 @@ word-spec =
     loop-less
     loop-again
     until-requires-3
-    sub-part
-    part-requires
+    sub-t9
+    part-at-requires
     returns)
