@@ -4,9 +4,9 @@ use Prim.Native.Nat.{ℕ, _+_, _*_, _≤_, _<_}
 use mathlib.Core.List.{List}
 use mathlib.Core.Bool.{cond}
 use lib.ListN.{length}
-use lib.Dec.{ltb}
+use lib.Dec.{ltb, eqb}
 use Rattle.descriptors.specs.declared.header.Parent.{Parent}
-use Rattle.descriptors.specs.Header.{descriptorAt}
+use Rattle.descriptors.specs.Header.{propertyRefusal, descriptorAt}
 use Rattle.descriptors.specs.Reading.{Finding, refused, sound, descriptor, sizeOf, contentsOf}
 
 abbrev pub refusalNumber : ℕ → ℕ → ℕ
@@ -16,6 +16,10 @@ refusalNumber code offset = 65536 * code + offset
 unfoldable pub stopOf : ℕ → Finding → ℕ
 stopOf end (refused code offset) = refusalNumber code offset
 stopOf end (sound ps) = end
+
+-- of the property at `at`, by its own refusal
+unfoldable pub propertyStop : List ℕ → ℕ → ℕ → ℕ
+propertyStop s at len = cond (eqb (propertyRefusal s at) 0) (at + len) (refusalNumber (propertyRefusal s at) at)
 
 -- of the descriptor at `at`
 abbrev pub stopAt : List ℕ → Parent → ℕ → ℕ → ℕ

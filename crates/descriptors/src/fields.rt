@@ -1,13 +1,11 @@
-// A property's descriptor by itself.
+// The fields of a property.
 use crate::codes::BAD_FIELD;
 use crate::codes::BAD_LENGTH;
-use crate::header::Descriptor;
 use crate::word::word;
 ghost use mathlib.Core.Path.{_≡_};
 ghost use Prim.Native.Nat.{_+_, _≤_, _<_};
 ghost use lib.ListN.{length};
-ghost use Rattle.descriptors.specs.Header.{lengthAt, goodFields};
-ghost use Rattle.descriptors.specs.Look.{propertyAt};
+ghost use Rattle.descriptors.specs.Header.{lengthAt, goodFields, propertyRefusal};
 
 // Whether the fields of a property are what they must be.
 fn good_fields(len: usize, kind: usize, name: usize, ending: usize, value: usize) -> bool
@@ -20,23 +18,23 @@ fn good_fields(len: usize, kind: usize, name: usize, ending: usize, value: usize
     in_range & named & (len == 10 + name + value) & four
 }
 
-// The property at `at`. Nothing behind the descriptor is read.
-pub(crate) fn property_at(s: &[u8], at: usize, len: usize) -> Descriptor
+// The refusal of the property at `at`, or 0. Nothing behind the descriptor is read.
+pub(crate) fn property_refusal(s: &[u8], at: usize, len: usize) -> u8
     requires { ⌜ (len ≡ lengthAt (now s) at) × (at + len ≤ length (now s)) ⌝ }
-    ensures { λ r. ⌜ r ≡ propertyAt (now (s .entry)) at ⌝ }
+    ensures { λ r. ⌜ r ≡ propertyRefusal (now (s .entry)) at ⌝ }
 {
     if len < 12 {
-        return Descriptor::Refused(BAD_LENGTH);
+        return BAD_LENGTH;
     }
     let name = word(s, at + 6);
     if len < 10 + name {
-        return Descriptor::Refused(BAD_FIELD);
+        return BAD_FIELD;
     }
     let kind = word(s, at + 4);
     let ending = word(s, at + 6 + name);
     let value = word(s, at + 8 + name);
     if good_fields(len, kind, name, ending, value) {
-        return Descriptor::Property(len);
+        return 0;
     }
-    Descriptor::Refused(BAD_FIELD)
+    BAD_FIELD
 }

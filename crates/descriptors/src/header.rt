@@ -3,13 +3,12 @@ use crate::codes::BAD_FIELD;
 use crate::codes::BAD_LENGTH;
 use crate::codes::BAD_TYPE;
 use crate::codes::PAST_PARENT;
-use crate::fields::property_at;
 use crate::word::word;
 ghost use mathlib.Core.Path.{_≡_};
 ghost use Prim.Native.Nat.{_+_, _≤_, _<_};
 ghost use lib.ListN.{length};
-ghost use Rattle.descriptors.specs.Header.{lengthAt, allowed, inner, descriptorAt};
-ghost use Rattle.descriptors.specs.Look.{subsetAt};
+ghost use Rattle.descriptors.specs.Header.{lengthAt, allowed, inner};
+ghost use Rattle.descriptors.specs.Look.{subsetAt, Looked};
 
 // A function's first interface; none where there is no function.
 pub enum Interface {
@@ -79,10 +78,10 @@ fn subset_at(s: &[u8], p: Parent, at: usize, left: usize, len: usize) -> Descrip
     Descriptor::Subset(total, inside(s, p, at))
 }
 
-// The descriptor at `at` by itself, in the parent p that ends at `end`.
+// The descriptor at `at` by itself, in the parent p that ends at `end`; of a property the fields are still to be looked at.
 pub(crate) fn look(s: &[u8], p: Parent, at: usize, end: usize) -> Descriptor
     requires { ⌜ (at ≤ end) × (end ≤ length (now s)) ⌝ }
-    ensures { λ r. ⌜ r ≡ descriptorAt (now (s .entry)) p at end ⌝ }
+    ensures { λ r. ⌜ Looked (now (s .entry)) p at end r ⌝ }
 {
     let left = end - at;
     if left < 4 {
@@ -100,7 +99,7 @@ pub(crate) fn look(s: &[u8], p: Parent, at: usize, end: usize) -> Descriptor
         return Descriptor::Refused(BAD_TYPE);
     }
     if t == 4 {
-        return property_at(s, at, len);
+        return Descriptor::Property(len);
     }
     if 2 < t {
         return Descriptor::Opaque(len);

@@ -1,5 +1,6 @@
 // Reading a set for property k in one pass: a cursor goes from header to header and into each subset, every descriptor is looked at as the
 // check looks at it, and the properties are counted on the way.
+use crate::fields::property_refusal;
 use crate::header::Descriptor;
 use crate::header::Interface;
 use crate::header::Parent;
@@ -172,7 +173,14 @@ impl Cursor {
         match look(s, p, self.at, self.end) {
             Descriptor::Refused(code) => self.stop(code),
             Descriptor::Opaque(size) => self.behind(size),
-            Descriptor::Property(size) => self.pass(k, size),
+            Descriptor::Property(size) => {
+                let code = property_refusal(s, self.at, size);
+                if code == 0 {
+                    self.pass(k, size)
+                } else {
+                    self.stop(code)
+                }
+            }
             Descriptor::Subset(size, q) => self.into_subset(size, q),
         }
     }

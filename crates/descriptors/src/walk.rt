@@ -2,12 +2,15 @@
 // Both answer one number, an offset below 65536 or, above every offset, a refusal: 65536 times its code and then the faulty descriptor's
 // offset.
 // So a refusal ends every loop that it comes back to, and nothing but a number is handed on.
+use crate::fields::property_refusal;
 use crate::header::Descriptor;
 use crate::header::Parent;
 use crate::header::look;
 ghost use mathlib.Core.Path.{_≡_};
-ghost use Prim.Native.Nat.{_≤_, _<_};
-ghost use Rattle.descriptors.specs.Stops.{Walkable, refusalNumber, stopAt, stopFrom};
+ghost use Prim.Native.Nat.{_+_, _≤_, _<_};
+ghost use lib.ListN.{length};
+ghost use Rattle.descriptors.specs.Header.{lengthAt};
+ghost use Rattle.descriptors.specs.Stops.{Walkable, refusalNumber, propertyStop, stopAt, stopFrom};
 
 // A refusal as a number above every offset.
 pub(crate) fn refused(code: u8, at: usize) -> usize
@@ -15,6 +18,18 @@ pub(crate) fn refused(code: u8, at: usize) -> usize
     ensures { λ r. ⌜ r ≡ refusalNumber code at ⌝ }
 {
     65536 * (code as usize) + at
+}
+
+// The offset behind the property at `at`, or its refusal.
+fn property_stop(s: &[u8], at: usize, len: usize) -> usize
+    requires { ⌜ (len ≡ lengthAt (now s) at) × (at + len ≤ length (now s)) × (length (now s) < 65536) × (0 < len) ⌝ }
+    ensures { λ r. ⌜ r ≡ propertyStop (now (s .entry)) at len ⌝ }
+{
+    let code = property_refusal(s, at, len);
+    if code == 0 {
+        return at + len;
+    }
+    refused(code, at)
 }
 
 // Reads the descriptor at `at`, with all that is inside it: the offset behind it, or the first refusal.
@@ -25,7 +40,7 @@ fn read(s: &[u8], p: Parent, at: usize, end: usize) -> usize
     match look(s, p, at, end) {
         Descriptor::Refused(code) => refused(code, at),
         Descriptor::Opaque(size) => at + size,
-        Descriptor::Property(size) => at + size,
+        Descriptor::Property(size) => property_stop(s, at, size),
         Descriptor::Subset(size, q) => walk(s, q, at + 8, at + size),
     }
 }

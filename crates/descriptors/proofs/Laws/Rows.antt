@@ -1,8 +1,8 @@
 -- Which row of the tables of `specs/Header.antt` answers, one law for each answer of the code. Assumes nothing.
 use Prim.Native.Nat.{ℕ, zero, suc, _+_, _-_, _≤_, _<_}
-use mathlib.Core.Path.{_≡_}
+use mathlib.Core.Path.{_≡_, refl, sym, subst, _∙_}
 use mathlib.Core.List.{List, [], _∷_}
-use mathlib.Core.Bool.{Bool, true, false, false≢true, and-false, or-true, or-false}
+use mathlib.Core.Bool.{Bool, true, false, cond, false≢true, and-false, or-true, or-false}
 use native.Mathlib.Omega.{arith}
 use lib.ListN.{getD}
 use lib.Dec.{leb, eqb}
@@ -10,13 +10,14 @@ use borrow.Author.Tests.{lt-ltb, le-ltb, le-leb, lt-leb, eq-eqb, ne-eqb}
 use Rattle.wire.specs.Number.{leAt}
 use Rattle.descriptors.specs.declared.header.Parent.{Parent}
 use Rattle.descriptors.specs.declared.header.Parent.the-variants.{Set, Configuration, Function}
+use Rattle.descriptors.specs.declared.header.Descriptor.{Descriptor}
 use Rattle.descriptors.specs.declared.header.Descriptor.the-variants.{Refused, Opaque, Property, Subset}
 use Rattle.descriptors.specs.Codes.{pastParent, badType, badLength, badField}
 use Rattle.wire.specs.Rows.{_⇒_, firstOf, allOf}
 use Rattle.descriptors.specs.Header.{lengthAt, typeAt, reservedAt, totalAt, kindAt, nameLengthAt, nameEndAt, dataLengthAt}
 use Rattle.descriptors.specs.Header.{isSubset, isProperty, allowed, propertyTests, goodFields, goodProperty}
-use Rattle.descriptors.specs.Header.{propertyRefusal, subsetRefusal, refusal, inner, descriptorAt}
-use Rattle.descriptors.specs.Look.{subsetAt, propertyAt}
+use Rattle.descriptors.specs.Header.{propertyRefusal, subsetRefusal, refusal, inner, unless, descriptorAt}
+use Rattle.descriptors.specs.Look.{subsetAt, Looked}
 
 -- what may stand where
 module _ (t : ℕ) where
@@ -76,17 +77,17 @@ fails (suc i) (t ∷ ts) e = rw (fails i ts e) (and-false t)
 
 -- a property
 module _ (s : List ℕ) (at : ℕ) where
-  pub property-length : lengthAt s at < 12 → Refused badLength ≡ propertyAt s at
-  unfolding propertyAt propertyRefusal
+  pub property-length : lengthAt s at < 12 → badLength ≡ propertyRefusal s at
+  unfolding propertyRefusal
   property-length a = simp (lt-ltb _ _ a)
 
-  pub property-bad : 12 ≤ lengthAt s at → goodProperty s at ≡ false → Refused badField ≡ propertyAt s at
-  unfolding propertyAt propertyRefusal
+  pub property-bad : 12 ≤ lengthAt s at → goodProperty s at ≡ false → badField ≡ propertyRefusal s at
+  unfolding propertyRefusal
   property-bad a b = simp (le-ltb _ _ a, b)
 
-  pub property-good : 12 ≤ lengthAt s at → goodProperty s at ≡ true → (len : ℕ) → len ≡ lengthAt s at → Property len ≡ propertyAt s at
-  unfolding propertyAt propertyRefusal
-  property-good a b len e = simp (le-ltb _ _ a, b, e)
+  pub property-good : 12 ≤ lengthAt s at → goodProperty s at ≡ true → 0 ≡ propertyRefusal s at
+  unfolding propertyRefusal
+  property-good a b = simp (le-ltb _ _ a, b)
 
   -- the name leaves no room for the data's length: whatever stands there, the sum does not hold
   pub name-past : lengthAt s at < 10 + nameLengthAt s at → goodProperty s at ≡ false
@@ -144,14 +145,54 @@ module _ (s : List ℕ) (p : Parent) (at end : ℕ) where
     no-subset : 2 < t → isSubset (typeAt s at) ≡ false
     no-subset h = simp (ne-eqb (typeAt s at) 1 (omega arith), ne-eqb (typeAt s at) 2 (omega arith))
 
-    pub of-property : t ≡ 4 → propertyAt s at ≡ descriptorAt s p at end
-    unfolding descriptorAt propertyAt
-    of-property h = simp (last-two, no-subset (omega arith), eq-eqb (typeAt s at) 4 (omega arith))
+    pub of-property : t ≡ 4 → (len : ℕ) → len ≡ lengthAt s at → descriptorAt s p at end ≡ unless (propertyRefusal s at) (Property len)
+    unfolding descriptorAt
+    of-property h len j = simp (last-two, no-subset (omega arith), eq-eqb (typeAt s at) 4 (omega arith), j)
 
     pub of-opaque : (t ≡ 4 → ⊥) → 2 < t → (len : ℕ) → len ≡ lengthAt s at → Opaque len ≡ descriptorAt s p at end
     unfolding descriptorAt
     of-opaque h i len j = simp (last-two, no-subset i, ne-eqb (typeAt s at) 4 (omega arith), j)
 
-    pub of-subset : t ≤ 2 → subsetAt s p at (end - at) ≡ descriptorAt s p at end
+    of-subset : t ≤ 2 → subsetAt s p at (end - at) ≡ descriptorAt s p at end
     unfolding descriptorAt subsetAt
     of-subset h = simp (last-two, one-or-two p (typeAt s at) here (omega arith))
+
+    pub looked-subset : t ≤ 2 → (d : Descriptor) → d ≡ subsetAt s p at (end - at) → Looked s p at end d
+    unfolding subsetAt Looked
+    looked-subset h d e = subst (Looked s p at end) (sym e) (go (eqb code 0) refl)
+      where
+        code : ℕ
+        code = subsetRefusal (end - at) (lengthAt s at) (totalAt s at) (reservedAt s at)
+
+        is : descriptorAt s p at end ≡ unless code (Subset (totalAt s at) (inner s p at))
+        is = sym (of-subset h)
+
+        go : (b : Bool) → eqb code 0 ≡ b → Looked s p at end (cond b (Subset (totalAt s at) (inner s p at)) (Refused code))
+        go true f = is ∙ rw f
+        go false f = is ∙ rw f
+
+-- what `look` said, by what it answered
+module _ (s : List ℕ) (p : Parent) (at end : ℕ) {d : Descriptor} (l : Looked s p at end d) where
+  pub told-refused : {code : ℕ} → d ≡ Refused code → descriptorAt s p at end ≡ Refused code
+  unfolding Looked
+  told-refused e = subst (Looked s p at end) e l
+
+  pub told-opaque : {size : ℕ} → d ≡ Opaque size → descriptorAt s p at end ≡ Opaque size
+  unfolding Looked
+  told-opaque e = subst (Looked s p at end) e l
+
+  pub told-subset : {size : ℕ} {q : Parent} → d ≡ Subset size q → descriptorAt s p at end ≡ Subset size q
+  unfolding Looked
+  told-subset e = subst (Looked s p at end) e l
+
+  pub told-property : {len : ℕ} → d ≡ Property len
+      → (len ≡ lengthAt s at) × (4 ≤ len) × (at + len ≤ end) × (descriptorAt s p at end ≡ unless (propertyRefusal s at) (Property len))
+  unfolding Looked
+  told-property e = subst (Looked s p at end) e l
+
+  -- and of a property by its own refusal, as that was found
+  pub told-sound : {len code : ℕ} → d ≡ Property len → code ≡ propertyRefusal s at → code ≡ 0 → descriptorAt s p at end ≡ Property len
+  told-sound e f z = told-property e .3 ∙ rw (eq-eqb (propertyRefusal s at) 0 (sym f ∙ z))
+
+  pub told-faulty : {len code : ℕ} → d ≡ Property len → code ≡ propertyRefusal s at → (code ≡ 0 → ⊥) → descriptorAt s p at end ≡ Refused code
+  told-faulty e f n = told-property e .3 ∙ rw (ne-eqb (propertyRefusal s at) 0 (λ z. n (f ∙ z)), f)

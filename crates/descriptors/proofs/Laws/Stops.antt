@@ -4,13 +4,13 @@ use mathlib.Core.Path.{_≡_, refl, sym, ap, _∙_}
 use mathlib.Core.List.{List}
 use mathlib.Core.Bool.{Bool, true, false, cond}
 use native.Mathlib.Omega.{arith}
-use lib.Dec.{ltb}
+use lib.Dec.{ltb, eqb}
 use borrow.Author.Tests.{le-ltb, ltb-false}
 use Rattle.descriptors.specs.declared.header.Parent.{Parent}
 use Rattle.descriptors.specs.declared.header.Descriptor.the-variants.{Refused, Opaque, Property, Subset}
-use Rattle.descriptors.specs.Header.{descriptorAt}
+use Rattle.descriptors.specs.Header.{propertyRefusal, unless, descriptorAt}
 use Rattle.descriptors.specs.Reading.{Entry, Finding, refused, sound, _then_, isSound, descriptor, sizeOf, contentsOf}
-use Rattle.descriptors.specs.Stops.{Walkable, refusalNumber, stopOf, stopAt, stopFrom}
+use Rattle.descriptors.specs.Stops.{Walkable, refusalNumber, propertyStop, stopOf, stopAt, stopFrom}
 use Rattle.descriptors.proofs.Laws.Sound.{known}
 use Rattle.descriptors.proofs.Laws.Contents.{at-end, one-then, ends-in}
 use Rattle.descriptors.proofs.Laws.Proper.{Proper, one-proper}
@@ -34,9 +34,13 @@ module _ (s : List ℕ) (p : Parent) (at end : ℕ) where
   unfolding stopOf
   stop-opaque n e = rw e
 
-  pub stop-property : (n : ℕ) → descriptorAt s p at end ≡ Property n → at + n ≡ stopAt s p at end
-  unfolding stopOf
-  stop-property n e = rw e
+  pub stop-property : (n : ℕ) → descriptorAt s p at end ≡ unless (propertyRefusal s at) (Property n) → propertyStop s at n ≡ stopAt s p at end
+  unfolding stopOf propertyStop
+  stop-property n e = go (eqb (propertyRefusal s at) 0) refl
+    where
+      go : (b : Bool) → eqb (propertyRefusal s at) 0 ≡ b → cond b (at + n) (refusalNumber (propertyRefusal s at) at) ≡ stopAt s p at end
+      go true f = rw (e, f)
+      go false f = rw (e, f)
 
   pub stop-subset : (n : ℕ) (q : Parent) → 8 ≤ n → descriptorAt s p at end ≡ Subset n q → stopFrom s q (at + 8) (at + n) ≡ stopAt s p at end
   stop-subset n q h e = rw e (from s q (at + 8) (at + n) (omega arith))

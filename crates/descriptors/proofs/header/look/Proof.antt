@@ -1,8 +1,9 @@
 -- `look` meets its contract: the tests on the way to each return say which row answers. Assumes nothing.
 use native.Mathlib.Omega.{arith}
-use mathlib.Core.Path.{_∙_}
+use mathlib.Core.Path.{sym}
 use borrow.Author.Tests.{not-true, not-false}
-use Rattle.descriptors.proofs.Laws.Rows.{few-left, past-parent, too-short, not-here, of-property, of-opaque, of-subset}
+use Rattle.descriptors.specs.Look.{Looked}
+use Rattle.descriptors.proofs.Laws.Rows.{few-left, past-parent, too-short, not-here, of-property, of-opaque, looked-subset}
 use borrow.Author.Needs.{needs}
 use Rattle.descriptors.proofs.header.look.Statement.{statement}
 use Rattle.descriptors.proofs.header.look.Tie as tie
@@ -11,16 +12,19 @@ sub-left : tie.Need-sub-left
 sub-left c = search needs
 
 returns : tie.Need-returns
-returns c = few-left _ _ _ _ (omega arith)
+unfolding Looked
+returns c = sym (few-left _ _ _ _ (omega arith))
 
 word-requires : tie.Need-word-requires
 word-requires c κs = search needs
 
 returns-2 : tie.Need-returns-2
-returns-2 c = past-parent _ _ _ _ (omega arith)
+unfolding Looked
+returns-2 c = sym (past-parent _ _ _ _ (omega arith))
 
 returns-3 : tie.Need-returns-3
-returns-3 c = too-short _ _ _ _ (omega arith)
+unfolding Looked
+returns-3 c = sym (too-short _ _ _ _ (omega arith))
 
 add-word : tie.Need-add-word
 add-word c = search needs
@@ -32,22 +36,33 @@ may-stand-requires : tie.Need-may-stand-requires
 may-stand-requires c κs = search needs
 
 returns-4 : tie.Need-returns-4
-returns-4 c = not-here _ _ _ _ (omega arith) _ _ (c .before .may-stand .ensures) (omega arith) (not-true _ (c .if4 .taken))
-
-property-at-requires : tie.Need-property-at-requires
-property-at-requires c κs = search needs
+unfolding Looked
+returns-4 c = sym (not-here _ _ _ _ (omega arith) _ _ (c .before .may-stand .ensures) (omega arith) (not-true _ (c .if4 .taken)))
 
 returns-5 : tie.Need-returns-5
-returns-5 c = c .property-at .ensures ∙ of-property _ _ _ _ (omega arith) _ _ (c .before .before .before .may-stand .ensures) (omega arith) (not-false _ (c .before .before .if4 .left)) (omega arith)
+unfolding Looked
+returns-5 c = (
+  omega arith,
+  omega arith,
+  omega arith,
+  of-property _ _ _ _ (omega arith) _ _ (c .before .before .may-stand .ensures) (omega arith) (not-false _ (c .before .if4 .left))
+      (omega arith) _ (omega arith),
+)
 
 returns-6 : tie.Need-returns-6
-returns-6 c = of-opaque _ _ _ _ (omega arith) _ _ (c .before .before .before .may-stand .ensures) (omega arith) (not-false _ (c .before .before .if4 .left)) (omega arith) (omega arith) _ (omega arith)
+unfolding Looked
+returns-6 c =
+    sym
+    (of-opaque _ _ _ _ (omega arith) _ _ (c .before .before .before .may-stand .ensures) (omega arith)
+    (not-false _ (c .before .before .if4 .left)) (omega arith) (omega arith) _ (omega arith))
 
 subset-at-requires : tie.Need-subset-at-requires
 subset-at-requires c κs = search needs
 
 returns-7 : tie.Need-returns-7
-returns-7 c = c .subset-at .ensures ∙ of-subset _ _ _ _ (omega arith) _ _ (c .before .before .before .before .may-stand .ensures) (omega arith) (not-false _ (c .before .before .before .if4 .left)) (omega arith)
+returns-7 c =
+    looked-subset _ _ _ _ (omega arith) _ _ (c .before .before .before .before .may-stand .ensures) (omega arith)
+    (not-false _ (c .before .before .before .if4 .left)) (omega arith) _ (c .subset-at .ensures)
 
 pub look-spec : {M : Type 1} → statement M
 look-spec =
@@ -62,7 +77,6 @@ look-spec =
     word-requires-2
     may-stand-requires
     returns-4
-    property-at-requires
     returns-5
     returns-6
     subset-at-requires

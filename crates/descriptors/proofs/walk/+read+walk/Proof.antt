@@ -8,6 +8,7 @@ use borrow.Author.Needs.{needs}
 use borrow.Fn.Kinds.{In}
 use borrow.Fn.PlainCycle.{Measures, is, falls, and}
 use Rattle.descriptors.specs.Stops.{stopFrom}
+use Rattle.descriptors.proofs.Laws.Rows.{told-refused, told-opaque, told-property, told-subset}
 use Rattle.descriptors.proofs.Laws.Sound.{known-as}
 use Rattle.descriptors.proofs.Laws.Stops.{stop-refused, stop-opaque, stop-property, stop-subset, stopped, turn}
 use Rattle.descriptors.proofs.walk.read.Reads as read
@@ -18,6 +19,7 @@ use Rattle.descriptors.proofs.walk.walk.Kinds as walk-kinds
 use Rattle.descriptors.proofs.walk.+read+walk.Lts-walk as walk-lts
 use Rattle.descriptors.proofs.header.look.Reads as look-reads
 use Rattle.descriptors.proofs.walk.refused.Reads as refused-reads
+use Rattle.descriptors.proofs.walk.property_stop.Reads as stop-reads
 use Rattle.descriptors.proofs.walk.+read+walk.{statement}
 use Rattle.descriptors.proofs.walk.+read+walk.Tie.{close}
 
@@ -42,7 +44,8 @@ walk-below t = and 1 walk-kinds.ps (falls 1 walk-kinds.ps _<_ μ-walk t) walk.Pr
 
 -- what each may take of those that it calls
 abbrev read-calls : ℕ → read-lts.Claims
-read-calls t = (look-reads.Asked, look-reads.Learnt, refused-reads.Asked, refused-reads.Learnt, walk-below t, walk.Post)
+read-calls t =
+    (look-reads.Asked, look-reads.Learnt, refused-reads.Asked, refused-reads.Learnt, stop-reads.Asked, stop-reads.Learnt, walk-below t, walk.Post)
 
 abbrev walk-calls : ℕ → walk-lts.Claims
 walk-calls t = (read-below t, read.Post)
@@ -60,39 +63,41 @@ read-enum-known-size : (t : ℕ) → read-lts.Need-enum-known-size (read-calls t
 read-enum-known-size t c = search needs
 
 read-add-result : (t : ℕ) → read-lts.Need-add-result (read-calls t) (read-at t) read.Post
-read-add-result t c = omega (arith, known-as _ _ _ _ _ (sym (c .before .before .before .look .ensures) ∙ c .before .size .given .1))
+read-add-result t c = omega (arith, known-as _ _ _ _ _ (told-opaque _ _ _ _ (c .before .before .before .look .ensures) (c .before .size .given .1)))
 
 read-enum-known-size-2 : (t : ℕ) → read-lts.Need-enum-known-size-2 (read-calls t) (read-at t) read.Post
 read-enum-known-size-2 t c = search needs
 
-read-add-result-2 : (t : ℕ) → read-lts.Need-add-result-2 (read-calls t) (read-at t) read.Post
-read-add-result-2 t c = omega (arith, known-as _ _ _ _ _ (sym (c .before .before .before .look .ensures) ∙ c .before .size2 .given .1))
+read-property-stop-requires : (t : ℕ) → read-lts.Need-property-stop-requires (read-calls t) (read-at t) read.Post
+read-property-stop-requires t c κs = omega (arith, told-property _ _ _ _ (c .before .before .before .look .ensures) (c .before .size2 .given .1))
 
 read-enum-known-size-3 : (t : ℕ) → read-lts.Need-enum-known-size-3 (read-calls t) (read-at t) read.Post
 read-enum-known-size-3 t c = search needs
 
 read-add-walk : (t : ℕ) → read-lts.Need-add-walk (read-calls t) (read-at t) read.Post
-read-add-walk t c = omega (arith, known-as _ _ _ _ _ (sym (c .before .before .before .look .ensures) ∙ c .before .size3 .given .1))
+read-add-walk t c = omega (arith, known-as _ _ _ _ _ (told-subset _ _ _ _ (c .before .before .before .look .ensures) (c .before .size3 .given .1)))
 
 read-add-walk-2 : (t : ℕ) → read-lts.Need-add-walk-2 (read-calls t) (read-at t) read.Post
-read-add-walk-2 t c = omega (arith, known-as _ _ _ _ _ (sym (c .before .before .before .look .ensures) ∙ c .before .size3 .given .1))
+read-add-walk-2 t c = omega (arith, known-as _ _ _ _ _ (told-subset _ _ _ _ (c .before .before .before .look .ensures) (c .before .size3 .given .1)))
 
 read-walk-requires : (t : ℕ) → read-lts.Need-walk-requires (read-calls t) (read-at t) read.Post
-read-walk-requires t c κs = omega (arith, known-as _ _ _ _ _ (sym (c .before .before .before .look .ensures) ∙ c .before .size3 .given .1))
+read-walk-requires t c κs = omega (arith, known-as _ _ _ _ _ (told-subset _ _ _ _ (c .before .before .before .look .ensures) (c .before .size3 .given .1)))
 
 read-returns : (t : ℕ) → read-lts.Need-returns (read-calls t) (read-at t) read.Post
 read-returns t c =
-    c .refused .ensures ∙ stop-refused _ _ _ _ _ (sym (c .before .before .before .before .look .ensures) ∙ c .before .before .code .given .1)
+    c .refused .ensures ∙ stop-refused _ _ _ _ _ (told-refused _ _ _ _ (c .before .before .before .before .look .ensures) (c .before .before .code .given .1))
 
 read-returns-2 : (t : ℕ) → read-lts.Need-returns-2 (read-calls t) (read-at t) read.Post
-read-returns-2 t c = stop-opaque _ _ _ _ _ (sym (c .before .before .before .look .ensures) ∙ c .before .size .given .1)
+read-returns-2 t c = stop-opaque _ _ _ _ _ (told-opaque _ _ _ _ (c .before .before .before .look .ensures) (c .before .size .given .1))
 
 read-returns-3 : (t : ℕ) → read-lts.Need-returns-3 (read-calls t) (read-at t) read.Post
-read-returns-3 t c = stop-property _ _ _ _ _ (sym (c .before .before .before .look .ensures) ∙ c .before .size2 .given .1)
+read-returns-3 t c =
+    c .property-stop .ensures
+    ∙ stop-property _ _ _ _ _ (told-property _ _ _ _ (c .before .before .before .before .look .ensures) (c .before .before .size2 .given .1) .3)
 
 read-returns-4 : (t : ℕ) → read-lts.Need-returns-4 (read-calls t) (read-at t) read.Post
 read-returns-4 t c =
-    let found = sym (c .before .before .before .before .look .ensures) ∙ c .before .before .size3 .given .1 in
+    let found = told-subset _ _ _ _ (c .before .before .before .before .look .ensures) (c .before .before .size3 .given .1) in
     c .walk .ensures ∙ stop-subset _ _ _ _ _ _ (known-as _ _ _ _ _ found .0) found
 
 abbrev walk-Inv-loop : walk-lts.InvT-loop
@@ -126,7 +131,7 @@ pub +read+walk-spec : {M : Type 1} → statement M
     (read-enum-known-size t)
     (read-add-result t)
     (read-enum-known-size-2 t)
-    (read-add-result-2 t)
+    (read-property-stop-requires t)
     (read-enum-known-size-3 t)
     (read-add-walk t)
     (read-add-walk-2 t)

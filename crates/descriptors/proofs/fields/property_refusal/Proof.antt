@@ -1,10 +1,10 @@
--- `property_at` meets its contract. Where the name leaves no room for the data length, the sum fails whatever stands there. Assumes
+-- `property_refusal` meets its contract. Where the name leaves no room for the data length, the sum fails whatever stands there. Assumes
 -- nothing.
 use native.Mathlib.Omega.{arith}
 use Rattle.descriptors.proofs.Laws.Rows.{property-length, property-good, property-bad, name-past, gathered}
 use borrow.Author.Needs.{needs}
-use Rattle.descriptors.proofs.fields.property_at.Statement.{statement}
-use Rattle.descriptors.proofs.fields.property_at.Tie as tie
+use Rattle.descriptors.proofs.fields.property_refusal.Statement.{statement}
+use Rattle.descriptors.proofs.fields.property_refusal.Tie as tie
 
 returns : tie.Need-returns
 returns c = property-length _ _ (omega arith)
@@ -53,7 +53,6 @@ returns-3 c =
     property-good _ _ (omega arith)
     (gathered _ _ _ _ _ _ _ _ _ (c .before .good-fields .ensures) (omega arith) (omega arith) (omega arith) (omega arith) (omega arith)
     (c .if3 .taken))
-    _ (omega arith)
 
 returns-4 : tie.Need-returns-4
 returns-4 c =
@@ -61,8 +60,8 @@ returns-4 c =
     (gathered _ _ _ _ _ _ _ _ _ (c .before .good-fields .ensures) (omega arith) (omega arith) (omega arith) (omega arith) (omega arith)
     (c .if3 .left))
 
-pub property-at-spec : {M : Type 1} → statement M
-property-at-spec =
+pub property-refusal-spec : {M : Type 1} → statement M
+property-refusal-spec =
     tie.close
     (tie.spec
     returns
