@@ -7,7 +7,7 @@ use lib.ListN.{getD}
 use Rattle.controls.specs.declared.settings.Item.{Item}
 use Rattle.controls.specs.declared.settings.Item.the-variants.{Absent, Refused, Given}
 use Rattle.controls.specs.declared.settings.Setting.{Setting}
-use Rattle.controls.specs.Settings.{codeOf}
+use Rattle.controls.specs.Settings.{firstRefusal}
 use Rattle.exposure.specs.Ev.{evItem}
 use Rattle.face.specs.Face.{faceItem}
 use Rattle.controls.specs.Metadata.{metadataItem}
@@ -22,11 +22,6 @@ unfoldable pub givenOf : Item → List (ℕ × Setting)
 givenOf Absent = []
 givenOf (Refused code) = []
 givenOf (Given s) = (keyOf s, s) ∷ []
-
--- the first number that isn't 0, of the n items from k on
-unfoldable pub firstRefusal : ℕ → ℕ → (ℕ → Item) → ℕ
-firstRefusal zero k item = 0
-firstRefusal (suc n) k item = cond (eqb (codeOf (item k)) 0) (firstRefusal n (suc k) item) (codeOf (item k))
 
 -- the settings of the n items from k on, in order
 unfoldable pub allGiven : ℕ → ℕ → (ℕ → Item) → List (ℕ × Setting)

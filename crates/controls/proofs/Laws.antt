@@ -1,4 +1,3 @@
-pub mod Answers
-pub mod Packed
+pub mod Items
 pub mod Plain
 pub mod Settings

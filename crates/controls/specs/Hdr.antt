@@ -9,7 +9,7 @@ use Rattle.wire.specs.Uvc.{getCur, getMax, invalidValue, outOfRange}
 use Rattle.controls.specs.declared.settings.Number.{Number}
 use Rattle.controls.specs.declared.settings.Item.{Item}
 use Rattle.controls.specs.declared.settings.Setting.the-variants as S
-use Rattle.controls.specs.Answers.{answerBy}
+use Rattle.request.specs.Answers.{answerBy}
 use Rattle.controls.specs.Settings.{itemOf, numberOr}
 
 -- above 2, then 2 without Auto

@@ -1,5 +1,4 @@
 -- What document 01 says of metadata, HDR and throttle, and of settings and answers, whichever control they are of.
-pub mod Answers
 pub mod Settings
 pub mod Metadata
 pub mod Hdr

@@ -10,7 +10,7 @@ use Rattle.controls.specs.declared.metadata.MetadataLimits.{MetadataLimi
 use Rattle.controls.specs.declared.settings.Number.{Number}
 use Rattle.controls.specs.declared.settings.Item.{Item}
 use Rattle.controls.specs.declared.settings.Setting.the-variants as S
-use Rattle.controls.specs.Answers.{answerBy}
+use Rattle.request.specs.Answers.{answerBy}
 use Rattle.controls.specs.Settings.{itemOf, numberOr}
 
 abbrev pub metadataValid : MetadataLimits → Bool

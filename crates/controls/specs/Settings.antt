@@ -1,5 +1,5 @@
 -- Settings, whichever control they are of.
-use Prim.Native.Nat.{ℕ}
+use Prim.Native.Nat.{ℕ, zero, suc}
 use mathlib.Core.Option.{Option, none, some}
 use mathlib.Core.Bool.{cond}
 use lib.Dec.{eqb}
@@ -28,3 +28,8 @@ settingOf (Given s) = some s
 unfoldable pub numberOr : ℕ → Number → ℕ
 numberOr n Unset = n
 numberOr n (Held m) = m
+
+-- the first number that isn't 0, of the n items from k on
+unfoldable pub firstRefusal : ℕ → ℕ → (ℕ → Item) → ℕ
+firstRefusal zero k item = 0
+firstRefusal (suc n) k item = cond (eqb (codeOf (item k)) 0) (firstRefusal n (suc k) item) (codeOf (item k))

@@ -12,7 +12,7 @@ use Rattle.controls.specs.declared.throttle.Throttle.{Throttle}
 use Rattle.controls.specs.declared.throttle.Throttle.the-variants as T
 use Rattle.controls.specs.declared.settings.Item.{Item}
 use Rattle.controls.specs.declared.settings.Setting.the-variants as S
-use Rattle.controls.specs.Answers.{answerBy}
+use Rattle.request.specs.Answers.{answerBy}
 use Rattle.controls.specs.Settings.{itemOf}
 
 -- n is a multiple of step

@@ -1,17 +1,17 @@
 // HDR: four bytes, 0 off, 1 on and 2 auto. The maximum is a mask of modes and no largest mode.
-use crate::answers::Answer;
-use crate::answers::answer_by;
 use crate::settings::Item;
 use crate::settings::Number;
 use crate::settings::Setting;
 use crate::settings::item_of;
 use crate::settings::number_or;
+use request::Answer;
+use request::answer_by;
 use wire::uvc::GET_CUR;
 use wire::uvc::GET_MAX;
 use wire::uvc::INVALID_VALUE;
 use wire::uvc::OUT_OF_RANGE;
 ghost use mathlib.Core.Path.{_≡_};
-ghost use Rattle.controls.specs.Answers.{packed};
+ghost use Rattle.request.specs.Answers.{packed};
 ghost use Rattle.controls.specs.Hdr.{hdrRefusal, hdrItem, hdrAt, hdrAnswer};
 
 // SET's value tests, and those of a setting held, where Auto is offered or not.

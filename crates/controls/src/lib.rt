@@ -2,15 +2,11 @@
 // plain numbers, one module each: limits, SET's value tests, the setting that a SET gives, and GET's answers. Document 01, "The five
 // controls"; 001 decides for metadata, HDR and throttle. `exposure` and `face` have the other two.
 // Nothing here knows of a camera: each function goes by its control's limits, the setting held and the payload.
-mod answers;
 pub mod hdr;
 pub mod metadata;
 mod settings;
 pub mod throttle;
 
-pub use answers::Answer;
-pub use answers::LONGEST;
-pub use answers::answer_by;
 pub use settings::EvSetting;
 pub use settings::Item;
 pub use settings::Number;

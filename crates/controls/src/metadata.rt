@@ -1,18 +1,18 @@
 // Metadata: four bytes, the size of the buffer that frame metadata goes to; 0 turns it off and the maximum on.
-use crate::answers::Answer;
-use crate::answers::answer_by;
 use crate::settings::Item;
 use crate::settings::Number;
 use crate::settings::Setting;
 use crate::settings::item_of;
 use crate::settings::number_or;
+use request::Answer;
+use request::answer_by;
 use wire::uvc::GET_CUR;
 use wire::uvc::GET_MAX;
 use wire::uvc::GET_RES;
 use wire::uvc::INVALID_VALUE;
 use wire::uvc::OUT_OF_RANGE;
 ghost use mathlib.Core.Path.{_≡_};
-ghost use Rattle.controls.specs.Answers.{packed};
+ghost use Rattle.request.specs.Answers.{packed};
 ghost use Rattle.controls.specs.Metadata.{metadataValid, metadataRefusal, metadataItem, metadataAt, metadataInfo, metadataAnswer};
 
 pub struct MetadataLimits {

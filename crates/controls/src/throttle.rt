@@ -1,9 +1,9 @@
 // Throttle: five numbers of four bytes, mode, percent, minimum, maximum and step; a SET's last three are not looked at.
-use crate::answers::Answer;
-use crate::answers::answer_by;
 use crate::settings::Item;
 use crate::settings::Setting;
 use crate::settings::item_of;
+use request::Answer;
+use request::answer_by;
 use wire::uvc::GET_CUR;
 use wire::uvc::GET_MAX;
 use wire::uvc::GET_MIN;
@@ -11,7 +11,7 @@ use wire::uvc::GET_RES;
 use wire::uvc::INVALID_VALUE;
 use wire::uvc::OUT_OF_RANGE;
 ghost use mathlib.Core.Path.{_≡_};
-ghost use Rattle.controls.specs.Answers.{packed};
+ghost use Rattle.request.specs.Answers.{packed};
 ghost use Rattle.controls.specs.Throttle.{divides, throttleValid, throttleRefusal, throttleItem, throttleAt, throttleBytes, throttleAnswer};
 
 pub struct ThrottleLimits {

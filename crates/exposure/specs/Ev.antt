@@ -17,7 +17,7 @@ use Rattle.exposure.specs.declared.ev.Ev.{Ev}
 use Rattle.exposure.specs.declared.ev.Ev.the-variants as E
 use Rattle.controls.specs.declared.settings.Item.{Item}
 use Rattle.controls.specs.declared.settings.Setting.the-variants as S
-use Rattle.controls.specs.Answers.{answerBy}
+use Rattle.request.specs.Answers.{answerBy}
 use Rattle.controls.specs.Settings.{itemOf}
 
 -- whole stops from -128..0 to 0..127; steps within D0..D4, D4 among them

@@ -1,9 +1,9 @@
 // Exposure compensation (EV): seven bytes of flags, of which one says the step, then a signed 32-bit value in such steps.
-use controls::Answer;
+use request::Answer;
 use controls::EvSetting;
 use controls::Item;
 use controls::Setting;
-use controls::answer_by;
+use request::answer_by;
 use wire::Choice;
 use wire::uvc::GET_CUR;
 use wire::uvc::GET_MAX;
@@ -13,7 +13,7 @@ use wire::uvc::INVALID_VALUE;
 use wire::uvc::OUT_OF_RANGE;
 ghost use mathlib.Core.Path.{_≡_};
 ghost use Rattle.exposure.specs.Ev.{evValid, signed32, bits32, divisor, inRange, evRefusal, evItem, evBytes, evAt, evAnswer, scaledOf, compensation};
-ghost use Rattle.controls.specs.Answers.{packed};
+ghost use Rattle.request.specs.Answers.{packed};
 
 // How many of the sensor's units make a stop: twelfths.
 pub const UNITS: u8 = 12;

@@ -13,7 +13,7 @@ use Rattle.wire.specs.Uvc.{getCur, getMax, getMin, getRes, invalidValue, outOfR
 use Rattle.face.specs.declared.face.FaceLimits.{FaceLimits}
 use Rattle.controls.specs.declared.settings.Item.{Item}
 use Rattle.controls.specs.declared.settings.Setting.the-variants as S
-use Rattle.controls.specs.Answers.{answerBy}
+use Rattle.request.specs.Answers.{answerBy}
 use Rattle.controls.specs.Settings.{itemOf}
 
 -- how many endpoints a profile may list, and so how many places it has

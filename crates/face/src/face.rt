@@ -1,9 +1,9 @@
 // Face authentication: a count n, then n entries of an endpoint's address and seven bytes of flags.
-use controls::Answer;
+use request::Answer;
 use controls::Item;
-use controls::LONGEST;
+use request::LONGEST;
 use controls::Setting;
-use controls::answer_by;
+use request::answer_by;
 use wire::Choice;
 use wire::uvc::GET_CUR;
 use wire::uvc::GET_MAX;
@@ -13,7 +13,7 @@ use wire::uvc::INVALID_VALUE;
 use wire::uvc::OUT_OF_RANGE;
 ghost use mathlib.Core.Path.{_≡_};
 ghost use Prim.Native.Nat.{_<_, _≤_};
-ghost use Rattle.controls.specs.Answers.{packed};
+ghost use Rattle.request.specs.Answers.{packed};
 ghost use Rattle.face.specs.Face.{endpointLimit, endpoints, addressBefore, endpointValid, faceValid, offersOf, takesFace, seenBefore, faceRefusal, faceItem, defaultOf, heldAt, flagsAt, entryOf, faceValue, faceAnswer};
 
 // How many endpoints a profile may list.

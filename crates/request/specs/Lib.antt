@@ -3,3 +3,4 @@ pub mod Setup
 pub mod Table
 pub mod Tests
 pub mod Reply
+pub mod Answers

@@ -1,7 +1,10 @@
--- What the leaves compute: parts of a slice, numbers in bytes, flags, bytes laid over others; ordered tables of refusals, and UVC's codes.
+-- What the leaves compute: parts of a slice, numbers in bytes, flags, bytes laid over others; ordered tables of refusals, and
+-- the numbers that several crates share.
 pub mod Parts
 pub mod Number
 pub mod Flags
 pub mod Overlay
 pub mod Rows
 pub mod Uvc
+pub mod Selectors
+pub mod Endpoints

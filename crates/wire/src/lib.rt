@@ -1,9 +1,11 @@
 // Bytes on the wire: parts of a slice, little-endian numbers in and out, flag words, and copying into a lent buffer.
 // All of document 01's formats are little-endian, and its flags are seven bytes of which one bit may be set.
 // Every function is total: past the end a byte is 0, a part is empty, and a copy stops.
+pub mod endpoints;
 mod flags;
 mod numbers;
 mod parts;
+pub mod selectors;
 pub mod uvc;
 mod writes;
 

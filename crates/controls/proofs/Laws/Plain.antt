@@ -21,7 +21,7 @@ use Rattle.controls.specs.Metadata.{metadataRefusal, metadataItem, metad
 use Rattle.controls.specs.Hdr.{hdrRefusal, hdrItem, hdrAt, hdrAnswer}
 use Rattle.controls.specs.Throttle.{divides, throttleRefusal, throttleItem, throttleAt, throttleBytes, throttleAnswer}
 use Rattle.wire.proofs.Laws.Bytes.{number-bytes, bytes-at, length-bytes}
-use Rattle.controls.proofs.Laws.Answers.{answer-length}
+use Rattle.request.proofs.Laws.Answers.{answer-length}
 use Rattle.controls.specs.declared.settings.Setting.the-variants as S
 
 -- a payload of one number reads back as it

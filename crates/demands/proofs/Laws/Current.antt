@@ -13,7 +13,7 @@ use Rattle.controls.specs.declared.settings.EvSetting.{EvSetting}
 use Rattle.controls.specs.declared.settings.Number.the-variants as N
 use Rattle.controls.specs.declared.throttle.Throttle.the-variants as T
 use Rattle.controls.specs.declared.throttle.ThrottleSetting.{ThrottleSetting}
-use Rattle.controls.specs.Answers.{answerBy}
+use Rattle.request.specs.Answers.{answerBy}
 use Rattle.controls.specs.Settings.{numberOr}
 use Rattle.exposure.specs.Ev.{evBytes, evCurrent, evAt, evAnswer}
 use Rattle.face.specs.Face.{endpoints, addressAt, entryOf, heldAt}

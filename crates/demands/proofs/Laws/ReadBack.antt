@@ -18,7 +18,7 @@ use Rattle.controls.specs.declared.settings.Item.the-variants.{Given}
 use Rattle.controls.specs.declared.settings.Setting.{Setting}
 use Rattle.controls.specs.declared.settings.Setting.the-variants as S
 use Rattle.face.specs.declared.face.FaceLimits.{FaceLimits}
-use Rattle.controls.specs.Answers.{answerBy}
+use Rattle.request.specs.Answers.{answerBy}
 use Rattle.controls.specs.Settings.{itemOf, numberOr, codeOf}
 use Rattle.exposure.specs.Ev.{evFlags, evValue, evItem, evCurrent, evAt, evAnswer}
 use Rattle.face.specs.Face.{endpoints, addressAt, offersAt, offersFrom, offersOf, takesFace, entryAddress, entryFlags, seenIn, seenBefore, faceItem, entryOf, heldAt, flagsAt, entriesOf, faceValue, faceAnswer}

@@ -26,7 +26,7 @@ use Rattle.controls.specs.Settings.{itemOf}
 use Rattle.exposure.specs.Ev.{evValid, signed32, bits32, divisor, inRange, refusalAt, evRefusal, evFlags, evValue, evItem, evBytes, evAt, evAnswer, unitsPerStop, scaledAt, scaledOf}
 use Rattle.exposure.proofs.Laws.Signed.{mag-mul, between, bits-below, signed-bits, bits-signed}
 use Rattle.wire.proofs.Laws.Bytes.{number-bytes, bytes-at, first-part, second-part}
-use Rattle.controls.proofs.Laws.Answers.{answer-length}
+use Rattle.request.proofs.Laws.Answers.{answer-length}
 
 -- between 1 and 6 steps make a stop
 pub divisor-pos : (place : ℕ) → 0 < divisor place

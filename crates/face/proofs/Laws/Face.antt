@@ -18,12 +18,12 @@ use Rattle.face.specs.declared.face.FaceLimits.{FaceLimits}
 use Rattle.controls.specs.declared.settings.Item.the-variants.{Refused, Given}
 use Rattle.controls.specs.declared.settings.Setting.the-variants as S
 use Rattle.controls.specs.Settings.{itemOf}
-use Rattle.controls.specs.Answers.{answerBy}
+use Rattle.request.specs.Answers.{answerBy}
 use Rattle.face.specs.Face.{endpointLimit, endpoints, addressAt, offersAt, allBelow, offersValid, addressBefore, endpointValid, faceValid, offersFrom, offersOf, takesFace, entryAddress, entryFlags, seenIn, seenBefore, isChoice, faceRefusal, entryRefusal, faceItem, entryOf, heldAt, flagsAt, entriesOf, faceValue, faceAnswer}
 use Rattle.wire.proofs.Laws.Bytes.{number-bytes, bytes-byte}
 use Rattle.controls.proofs.Laws.Settings.{given-is}
-use Rattle.controls.proofs.Laws.Answers.{answer-len, answer-length}
-use Rattle.controls.proofs.Laws.Packed.{blank}
+use Rattle.request.proofs.Laws.Answers.{answer-len, answer-length}
+use Rattle.request.proofs.Laws.Packed.{blank}
 
 -- a place behind the first comes after the one before it
 pub before-next : (l : FaceLimits) (i : ℕ) → (i ≡ 0 → ⊥) → addressAt l (i - 1) ≡ addressBefore l i

@@ -2,7 +2,7 @@ use mathlib.Core.Path.{ap, _∙_}
 use mathlib.Core.List.{List}
 use Prim.Native.Nat.{ℕ}
 use borrow.Author.Needs.{needs}
-use Rattle.controls.specs.Answers.{packed, answerBy}
+use Rattle.request.specs.Answers.{packed, answerBy}
 use Rattle.exposure.specs.Ev.{evBytes, evAnswer}
 use Rattle.exposure.proofs.ev.answer.Statement.{statement}
 use Rattle.exposure.proofs.ev.answer.Tie as tie

@@ -2,9 +2,9 @@ use mathlib.Core.Path.{ap₂, _∙_}
 use mathlib.Core.List.{List}
 use Prim.Native.Nat.{ℕ, _+_, _*_}
 use borrow.Author.Needs.{needs}
-use Rattle.controls.specs.Answers.{answerBy, packed}
+use Rattle.request.specs.Answers.{answerBy, packed}
 use Rattle.face.specs.Face.{faceAnswer, faceValue}
-use Rattle.controls.proofs.Laws.Packed.{unpack-room, unpack, unpack-length}
+use Rattle.request.proofs.Laws.Packed.{unpack-room, unpack, unpack-length}
 use Rattle.face.proofs.Laws.Face.{value-length}
 use Rattle.face.proofs.face.answer.Statement.{statement}
 use Rattle.face.proofs.face.answer.Tie as tie

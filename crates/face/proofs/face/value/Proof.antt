@@ -6,9 +6,9 @@ use lib.ListN.{length}
 use borrow.Author.Needs.{needs}
 use Rattle.wire.specs.Overlay.{overlay}
 use Rattle.wire.proofs.Laws.Overlay.{same-length}
-use Rattle.controls.specs.Answers.{packed}
+use Rattle.request.specs.Answers.{packed}
 use Rattle.face.specs.Face.{addressAt, entryOf, flagsAt, entriesOf, faceValue}
-use Rattle.controls.proofs.Laws.Packed.{blank, pack-is}
+use Rattle.request.proofs.Laws.Packed.{blank, pack-is}
 use Rattle.face.proofs.Laws.Face.{length-entries, entries-next}
 use Rattle.face.proofs.face.value.Statement.{statement}
 use Rattle.face.proofs.face.value.Tie as tie

@@ -4,7 +4,7 @@ use Prim.Native.Nat.{ℕ, _≤_}
 use lib.ListN.{length, take}
 use Rattle.request.specs.declared.reply.Sent.{Sent}
 use Rattle.request.specs.Reply.{sentOf, replyOf}
-use Rattle.controls.proofs.Laws.Packed.{unpack, unpack-room, unpack-length}
+use Rattle.request.proofs.Laws.Packed.{unpack, unpack-room, unpack-length}
 use Rattle.camera.specs.Requests.{answerOf, asked}
 use Rattle.camera.specs.Steps.{getDone}
 use Rattle.camera.proofs.Laws.Requests.{answer-fits}

@@ -1,21 +1,22 @@
 -- Document 01, "The five controls": LEN answers two bytes and INFO one; the other answers are the control's.
-use Prim.Native.Nat.{ℕ, min}
+use Prim.Native.Nat.{ℕ, _+_, _*_, min}
 use mathlib.Core.List.{List, [], _∷_}
 use mathlib.Core.Bool.{cond}
 use lib.Dec.{eqb}
 use lib.ListN.{length, replicate}
 use Rattle.wire.specs.Number.{bytesOf}
 use Rattle.wire.specs.Overlay.{overlay}
+use Rattle.wire.specs.Endpoints.{endpointLimit}
 use Rattle.wire.specs.Uvc.{getInfo, getLen}
-use Rattle.controls.specs.declared.answers.Answer.{Answer}
+use Rattle.request.specs.declared.answers.Answer.{Answer}
 
 -- the answer of a control to a GET's code, where `value` answers CUR, MIN, MAX, RES and DEF
 unfoldable pub answerBy : (code len info : ℕ) → List ℕ → List ℕ
 answerBy code len info value = cond (eqb code getLen) (bytesOf 2 len) (cond (eqb code getInfo) (info ∷ []) value)
 
--- the longest answer: a count and an entry of eight bytes for each of eight endpoints
+-- the longest answer: a count and an entry of eight bytes for each endpoint that a profile may list
 abbrev pub longest : ℕ
-longest = 65
+longest = 1 + 8 * endpointLimit
 
 -- an answer as the code hands it on: its bytes with zeros behind them, and its length
 unfoldable pub packed : List ℕ → Answer

@@ -1,9 +1,9 @@
 use mathlib.Core.Path.{ap, sym, _∙_}
 use borrow.Author.Needs.{needs}
-use Rattle.controls.specs.Answers.{packed}
-use Rattle.controls.proofs.Laws.Answers.{answer-len, answer-info, answer-value}
-use Rattle.controls.proofs.answers.answer_by.Statement.{statement}
-use Rattle.controls.proofs.answers.answer_by.Tie as tie
+use Rattle.request.specs.Answers.{packed}
+use Rattle.request.proofs.Laws.Answers.{answer-len, answer-info, answer-value}
+use Rattle.request.proofs.answers.answer_by.Statement.{statement}
+use Rattle.request.proofs.answers.answer_by.Tie as tie
 
 bytes16-requires : tie.Need-bytes16-requires
 bytes16-requires c κs = search needs

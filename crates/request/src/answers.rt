@@ -1,11 +1,12 @@
 // A GET's full answer, before it is cut to wLength.
+use wire::endpoints::LIMIT;
 use wire::uvc::GET_INFO;
 use wire::uvc::GET_LEN;
 ghost use mathlib.Core.Path.{_≡_};
-ghost use Rattle.controls.specs.Answers.{packed, answerBy};
+ghost use Rattle.request.specs.Answers.{packed, answerBy};
 
-// The longest answer: a count and an entry of eight bytes for each of eight endpoints.
-pub const LONGEST: usize = 65;
+// The longest answer: a count and an entry of eight bytes for each endpoint that a profile may list.
+pub const LONGEST: usize = 1 + 8 * LIMIT;
 
 // The first len bytes are the answer, the others 0.
 pub struct Answer {

@@ -2,10 +2,10 @@ use mathlib.Core.Path.{ap₂}
 use mathlib.Core.List.{List}
 use Prim.Native.Nat.{ℕ}
 use borrow.Author.Needs.{needs}
-use Rattle.controls.specs.declared.answers.Answer.{Answer}
-use Rattle.controls.specs.Answers.{packed}
-use Rattle.controls.proofs.answers.pack.Statement.{statement}
-use Rattle.controls.proofs.answers.pack.Tie as tie
+use Rattle.request.specs.declared.answers.Answer.{Answer}
+use Rattle.request.specs.Answers.{packed}
+use Rattle.request.proofs.answers.pack.Statement.{statement}
+use Rattle.request.proofs.answers.pack.Tie as tie
 
 slice-aggregate-copy : tie.Need-slice-aggregate-copy
 slice-aggregate-copy c = search needs

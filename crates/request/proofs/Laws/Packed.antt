@@ -7,8 +7,8 @@ use lib.ListN.{length, take, replicate}
 use lib.Seq.{length-take-le}
 use Rattle.wire.specs.Overlay.{overlay}
 use Rattle.wire.proofs.Laws.Overlay.{front, same-length}
-use Rattle.controls.specs.declared.answers.Answer.{Answer}
-use Rattle.controls.specs.Answers.{packed}
+use Rattle.request.specs.declared.answers.Answer.{Answer}
+use Rattle.request.specs.Answers.{packed}
 
 -- the empty answer that an answer is laid over
 abbrev pub blank : List ℕ
