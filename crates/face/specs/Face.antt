@@ -3,7 +3,10 @@ use Prim.Native.Nat.{ℕ, zero, suc, _+_, _*_, _-_, _/_, _%_, min}
 use mathlib.Core.List.{List, [], _∷_, _++_}
 use mathlib.Core.Bool.{Bool, true, false, cond, not, _&&_, _||_}
 use lib.Dec.{leb, ltb, eqb}
-use lib.ListN.{getD}
+use lib.ListN.{getD, set}
+use Rattle.wire.specs.Endpoints.{firstAddress, places}
+use Rattle.controls.specs.Settings.{firstRefusal}
+use Rattle.face.specs.declared.face.Taken.{Taken}
 use Rattle.wire.specs.Number.{leAt, bytesOf}
 use Rattle.wire.specs.Flags.{choiceOf}
 use Rattle.wire.specs.Rows.{_⇒_, firstOf}
@@ -137,3 +140,32 @@ faceValue l held code = cond (eqb code getMin || eqb code getRes) (0 ∷ []) (en
 
 unfoldable pub faceAnswer : FaceLimits → List ℕ → ℕ → List ℕ
 faceAnswer l held code = answerBy code (1 + 8 * endpoints l) 0x03 (faceValue l held code)
+
+-- SET's value tests of one setting: the address is listed, and exactly one flag is set that its endpoint offers
+unfoldable pub settingRefusal : FaceLimits → ℕ → ℕ → ℕ
+settingRefusal l address flags =
+    let offers = offersOf l address in
+    firstOf ((eqb offers 0 ⇒ outOfRange) ∷ (not (isChoice (choiceOf offers flags)) ⇒ invalidValue) ∷ [])
+
+-- settings with one more; an address outside 0x81..0x8F has no place
+unfoldable pub putFace : List ℕ → ℕ → ℕ → List ℕ
+putFace held address flags = cond (leb firstAddress address) (set held (address - firstAddress) flags) held
+
+-- the setting held at place i, if any, keeps its rules; of an absent control none does
+unfoldable pub faceKept : Bool → FaceLimits → List ℕ → ℕ → Bool
+faceKept present l held i = let flags = getD held i 0 in eqb flags 0 || (present && eqb (settingRefusal l (firstAddress + i) flags) 0)
+
+unfoldable pub facesKept : Bool → FaceLimits → List ℕ → Bool
+facesKept present l held = allBelow places (faceKept present l held)
+
+-- settings with the first n entries of a payload taken, one after the other
+unfoldable pub entriesPut : List ℕ → List ℕ → ℕ → List ℕ
+entriesPut held payload zero = held
+entriesPut held payload (suc n) = putFace (entriesPut held payload n) (entryAddress payload n) (entryFlags payload n)
+
+-- what a SET's payload comes to: the first refusal of its entries, or 0 and the settings with all of them
+unfoldable pub facesTaken : FaceLimits → List ℕ → List ℕ → Taken
+facesTaken l held payload =
+    let n = getD payload 0 0 in
+    let code = firstRefusal n 0 (faceItem l payload) in
+    record { code = code; held = cond (eqb code 0) (entriesPut held payload n) held }

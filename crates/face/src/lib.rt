@@ -11,3 +11,7 @@ pub use face::offers_of;
 pub use face::refusal;
 pub use face::takes;
 pub use face::valid;
+pub use face::Taken;
+pub use face::kept;
+pub use face::put;
+pub use face::take;

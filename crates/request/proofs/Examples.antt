@@ -1,9 +1,10 @@
--- A few requests to a unit, computed from the definitions: unit 4 on interface 0, with selectors 9 and 13 of which 13 takes a SET of
--- four bytes.
+-- A few requests to a unit, computed from the definitions: unit 4 on interface 0, with selectors 9 and 13, where a SET of
+-- 13 has four bytes and 9 takes none.
 use mathlib.Core.Path.{_≡_, refl}
 use mathlib.Core.List.{List, [], _∷_}
 use mathlib.Core.Bool.{true}
 use Prim.Native.Nat.{ℕ}
+use lib.Dec.{eqb}
 use Rattle.wire.specs.Number.{number, leAt}
 use Rattle.wire.specs.Flags.{isSet}
 use Rattle.wire.specs.Rows.{firstOf}
@@ -11,11 +12,11 @@ use Rattle.request.specs.Setup.{selectorOf, wLengthOf, isSetRequest}
 use Rattle.request.specs.Table.{Table, tableOf}
 use Rattle.request.specs.Tests.{requestTests}
 
-abbrev table : Table
-table = tableOf (record { unit = 4; interface = 0; present = 0x1100; settable = 0x1000 }) 4
+abbrev table : ℕ → Table
+table selector = tableOf (record { unit = 4; interface = 0; present = 0x1100 }) (record { settable = eqb selector 0x0D; takes = 4 })
 
 abbrev verdict : List ℕ → List ℕ → ℕ
-verdict setup payload = firstOf (requestTests table setup payload)
+verdict setup payload = firstOf (requestTests (table (selectorOf setup)) setup payload)
 
 -- SET_CUR of selector 13, as the bench camera's row for HDR has it
 abbrev set : List ℕ

@@ -1,32 +1,82 @@
--- Tests 2 to 6 of a request, in order, over a table of controls.
+-- The nine tests of a request, in order, over a table of controls: row n of the table is test n.
 use Prim.Native.Nat.{ℕ}
-use mathlib.Core.List.{List, [], _∷_}
+use mathlib.Core.List.{List, [], _∷_, _++_}
+use mathlib.Core.Option.{Option}
 use mathlib.Core.Bool.{Bool, cond, not, _&&_}
-use lib.Dec.{eqb}
+use lib.Dec.{eqb, ltb}
 use lib.ListN.{length}
-use Rattle.wire.specs.Rows.{Row, _⇒_}
-use Rattle.wire.specs.Uvc.{invalidControl, invalidRequest, invalidUnit, unknown}
-use Rattle.request.specs.Setup.{valueLow, selectorOf, interfaceOf, unitOf, wLengthOf, isSetRequest, isGetRequest}
+use Rattle.wire.specs.Rows.{Row, _⇒_, answers, firstOf, firstFrom}
+use Rattle.wire.specs.Uvc.{setCur, invalidControl, invalidRequest, invalidUnit, malformedRecord, noRoom, unknown}
+use Rattle.request.specs.Setup.{valueLow, selectorOf, codeOf, interfaceOf, unitOf, wLengthOf, isSetRequest, isGetRequest}
 use Rattle.request.specs.Table.{Table}
+use Rattle.request.specs.Answers.{answerBy}
+use Rattle.request.specs.Reply.{countOf}
 
 -- test 3: wIndex's high byte is the unit, and its low byte the interface
-abbrev pub addressed : Table → List ℕ → Bool
-addressed t setup = eqb (unitOf setup) (t .unit) && eqb (interfaceOf setup) (t .interface)
+abbrev pub addressed : (unit interface : ℕ) → List ℕ → Bool
+addressed unit interface setup = eqb (unitOf setup) unit && eqb (interfaceOf setup) interface
 
--- test 5: wValue's low byte is 0, and type and code are a SET that the control takes or a GET
-abbrev pub understood : Table → List ℕ → Bool
-understood t setup = eqb (valueLow setup) 0 && cond (isSetRequest setup) (t .settable (selectorOf setup)) (isGetRequest setup)
+-- test 5: wValue's low byte is 0, and type and code are a SET, which the control takes, or a GET
+abbrev pub understood : (settable : Bool) → List ℕ → Bool
+understood settable setup = eqb (valueLow setup) 0 && cond (isSetRequest setup) settable (isGetRequest setup)
 
--- test 6: a GET's payload is empty; a SET's has wLength bytes and the control's length, which is `takes`
-abbrev pub sized : ℕ → List ℕ → List ℕ → Bool
+-- test 6: a GET's payload is empty; a SET's has wLength bytes and the control's length
+abbrev pub sized : (takes : ℕ) → List ℕ → List ℕ → Bool
 sized takes setup payload =
     cond (isSetRequest setup) (eqb (length payload) (wLengthOf setup) && eqb (length payload) takes) (eqb (length payload) 0)
 
+-- tests 2 to 6
 unfoldable pub requestTests : Table → List ℕ → List ℕ → List Row
 requestTests t setup payload =
     (not (eqb (length setup) 8) ⇒ unknown)
-    ∷ (not (addressed t setup) ⇒ invalidUnit)
+    ∷ (not (addressed (t .unit) (t .interface) setup) ⇒ invalidUnit)
     ∷ (not (t .present (selectorOf setup)) ⇒ invalidControl)
-    ∷ (not (understood t setup) ⇒ invalidRequest)
+    ∷ (not (understood (t .settable (selectorOf setup)) setup) ⇒ invalidRequest)
     ∷ (not (sized (t .takes (selectorOf setup) payload) setup payload) ⇒ unknown)
     ∷ []
+
+-- tests 7 and 8; a GET has no values
+unfoldable pub valueTests : Table → List ℕ → List ℕ → List Row
+valueTests t setup payload =
+    answers (t .state (selectorOf setup) (codeOf setup))
+    ∷ answers (cond (isSetRequest setup) (t .values (selectorOf setup) payload) 0)
+    ∷ []
+
+-- the full answer to a GET, and how much of it is sent
+unfoldable pub answerOf : Table → ℕ → ℕ → List ℕ
+answerOf t selector code = answerBy code (t .len selector) (t .info selector) (t .value selector code)
+
+abbrev pub asked : Table → List ℕ → List ℕ
+asked t setup = answerOf t (selectorOf setup) (codeOf setup)
+
+abbrev pub sentCount : Table → List ℕ → ℕ
+sentCount t setup = countOf (asked t setup) (wLengthOf setup)
+
+-- all nine; `room` is the length of the reply buffer
+unfoldable pub requestRows : Table → List ℕ → List ℕ → ℕ → List Row
+requestRows t setup payload room =
+    (not (t .formed) ⇒ malformedRecord)
+    ∷ requestTests t setup payload
+    ++ valueTests t setup payload
+    ++ (not (isSetRequest setup) && ltb room (sentCount t setup) ⇒ noRoom)
+    ∷ []
+
+-- the number that answers, and the number of the test that gave it
+unfoldable pub requestCode : Table → List ℕ → List ℕ → ℕ → ℕ
+requestCode t setup payload room = firstOf (requestRows t setup payload room)
+
+unfoldable pub testNumber : Table → List ℕ → List ℕ → ℕ → Option ℕ
+testNumber t setup payload room = firstFrom 1 (requestRows t setup payload room)
+
+-- a SET that tests 2 to 8 accept
+unfoldable pub setAccepted : Table → List ℕ → List ℕ → Bool
+setAccepted t setup payload = isSetRequest setup && eqb (firstOf (requestTests t setup payload ++ valueTests t setup payload)) 0
+
+-- a SET of a selector before its payload is looked at: tests 4, 5 and 7
+unfoldable pub controlRefusal : Table → ℕ → ℕ
+controlRefusal t selector =
+    firstOf
+    ((not (t .present selector) ⇒ invalidControl)
+    ∷ (not (t .settable selector) ⇒ invalidRequest)
+    ∷ answers (t .state selector setCur)
+    ∷ [])

@@ -1,6 +1,7 @@
-// Class requests to an extension unit, whatever its controls: the eight setup bytes, document 01's tests 2 to 6 over a
-// table of controls, and how a GET's answer is cut to wLength and sent. USB Video Class 1.5 gives the request codes.
-// Test 1 and tests 7 to 9 belong to the unit that uses this crate.
+// Class requests to an extension unit, whatever its controls: the eight setup bytes, document 01's nine tests, a GET's
+// answer, and how it is cut to wLength and sent. USB Video Class 1.5 gives the request codes.
+// The definitions have all nine tests over a table of controls. The code has tests 2 to 6 and, in `send`, test 9; a unit's
+// record, state and values, tests 1, 7 and 8, are its own.
 mod answers;
 mod reply;
 mod setup;
@@ -15,6 +16,7 @@ pub use setup::code;
 pub use setup::is_set_request;
 pub use setup::selector;
 pub use setup::wlength;
+pub use tests::Control;
 pub use tests::Unit;
 pub use tests::has_control;
 pub use tests::refusal;

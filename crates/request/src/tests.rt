@@ -12,13 +12,17 @@ ghost use Rattle.wire.specs.Rows.{firstOf};
 ghost use Rattle.request.specs.Table.{hasControl, tableOf};
 ghost use Rattle.request.specs.Tests.{requestTests, addressed, understood, sized};
 
-// A unit's controls as numbers: bit s - 1 of `present` says that the control of selector s is there, and that of
-// `settable` that it takes a SET.
+// A unit: bit s - 1 of `present` says that the control of selector s is there.
 pub struct Unit {
     pub unit: u8,
     pub interface: u8,
     pub present: u32,
-    pub settable: u32,
+}
+
+// The control that a setup selects: whether it takes a SET, and the length that a SET of the payload at hand must have.
+pub struct Control {
+    pub settable: bool,
+    pub takes: usize,
 }
 
 // Whether the bit of a selector is set.
@@ -33,20 +37,20 @@ pub fn has_control(bits: u32, selector: u8) -> bool
 
 // wIndex names the unit in its high byte and the interface in its low one.
 fn is_addressed(u: Unit, setup: &[u8]) -> bool
-    ensures { λ r. ⌜ r ≡ addressed (tableOf u 0) (now (setup .entry)) ⌝ }
+    ensures { λ r. ⌜ r ≡ addressed (u .unit) (u .interface) (now (setup .entry)) ⌝ }
 {
     (wire::byte(setup, 5) == u.unit) & (wire::byte(setup, 4) == u.interface)
 }
 
 // A request that the control takes.
-fn is_understood(u: Unit, setup: &[u8]) -> bool
-    ensures { λ r. ⌜ r ≡ understood (tableOf u 0) (now (setup .entry)) ⌝ }
+fn is_understood(settable: bool, setup: &[u8]) -> bool
+    ensures { λ r. ⌜ r ≡ understood settable (now (setup .entry)) ⌝ }
 {
     if wire::byte(setup, 2) != 0 {
         return false;
     }
     if is_set_request(setup) {
-        return has_control(u.settable, selector(setup));
+        return settable;
     }
     is_get_request(setup)
 }
@@ -61,9 +65,9 @@ fn is_sized(takes: usize, setup: &[u8], payload: &[u8]) -> bool
     payload.len() == 0
 }
 
-// The number of the first of tests 2 to 6 that fails, or 0. `takes` is the length that a SET of this payload must have.
-pub fn refusal(u: Unit, takes: usize, setup: &[u8], payload: &[u8]) -> u8
-    ensures { λ r. ⌜ r ≡ firstOf (requestTests (tableOf u takes) (now (setup .entry)) (now (payload .entry))) ⌝ }
+// The number of the first of tests 2 to 6 that fails, or 0.
+pub fn refusal(u: Unit, c: Control, setup: &[u8], payload: &[u8]) -> u8
+    ensures { λ r. ⌜ r ≡ firstOf (requestTests (tableOf u c) (now (setup .entry)) (now (payload .entry))) ⌝ }
 {
     if setup.len() != 8 {
         return UNKNOWN;
@@ -74,10 +78,10 @@ pub fn refusal(u: Unit, takes: usize, setup: &[u8], payload: &[u8]) -> u8
     if !has_control(u.present, selector(setup)) {
         return INVALID_CONTROL;
     }
-    if !is_understood(u, setup) {
+    if !is_understood(c.settable, setup) {
         return INVALID_REQUEST;
     }
-    if !is_sized(takes, setup, payload) {
+    if !is_sized(c.takes, setup, payload) {
         return UNKNOWN;
     }
     0

@@ -5,12 +5,17 @@ use mathlib.Core.List.{List, [], _∷_}
 use lib.ListN.{length, getD, take, drop}
 use lib.Dec.{leb, ltb, eqb}
 use Rattle.wire.specs.Number.{leAt}
+use Rattle.wire.specs.Endpoints.{places}
 use Rattle.wire.specs.Rows.{allOf}
 use Rattle.wire.specs.Uvc.{malformedSnapshot}
 
 -- The kinds: 0x03 exposure compensation (EV), 0x06 face authentication, 0x09 metadata, 0x0D HDR, 0x0E throttle.
 -- A key is a kind, of face authentication with an address. The 19 keys are numbered by kind, then address: 0 is EV, 1 to 15 are face
 -- authentication at 0x81 to 0x8F, 16 is metadata, 17 HDR, 18 throttle.
+
+-- how many keys there are; as a key, none
+abbrev pub keys : ℕ
+keys = 4 + places
 
 -- the length of a whole record of a kind; 0 where the kind is unknown
 abbrev pub lengthOf : ℕ → ℕ

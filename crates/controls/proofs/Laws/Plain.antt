@@ -1,15 +1,17 @@
 -- The controls whose payloads are numbers of four bytes: metadata, HDR and throttle. Assumes nothing.
 use mathlib.Core.Path.{_≡_, refl, _∙_}
-use mathlib.Core.List.{List}
-use mathlib.Core.Bool.{Bool, true, false, true≢false, not, _||_}
+use mathlib.Core.List.{List, [], _∷_}
+use mathlib.Core.Bool.{Bool, true, false, true≢false, not, _&&_, _||_}
 use Prim.Native.Nat.{ℕ, _^_, _<_, _≤_}
 use native.Mathlib.Omega.{arith}
-use lib.Dec.{lit≤, ltb}
+use lib.Dec.{lit≤, ltb, eqb}
 use lib.ListN.{length}
 use lib.Seq.{take-all}
 use borrow.Author.Tests.{ltb-false}
 use Rattle.wire.specs.Number.{leAt, bytesOf}
-use Rattle.wire.proofs.Laws.Rows.{passes}
+use Rattle.wire.specs.Rows.{_⇒_}
+use Rattle.wire.specs.Uvc.{invalidValue, outOfRange}
+use Rattle.wire.proofs.Laws.Rows.{quiet}
 use Rattle.wire.proofs.Laws.Numbers.{Bytes}
 use Rattle.controls.specs.declared.metadata.MetadataLimits.{MetadataLimits}
 use Rattle.controls.specs.declared.throttle.ThrottleLimits.{ThrottleLimits}
@@ -67,18 +69,17 @@ neither false b h = (refl, h)
 -- what is accepted lies within the limits
 pub metadata-within : (l : MetadataLimits) (n : ℕ) → metadataRefusal l n ≡ 0 → n ≤ l .maximum
 unfolding metadataRefusal
-metadata-within l n h = ltb-false (l .maximum) n (passes (ltb (l .maximum) n) 4 _ (λ z. omega arith) h .0)
+metadata-within l n h = ltb-false (l .maximum) n (quiet ((_ ⇒ outOfRange) ∷ (not (eqb n 0 || eqb n (l .maximum)) ⇒ invalidValue) ∷ []) [] refl h .0 .0)
 
 pub hdr-within : (auto : Bool) (n : ℕ) → hdrRefusal auto n ≡ 0 → n ≤ 2
 unfolding hdrRefusal
-hdr-within auto n h = ltb-false 2 n (passes (ltb 2 n) 4 _ (λ z. omega arith) h .0)
+hdr-within auto n h = ltb-false 2 n (quiet ((_ ⇒ outOfRange) ∷ (eqb n 2 && not auto ⇒ invalidValue) ∷ []) [] refl h .0 .0)
 
 pub throttle-within : (l : ThrottleLimits) (mode percent : ℕ) → throttleRefusal l mode percent ≡ 0 → (mode ≤ 1) × (percent ≤ l .maximum)
 unfolding throttleRefusal
 throttle-within l mode percent h =
-    let p = passes (ltb percent (l .minimum) || ltb (l .maximum) percent) 4 _ (λ z. omega arith) h in
-    let q = passes (ltb 1 mode || not (divides (l .step) percent)) 8 _ (λ z. omega arith) (p .1) in
-    (ltb-false 1 mode (neither (ltb 1 mode) _ (q .0) .0), ltb-false (l .maximum) percent (neither (ltb percent (l .minimum)) _ (p .0) .1))
+    let q = quiet ((_ ⇒ outOfRange) ∷ (_ ⇒ invalidValue) ∷ []) [] refl h .0 in
+    (ltb-false 1 mode (neither (ltb 1 mode) _ (q .1 .0) .0), ltb-false (l .maximum) percent (neither (ltb percent (l .minimum)) _ (q .0) .1))
 
 -- every answer has room
 module _ (code : ℕ) where

@@ -12,16 +12,13 @@ use Rattle.descriptors.specs.declared.header.Parent.the-variants.{Set, C
 use Rattle.descriptors.specs.declared.header.Descriptor.{Descriptor}
 use Rattle.descriptors.specs.declared.header.Descriptor.the-variants.{Refused, Opaque, Property, Subset}
 use Rattle.descriptors.specs.Codes.{pastParent, badType, badLength, badField}
-use Rattle.wire.specs.Rows.{allOf}
+use Rattle.wire.specs.Rows.{_⇒_, allOf}
+use Rattle.wire.proofs.Laws.Rows.{quiet}
 use Rattle.descriptors.specs.Header.{lengthAt, typeAt, reservedAt, totalAt, kindAt, nameLengthAt, nameEndAt, dataLengthAt, isSubset, isProperty, allowed, propertyTests, goodFields, goodProperty, propertyRefusal, subsetRefusal, refusal, inner, descriptorAt}
 use Rattle.descriptors.specs.Reading.{sizeOf}
 use Rattle.descriptors.proofs.Laws.Rows.{in-set, in-configuration, in-function}
 
--- a row that did not answer, and one that did
-passes : (b : Bool) (c r : ℕ) → cond b c r ≡ 0 → (c ≡ 0 → ⊥) → (b ≡ false) × (r ≡ 0)
-passes true c r e n = absurd (n e)
-passes false c r e n = (refl, e)
-
+-- a row that was asked
 answers : (b : Bool) (c r : ℕ) → cond b c r ≡ 0 → b ≡ true → c ≡ 0
 answers true c r e t = e
 answers false c r e t = absurd (false≢true t)
@@ -84,28 +81,23 @@ module _ (s : List ℕ) (p : Parent) (at end : ℕ) (e : refusal s p at end ≡ 
       × (cond (isSubset (typeAt s at)) (subsetRefusal (end - at) (lengthAt s at) (totalAt s at) (reservedAt s at)) (cond (isProperty (typeAt s at)) (propertyRefusal s at) 0) ≡ 0)
   unfolding refusal
   four =
-      let a = passes (ltb (end - at) 4) pastParent _ e (omega arith) in
-      let b = passes (ltb (end - at) (lengthAt s at)) pastParent _ (a .1) (omega arith) in
-      let c = passes (ltb (lengthAt s at) 4) badLength _ (b .1) (omega arith) in
-      let d = passes (not (allowed p (typeAt s at))) badType _ (c .1) (omega arith) in
-      (ltb-false _ _ (a .0), ltb-false _ _ (b .0), ltb-false _ _ (c .0), not-false _ (d .0), d .1)
+      let r = quiet ((_ ⇒ pastParent) ∷ (_ ⇒ pastParent) ∷ (_ ⇒ badLength) ∷ (_ ⇒ badType) ∷ []) ((isSubset (typeAt s at) ⇒ subsetRefusal (end - at) (lengthAt s at) (totalAt s at) (reservedAt s at)) ∷ (isProperty (typeAt s at) ⇒ propertyRefusal s at) ∷ []) refl e in
+      let q = r .0 in
+      (ltb-false _ _ (q .0), ltb-false _ _ (q .1 .0), ltb-false _ _ (q .1 .1 .0), not-false _ (q .1 .1 .1 .0), r .1)
 
   subset-whole : isSubset (typeAt s at) ≡ true → (8 ≤ totalAt s at) × (totalAt s at ≤ end - at)
   unfolding subsetRefusal
   subset-whole t =
       let r = answers (isSubset (typeAt s at)) (subsetRefusal (end - at) (lengthAt s at) (totalAt s at) (reservedAt s at)) _ (four .4) t in
-      let g = passes (not (eqb (lengthAt s at) 8)) badLength _ r (omega arith) in
-      let h = passes (ltb (end - at) (totalAt s at)) pastParent _ (g .1) (omega arith) in
-      let i = passes (ltb (totalAt s at) 8) badLength _ (h .1) (omega arith) in
-      (ltb-false _ _ (i .0), ltb-false _ _ (h .0))
+      let q = quiet ((not (eqb (lengthAt s at) 8) ⇒ badLength) ∷ (_ ⇒ pastParent) ∷ (_ ⇒ badLength) ∷ (not (eqb (reservedAt s at) 0) ⇒ badField) ∷ []) [] refl r .0 in
+      (ltb-false _ _ (q .1 .1 .0), ltb-false _ _ (q .1 .0))
 
   property-whole : isSubset (typeAt s at) ≡ false → isProperty (typeAt s at) ≡ true → (12 ≤ lengthAt s at) × (goodProperty s at ≡ true)
   unfolding propertyRefusal
   property-whole u t =
       let r : propertyRefusal s at ≡ 0 = simp (u, t) at (four .4) in
-      let g = passes (ltb (lengthAt s at) 12) badLength _ r (omega arith) in
-      let h = passes (not (goodProperty s at)) badField _ (g .1) (omega arith) in
-      (ltb-false _ _ (g .0), not-false _ (h .0))
+      let q = quiet ((_ ⇒ badLength) ∷ (_ ⇒ badField) ∷ []) [] refl r .0 in
+      (ltb-false _ _ (q .0), not-false _ (q .1 .0))
 
 pub sum-holds : (s : List ℕ) (at : ℕ) → goodProperty s at ≡ true → lengthAt s at ≡ 10 + nameLengthAt s at + dataLengthAt s at
 unfolding goodFields

@@ -1,7 +1,7 @@
 -- Laws of appending: which row of its table answers, what acceptance says, and the bytes written in turn. Assumes nothing.
 use Prim.Native.Nat.{ℕ, _+_, _≤_, _<_}
 use mathlib.Core.Path.{_≡_, refl, sym, ap, ap₂, _∙_}
-use mathlib.Core.List.{List, _++_, append-assoc}
+use mathlib.Core.List.{List, [], _∷_, _++_, append-assoc}
 use mathlib.Core.Bool.{Bool, true, false, not, cond}
 use native.Mathlib.Omega.{arith}
 use lib.ListN.{length, take, drop, length-append, length-take}
@@ -14,7 +14,10 @@ use Rattle.wire.proofs.Laws.Overlay.{fits, same-length}
 use Rattle.frame.specs.declared.writer.Appended.{Appended}
 use Rattle.frame.specs.Ids.{isKnown}
 use Rattle.frame.specs.Writer.{itemBytes, endOf, appendRefusal, appendedOf, writtenOf}
-use Rattle.wire.proofs.Laws.Rows.{passes}
+use Rattle.wire.specs.Rows.{_⇒_}
+use Rattle.wire.specs.Uvc.{noRoom}
+use Rattle.frame.specs.Codes.{unknownId, tooLong}
+use Rattle.wire.proofs.Laws.Rows.{quiet}
 
 module _ (room at id len : ℕ) where
   pub id-unknown : isKnown id ≡ false → 0x41 ≡ appendRefusal room at id len
@@ -42,10 +45,8 @@ module _ (room at id len : ℕ) where
   pub accepted : appendRefusal room at id len ≡ 0 → Fits
   unfolding appendRefusal
   accepted e =
-      let a = passes (not (isKnown id)) 0x41 _ (omega arith) e in
-      let b = passes (ltb 65535 (endOf at len)) 0x43 _ (omega arith) (a .1) in
-      let c = passes (ltb room (endOf at len)) 0x20 _ (omega arith) (b .1) in
-      record { known = not-false _ (a .0); short = ltb-false _ _ (b .0); roomy = ltb-false _ _ (c .0) }
+      let q = quiet ((_ ⇒ unknownId) ∷ (_ ⇒ tooLong) ∷ (_ ⇒ noRoom) ∷ []) [] refl e .0 in
+      record { known = not-false _ (q .0); short = ltb-false _ _ (q .1 .0); roomy = ltb-false _ _ (q .1 .1 .0) }
 
   pub refuses : (code : ℕ) → code ≡ appendRefusal room at id len → (code ≡ 0 → ⊥) → _≡_ {A = Appended} (record { code = code; end = 0 }) (appendedOf room at id len)
   unfolding appendedOf

@@ -1,7 +1,7 @@
 -- One item by itself: which row of its table answers, and what a sound one says of its bytes. Assumes nothing.
 use Prim.Native.Nat.{ℕ, _≤_, _<_}
 use mathlib.Core.Path.{_≡_, refl, sym}
-use mathlib.Core.List.{List}
+use mathlib.Core.List.{List, [], _∷_}
 use mathlib.Core.Bool.{Bool, true, false, not, cond}
 use native.Mathlib.Omega.{arith}
 use lib.ListN.{length}
@@ -11,7 +11,9 @@ use Rattle.frame.specs.declared.items.Head.{Head}
 use Rattle.frame.specs.declared.items.Head.the-variants.{Bad, Whole}
 use Rattle.frame.specs.Ids.{isKnown}
 use Rattle.frame.specs.Items.{idOf, sizeOf, refusal, headOf}
-use Rattle.wire.proofs.Laws.Rows.{passes}
+use Rattle.wire.specs.Rows.{_⇒_}
+use Rattle.frame.specs.Codes.{truncated, unknownId, shortSize}
+use Rattle.wire.proofs.Laws.Rows.{quiet}
 
 module _ (s : List ℕ) where
   pub head-short : length s < 8 → Bad 0x40 ≡ headOf s
@@ -52,20 +54,18 @@ abbrev pub Says : List ℕ → Head → Type 0
 Says s (Bad code) = code ≡ 0 → ⊥
 Says s (Whole id size) = Sound s id size
 
+tests : (s : List ℕ) → refusal s ≡ 0 → Sound s (idOf s) (sizeOf s)
+unfolding refusal
+tests s e =
+    let q = quiet ((ltb (length s) 8 ⇒ truncated) ∷ (_ ⇒ unknownId) ∷ (_ ⇒ shortSize) ∷ (_ ⇒ truncated) ∷ []) [] refl e .0 in
+    record { known = not-false _ (q .1 .0); long = ltb-false _ _ (q .1 .1 .0); inside = ltb-false _ _ (q .1 .1 .1 .0); its-id = refl; its-size = refl }
+
 pub says : (s : List ℕ) → Says s (headOf s)
-unfolding headOf refusal
+unfolding headOf
 says s = go (eqb (refusal s) 0) refl
   where
-    tests : refusal s ≡ 0 → Sound s (idOf s) (sizeOf s)
-    tests e =
-        let a = passes (ltb (length s) 8) 0x40 _ (omega arith) e in
-        let b = passes (not (isKnown (idOf s))) 0x41 _ (omega arith) (a .1) in
-        let c = passes (ltb (sizeOf s) 8) 0x42 _ (omega arith) (b .1) in
-        let d = passes (ltb (length s) (sizeOf s)) 0x40 _ (omega arith) (c .1) in
-        record { known = not-false _ (b .0); long = ltb-false _ _ (c .0); inside = ltb-false _ _ (d .0); its-id = refl; its-size = refl }
-
     go : (b : Bool) → eqb (refusal s) 0 ≡ b → Says s (cond b (Whole (idOf s) (sizeOf s)) (Bad (refusal s)))
-    go true e = tests (eqb-true _ _ e)
+    go true e = tests s (eqb-true _ _ e)
     go false e = eqb-false _ _ e
 
 pub sound-head : (s : List ℕ) (id size : ℕ) → headOf s ≡ Whole id size → Sound s id size

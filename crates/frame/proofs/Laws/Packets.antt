@@ -1,7 +1,7 @@
 -- Laws of the payload header: which row of its table answers. Assumes nothing.
 use Prim.Native.Nat.{ℕ, _+_, _-_, _≤_, _<_}
 use mathlib.Core.Path.{_≡_, refl}
-use mathlib.Core.List.{List}
+use mathlib.Core.List.{List, [], _∷_}
 use mathlib.Core.Bool.{Bool, true, false, cond}
 use native.Mathlib.Omega.{arith}
 use lib.ListN.{length}
@@ -10,7 +10,9 @@ use borrow.Author.Tests.{lt-ltb, le-ltb, ltb-false, eqb-true}
 use Rattle.frame.specs.declared.packet.Flag.{Flag}
 use Rattle.frame.specs.declared.packet.PayloadHeader.{PayloadHeader}
 use Rattle.frame.specs.Packet.{lengthOf, flagsOf, hasFlag, fieldLength, fieldsLength, headerRefusal, refusedHeader, headerOf}
-use Rattle.wire.proofs.Laws.Rows.{passes}
+use Rattle.wire.specs.Rows.{_⇒_}
+use Rattle.frame.specs.Codes.{cutHeader, shortHeader}
+use Rattle.wire.proofs.Laws.Rows.{quiet}
 
 module _ (flags : ℕ) (flag : Flag) (len : ℕ) where
   pub field-there : hasFlag flags flag ≡ true → len ≡ fieldLength flags flag len
@@ -50,10 +52,8 @@ module _ (p : List ℕ) where
 pub header-sound : (p : List ℕ) → headerRefusal p ≡ 0 → (lengthOf p ≤ length p) × (fieldsLength (flagsOf p) ≤ lengthOf p)
 unfolding headerRefusal
 header-sound p e =
-    let a = passes (ltb (length p) 2) 0x45 _ (omega arith) e in
-    let b = passes (ltb (length p) (lengthOf p)) 0x45 _ (omega arith) (a .1) in
-    let c = passes (ltb (lengthOf p) (fieldsLength (flagsOf p))) 0x46 _ (omega arith) (b .1) in
-    (ltb-false _ _ (b .0), ltb-false _ _ (c .0))
+    let q = quiet ((ltb (length p) 2 ⇒ cutHeader) ∷ (_ ⇒ cutHeader) ∷ (_ ⇒ shortHeader) ∷ []) [] refl e .0 in
+    (ltb-false _ _ (q .1 .0), ltb-false _ _ (q .1 .1 .0))
 
 -- the metadata lies in the header, and the header in the packet
 either : (b : Bool) (n : ℕ) (h g : PayloadHeader) → (b ≡ true → h .metadata .at + h .metadata .len ≤ n) → g .metadata .at + g .metadata .len ≤ n

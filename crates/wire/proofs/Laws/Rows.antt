@@ -1,12 +1,13 @@
 -- Laws of ordered tables of refusals. Assumes nothing.
-use mathlib.Core.Path.{_≡_, refl}
+use mathlib.Core.Path.{_≡_, refl, ap, sym, _∙_}
 use mathlib.Core.List.{List, [], _∷_, _++_}
-use mathlib.Core.Bool.{Bool, true, false, cond}
-use Prim.Native.Nat.{ℕ, zero, suc}
+use mathlib.Core.Option.{none, some}
+use mathlib.Core.Bool.{Bool, true, false, cond, not, true≢false}
+use Prim.Native.Nat.{ℕ, zero, suc, _+_}
 use native.Mathlib.Omega.{arith}
 use lib.Dec.{eqb}
-use borrow.Author.Tests.{ne-eqb}
-use Rattle.wire.specs.Rows.{Row, _⇒_, firstOf}
+use borrow.Author.Tests.{eq-eqb, ne-eqb, eqb-true}
+use Rattle.wire.specs.Rows.{Row, _⇒_, firstOf, firstFrom, Quiet, AnswersAt}
 
 -- every row's number is a refusal's
 abbrev pub coded : List Row → Bool
@@ -21,7 +22,61 @@ first-append ((test ⇒ zero) ∷ a) b h = cc
 first-append ((true ⇒ suc code) ∷ a) b h = rw (ne-eqb (suc code) 0 (λ e. omega arith))
 first-append ((false ⇒ suc code) ∷ a) b h = first-append a b h
 
--- a row that did not answer, in a table that answers 0
-pub passes : (test : Bool) (code rest : ℕ) → (code ≡ 0 → ⊥) → cond test code rest ≡ 0 → (test ≡ false) × (rest ≡ 0)
-passes true code rest n e = absurd (n e)
-passes false code rest n e = (refl, e)
+-- where the number is 0 no row fails, nor do those behind them answer
+pub quiet : (rows behind : List Row) → coded rows ≡ true → firstOf (rows ++ behind) ≡ 0 → Quiet rows × (firstOf behind ≡ 0)
+quiet [] behind h e = (tt, e)
+quiet ((test ⇒ zero) ∷ rows) behind h e = absurd (true≢false (sym h))
+quiet ((true ⇒ suc code) ∷ rows) behind h e = absurd (omega arith)
+quiet ((false ⇒ suc code) ∷ rows) behind h e = let q = quiet rows behind h e in ((refl, q .0), q .1)
+
+-- the same where a row's number is not 0 if its test holds
+abbrev pub Coded : List Row → Type 0
+Coded [] = Unit {0}
+Coded ((test ⇒ code) ∷ rows) = (test ≡ true → code ≡ 0 → ⊥) × Coded rows
+
+pub quiet-own : (rows : List Row) → Coded rows → firstOf rows ≡ 0 → Quiet rows
+quiet-own [] c e = tt
+quiet-own ((true ⇒ code) ∷ rows) c e = absurd (c .0 refl e)
+quiet-own ((false ⇒ code) ∷ rows) c e = (refl, quiet-own rows (c .1) e)
+
+-- and back
+pub all-quiet : (rows : List Row) → Quiet rows → firstOf rows ≡ 0
+all-quiet [] q = refl
+all-quiet ((true ⇒ code) ∷ rows) q = cc
+all-quiet ((false ⇒ code) ∷ rows) q = all-quiet rows (q .1)
+
+-- a test that comes to its own number
+pub own-coded : (code : ℕ) → not (eqb code 0) ≡ true → code ≡ 0 → ⊥
+own-coded code t e = true≢false (sym t ∙ ap not (eq-eqb code 0 e))
+
+pub own-quiet : (code : ℕ) → not (eqb code 0) ≡ false → code ≡ 0
+own-quiet code t = go (eqb code 0) refl t
+  where
+    go : (b : Bool) → eqb code 0 ≡ b → not b ≡ false → code ≡ 0
+    go true e q = eqb-true code 0 e
+    go false e q = cc
+
+-- the place of the first row that fails is the row that answered
+pub answers-at : (k : ℕ) (rows : List Row) (n : ℕ) → firstFrom k rows ≡ some n → (i : ℕ) × ((n ≡ i + k) × AnswersAt rows i)
+answers-at k [] n e = let z : _≡_ {A = ℕ} 0 1 = cc in absurd (omega arith)
+answers-at k ((true ⇒ code) ∷ rows) n e =
+    let z : n ≡ k = cc in
+    (0, (omega arith, record { before = []; code = code; behind = rows; split = refl; place = refl; passed = tt; number = refl }))
+answers-at k ((false ⇒ code) ∷ rows) n e =
+    let r = answers-at (suc k) rows n e in
+    let a = r .1 .1 in
+    (suc (r .0), (omega (arith, r .1 .0), record {
+      before = (false ⇒ code) ∷ a .before;
+      code = a .code;
+      behind = a .behind;
+      split = ap (λ l. (false ⇒ code) ∷ l) (a .split);
+      place = ap suc (a .place);
+      passed = (refl, a .passed);
+      number = a .number;
+    }))
+
+-- none fails where the number is 0
+pub answers-none : (k : ℕ) (rows : List Row) → Quiet rows → firstFrom k rows ≡ none
+answers-none k [] q = refl
+answers-none k ((true ⇒ code) ∷ rows) q = cc
+answers-none k ((false ⇒ code) ∷ rows) q = answers-none (suc k) rows (q .1)

@@ -18,16 +18,10 @@ returns c = rw (ne-eqb (getD (c .before .before .before .args .setup .now) 2 0) 
 is-set-request-requires : tie.Need-is-set-request-requires
 is-set-request-requires c κs = search needs
 
-selector-requires : tie.Need-selector-requires
-selector-requires c κs = search needs
-
-has-control-requires : tie.Need-has-control-requires
-has-control-requires c κs = search needs
-
 returns-2 : tie.Need-returns-2
 returns-2 c =
-    let b = c .before .before .before in
-    rw (eq-eqb (getD (b .before .before .before .before .args .setup .now) 2 0) 0 (low (b .before)), sym (b .is-set-request .ensures) ∙ c .before .before .if2 .taken, sym (c .before .selector .ensures)) (c .has-control .ensures)
+    let b = c .before in
+    rw (eq-eqb (getD (b .before .before .before .before .args .setup .now) 2 0) 0 (low (b .before)), sym (b .is-set-request .ensures) ∙ c .if2 .taken)
 
 is-get-request-requires : tie.Need-is-get-request-requires
 is-get-request-requires c κs = search needs
@@ -38,14 +32,4 @@ returns-3 c =
     rw (eq-eqb (getD (b .before .before .before .before .args .setup .now) 2 0) 0 (low (b .before)), sym (b .is-set-request .ensures) ∙ c .before .if2 .left) (c .is-get-request .ensures)
 
 pub is-understood-spec : {M : Type 1} → statement M
-is-understood-spec =
-    tie.close
-    (tie.spec
-    byte-requires
-    returns
-    is-set-request-requires
-    selector-requires
-    has-control-requires
-    returns-2
-    is-get-request-requires
-    returns-3)
+is-understood-spec = tie.close (tie.spec byte-requires returns is-set-request-requires returns-2 is-get-request-requires returns-3)

@@ -16,7 +16,7 @@ use Rattle.request.proofs.tests.refusal.Tie as tie
 eight : (c : tie.Else1) → eqb (length (c .before .before .before .args .setup .now)) 8 ≡ true
 eight c = eq-eqb (length (c .before .before .before .args .setup .now)) 8 (omega arith)
 
-addressed-row : (c : tie.After-is-addressed) → let s = c .before .before .before .before .args in not (addressed (tableOf (s .u) 0) (s .setup .now)) ≡ not (c .is-addressed .result)
+addressed-row : (c : tie.After-is-addressed) → let s = c .before .before .before .before .args in not (addressed (s .u .unit) (s .u .interface) (s .setup .now)) ≡ not (c .is-addressed .result)
 addressed-row c = ap not (sym (c .is-addressed .ensures))
 
 present-row : (c : tie.After-has-control)
@@ -26,11 +26,11 @@ present-row c =
     ap not (sym (c .has-control .ensures ∙ ap (hasControl (s .u .present)) (c .before .selector .ensures)))
 
 understood-row : (c : tie.After-is-understood)
-    → let s = c .before .before .before .before .before .before .before .before .before .args in not (understood (tableOf (s .u) 0) (s .setup .now)) ≡ not (c .is-understood .result)
+    → let s = c .before .before .before .before .before .before .before .before .before .args in not (understood (s .c .settable) (s .setup .now)) ≡ not (c .is-understood .result)
 understood-row c = ap not (sym (c .is-understood .ensures))
 
 sized-row : (c : tie.After-is-sized)
-    → let s = c .before .before .before .before .before .before .before .before .before .before .before .args in not (sized (s .takes) (s .setup .now) (s .payload .now)) ≡ not (c .is-sized .result)
+    → let s = c .before .before .before .before .before .before .before .before .before .before .before .args in not (sized (s .c .takes) (s .setup .now) (s .payload .now)) ≡ not (c .is-sized .result)
 sized-row c = ap not (sym (c .is-sized .ensures))
 
 returns : tie.Need-returns
@@ -73,7 +73,7 @@ is-sized-requires c κs = search needs
 
 -- past the first four tests the fifth answers
 fifth : (c : tie.After-is-sized)
-    → let s = c .before .before .before .before .before .before .before .before .before .before .before .args in firstOf (requestTests (tableOf (s .u) (s .takes)) (s .setup .now) (s .payload .now)) ≡ cond (not (c .is-sized .result)) 0xFF 0
+    → let s = c .before .before .before .before .before .before .before .before .before .before .before .args in firstOf (requestTests (tableOf (s .u) (s .c)) (s .setup .now) (s .payload .now)) ≡ cond (not (c .is-sized .result)) 0xFF 0
 unfolding requestTests
 fifth c =
     let u = c .before .before in

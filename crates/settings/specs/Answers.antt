@@ -1,0 +1,33 @@
+-- Document 01, "The five controls": what a GET of a control answers, by profile and settings.
+use Prim.Native.Nat.{ℕ}
+use mathlib.Core.List.{List}
+use mathlib.Core.Bool.{cond}
+use lib.Dec.{eqb}
+use Rattle.wire.specs.Number.{bytesOf}
+use Rattle.wire.specs.Selectors.{ev, face, metadata, hdr}
+use Rattle.request.specs.Answers.{answerBy}
+use Rattle.exposure.specs.Ev.{evAt, evBytes}
+use Rattle.face.specs.Face.{faceValue}
+use Rattle.controls.specs.Metadata.{metadataAt, metadataInfo}
+use Rattle.controls.specs.Hdr.{hdrAt}
+use Rattle.controls.specs.Throttle.{throttleAt, throttleBytes}
+use Rattle.settings.specs.declared.profile.Profile.{Profile}
+use Rattle.settings.specs.declared.settings.Settings.{Settings}
+use Rattle.settings.specs.Profile.{lengthOf}
+
+-- INFO's byte
+abbrev pub infoOf : Profile → ℕ → ℕ
+infoOf p selector = cond (eqb selector ev) 0x13 (cond (eqb selector metadata) (metadataInfo (p .metadata)) 0x03)
+
+-- the bytes of CUR, MIN, MAX, RES and DEF
+unfoldable pub valueOf : Profile → Settings → ℕ → ℕ → List ℕ
+valueOf p s selector code =
+    cond (eqb selector ev) (evBytes (evAt (p .ev) (s .ev) code))
+    (cond (eqb selector face) (faceValue (p .face) (s .face) code)
+    (cond (eqb selector metadata) (bytesOf 4 (metadataAt (p .metadata) (s .metadata) code))
+    (cond (eqb selector hdr) (bytesOf 4 (hdrAt (p .auto) (s .hdr) code))
+    (throttleBytes (throttleAt (p .throttle) (s .throttle) code) (p .throttle)))))
+
+-- the full answer
+unfoldable pub answerOf : Profile → Settings → ℕ → ℕ → List ℕ
+answerOf p s selector code = answerBy code (lengthOf p selector) (infoOf p selector) (valueOf p s selector code)

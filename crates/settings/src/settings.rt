@@ -1,0 +1,56 @@
+// The settings of the five controls, of face authentication one for each endpoint: the last that was accepted, or none.
+use controls::Number;
+use controls::Setting;
+use controls::throttle::Throttle;
+use exposure::Ev;
+use wire::endpoints::PLACES;
+ghost use mathlib.Core.Path.{_≡_};
+ghost use Rattle.settings.specs.Settings.{noSettings, put};
+
+// Face settings stand by address, that of 0x81 first: the flag chosen, or 0 for none.
+pub struct Settings {
+    pub ev: Ev,
+    pub face: [u8; PLACES],
+    pub metadata: Number,
+    pub hdr: Number,
+    pub throttle: Throttle,
+}
+
+impl Settings {
+    pub fn none() -> Settings
+        ensures { λ r. ⌜ r ≡ noSettings ⌝ }
+    {
+        Settings {
+            ev: Ev::Unset,
+            face: [0; PLACES],
+            metadata: Number::Unset,
+            hdr: Number::Unset,
+            throttle: Throttle::Unset,
+        }
+    }
+
+    // The settings with one more.
+    pub fn put(self, s: Setting) -> Settings
+        ensures { λ r. ⌜ r ≡ put self s ⌝ }
+    {
+        let mut next = self;
+        match s {
+            Setting::Ev(e) => {
+                next.ev = Ev::Held(e);
+            }
+            Setting::Face { address, flags } => {
+                next.face = face::put(self.face, address, flags);
+            }
+            Setting::Metadata(n) => {
+                next.metadata = Number::Held(n);
+            }
+            Setting::Hdr(n) => {
+                next.hdr = Number::Held(n);
+            }
+            Setting::Throttle(t) => {
+                next.throttle = Throttle::Held(t);
+            }
+        }
+        next
+    }
+}
