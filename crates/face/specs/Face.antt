@@ -1,27 +1,22 @@
--- Document 01, "Face": limits, SET's value tests entry by entry, and answers.
+-- Document 01, "Face": limits, SET's value tests entry by entry, settings held, and answers.
 use Prim.Native.Nat.{ℕ, zero, suc, _+_, _*_, _-_, _/_, _%_, min}
 use mathlib.Core.List.{List, [], _∷_, _++_}
 use mathlib.Core.Bool.{Bool, true, false, cond, not, _&&_, _||_}
 use lib.Dec.{leb, ltb, eqb}
 use lib.ListN.{getD, set}
-use Rattle.wire.specs.Endpoints.{firstAddress, places}
-use Rattle.controls.specs.Settings.{firstRefusal}
-use Rattle.face.specs.declared.face.Taken.{Taken}
+use Rattle.wire.specs.Endpoints.{firstAddress, lastAddress, places, endpointLimit}
 use Rattle.wire.specs.Number.{leAt, bytesOf}
 use Rattle.wire.specs.Flags.{choiceOf}
 use Rattle.wire.specs.Rows.{_⇒_, firstOf}
 use Rattle.wire.specs.declared.flags.Choice.{Choice}
 use Rattle.wire.specs.declared.flags.Choice.the-variants.{At, Refused}
 use Rattle.wire.specs.Uvc.{getCur, getMax, getMin, getRes, invalidValue, outOfRange}
-use Rattle.face.specs.declared.face.FaceLimits.{FaceLimits}
+use Rattle.face.specs.declared.limits.FaceLimits.{FaceLimits}
+use Rattle.face.specs.declared.entries.Taken.{Taken}
 use Rattle.controls.specs.declared.settings.Item.{Item}
 use Rattle.controls.specs.declared.settings.Setting.the-variants as S
 use Rattle.request.specs.Answers.{answerBy}
-use Rattle.controls.specs.Settings.{itemOf}
-
--- how many endpoints a profile may list, and so how many places it has
-abbrev pub endpointLimit : ℕ
-endpointLimit = 8
+use Rattle.controls.specs.Settings.{itemOf, firstRefusal}
 
 -- how many it lists; a valid profile's count is no more than its places
 abbrev pub endpoints : FaceLimits → ℕ
@@ -42,16 +37,16 @@ allBelow (suc n) f = allBelow n f && f n
 abbrev pub offersValid : ℕ → Bool
 offersValid o = eqb (o / 2) 1 || eqb (o / 2) 2
 
--- the address before place i's, which that must be above: addresses start at 0x81
+-- the address before place i's, which that must be above
 unfoldable pub addressBefore : FaceLimits → ℕ → ℕ
-addressBefore l zero = 0x80
+addressBefore l zero = firstAddress - 1
 addressBefore l (suc i) = addressAt l i
 
 -- place i: an endpoint, or unused and zero
 unfoldable pub endpointValid : FaceLimits → ℕ → Bool
 endpointValid l i =
     cond (ltb i (l .count))
-    (ltb (addressBefore l i) (addressAt l i) && leb (addressAt l i) 0x8F && offersValid (offersAt l i))
+    (ltb (addressBefore l i) (addressAt l i) && leb (addressAt l i) lastAddress && offersValid (offersAt l i))
     (eqb (addressAt l i) 0 && eqb (offersAt l i) 0)
 
 unfoldable pub faceValid : FaceLimits → Bool
@@ -64,6 +59,14 @@ offersFrom l address (suc n) i = cond (eqb (addressAt l i) address) (offersAt l 
 
 unfoldable pub offersOf : FaceLimits → ℕ → ℕ
 offersOf l address = offersFrom l address (endpoints l) 0
+
+-- the first place that lists an address, among the n places from i on; endpointLimit where none does
+unfoldable pub placeFrom : FaceLimits → ℕ → ℕ → ℕ → ℕ
+placeFrom l address zero i = endpointLimit
+placeFrom l address (suc n) i = cond (eqb (addressAt l i) address) i (placeFrom l address n (suc i))
+
+unfoldable pub placeOf : FaceLimits → ℕ → ℕ
+placeOf l address = placeFrom l address (endpoints l) 0
 
 -- entry i of a payload
 abbrev pub entryAddress : List ℕ → ℕ → ℕ
@@ -95,6 +98,15 @@ isChoice Refused = false
 unfoldable pub faceRefusal : ℕ → ℕ → ℕ
 faceRefusal offers flags = cond (isChoice (choiceOf offers flags)) 0 invalidValue
 
+-- an entry's tests by what its endpoint offers, whether it was seen before, and its flags
+abbrev pub entryTests : ℕ → Bool → ℕ → ℕ
+entryTests offers seen flags =
+    firstOf
+    ((eqb offers 0 ⇒ outOfRange)
+    ∷ (seen ⇒ invalidValue)
+    ∷ (not (isChoice (choiceOf offers flags)) ⇒ invalidValue)
+    ∷ [])
+
 -- the tests of entry i
 unfoldable pub entryRefusal : FaceLimits → List ℕ → ℕ → ℕ
 entryRefusal l payload i =
@@ -109,6 +121,41 @@ unfoldable pub faceItem : FaceLimits → List ℕ → ℕ → Item
 faceItem l payload i =
     itemOf (entryRefusal l payload i) (S.Face (entryAddress payload i) (entryFlags payload i))
 
+-- SET's value tests of one setting: the address is listed, and exactly one flag is set that its endpoint offers
+unfoldable pub settingRefusal : FaceLimits → ℕ → ℕ → ℕ
+settingRefusal l address flags =
+    let offers = offersOf l address in
+    firstOf ((eqb offers 0 ⇒ outOfRange) ∷ (not (isChoice (choiceOf offers flags)) ⇒ invalidValue) ∷ [])
+
+-- flags held at a place whose address has these offers are none, or keep their rules
+abbrev pub flagsKept : ℕ → ℕ → Bool
+flagsKept offers flags = eqb flags 0 || eqb (entryTests offers false flags) 0
+
+-- the setting held at place i, if any, keeps its rules; of an absent control none does
+unfoldable pub faceKept : Bool → FaceLimits → List ℕ → ℕ → Bool
+faceKept present l held i =
+    let flags = getD held i 0 in
+    eqb flags 0 || (present && eqb (settingRefusal l (firstAddress + i) flags) 0)
+
+unfoldable pub facesKept : Bool → FaceLimits → List ℕ → Bool
+facesKept present l held = allBelow places (faceKept present l held)
+
+-- settings with one more; an address outside 0x81..0x8F has no place
+unfoldable pub putFace : List ℕ → ℕ → ℕ → List ℕ
+putFace held address flags = cond (leb firstAddress address) (set held (address - firstAddress) flags) held
+
+-- settings with the first n entries of a payload taken, one after the other
+unfoldable pub entriesPut : List ℕ → List ℕ → ℕ → List ℕ
+entriesPut held payload zero = held
+entriesPut held payload (suc n) = putFace (entriesPut held payload n) (entryAddress payload n) (entryFlags payload n)
+
+-- what a SET's payload comes to: the first refusal of its entries, or 0 and the settings with all of them
+unfoldable pub facesTaken : FaceLimits → List ℕ → List ℕ → Taken
+facesTaken l held payload =
+    let n = getD payload 0 0 in
+    let code = firstRefusal n 0 (faceItem l payload) in
+    record { code = code; held = cond (eqb code 0) (entriesPut held payload n) held }
+
 -- an entry's bytes
 abbrev pub entryOf : ℕ → ℕ → List ℕ
 entryOf address flags = address ∷ bytesOf 7 flags
@@ -117,9 +164,9 @@ entryOf address flags = address ∷ bytesOf 7 flags
 unfoldable pub defaultOf : ℕ → ℕ
 defaultOf offers = cond (eqb (offers % 2) 1) 1 offers
 
--- the setting held of an address from 0x81 up, 0 where there is none: settings stand by address, that of 0x81 first
+-- the setting held of an address from firstAddress up, 0 where there is none: settings stand by address
 abbrev pub heldAt : List ℕ → ℕ → ℕ
-heldAt held address = getD held (address - 0x81) 0
+heldAt held address = getD held (address - firstAddress) 0
 
 -- the flags of place i in an answer that lists every endpoint: MAX its offers, CUR the setting held, else the default
 unfoldable pub flagsAt : FaceLimits → List ℕ → ℕ → ℕ → ℕ
@@ -140,32 +187,3 @@ faceValue l held code = cond (eqb code getMin || eqb code getRes) (0 ∷ []) (en
 
 unfoldable pub faceAnswer : FaceLimits → List ℕ → ℕ → List ℕ
 faceAnswer l held code = answerBy code (1 + 8 * endpoints l) 0x03 (faceValue l held code)
-
--- SET's value tests of one setting: the address is listed, and exactly one flag is set that its endpoint offers
-unfoldable pub settingRefusal : FaceLimits → ℕ → ℕ → ℕ
-settingRefusal l address flags =
-    let offers = offersOf l address in
-    firstOf ((eqb offers 0 ⇒ outOfRange) ∷ (not (isChoice (choiceOf offers flags)) ⇒ invalidValue) ∷ [])
-
--- settings with one more; an address outside 0x81..0x8F has no place
-unfoldable pub putFace : List ℕ → ℕ → ℕ → List ℕ
-putFace held address flags = cond (leb firstAddress address) (set held (address - firstAddress) flags) held
-
--- the setting held at place i, if any, keeps its rules; of an absent control none does
-unfoldable pub faceKept : Bool → FaceLimits → List ℕ → ℕ → Bool
-faceKept present l held i = let flags = getD held i 0 in eqb flags 0 || (present && eqb (settingRefusal l (firstAddress + i) flags) 0)
-
-unfoldable pub facesKept : Bool → FaceLimits → List ℕ → Bool
-facesKept present l held = allBelow places (faceKept present l held)
-
--- settings with the first n entries of a payload taken, one after the other
-unfoldable pub entriesPut : List ℕ → List ℕ → ℕ → List ℕ
-entriesPut held payload zero = held
-entriesPut held payload (suc n) = putFace (entriesPut held payload n) (entryAddress payload n) (entryFlags payload n)
-
--- what a SET's payload comes to: the first refusal of its entries, or 0 and the settings with all of them
-unfoldable pub facesTaken : FaceLimits → List ℕ → List ℕ → Taken
-facesTaken l held payload =
-    let n = getD payload 0 0 in
-    let code = firstRefusal n 0 (faceItem l payload) in
-    record { code = code; held = cond (eqb code 0) (entriesPut held payload n) held }

@@ -1,17 +1,16 @@
-// Face authentication: limits, SET's value tests entry by entry, the setting that an entry gives, and GET's answers. Document 01, "The five
+// Face authentication: limits, SET's value tests entry by entry, the settings that entries give, and GET's answers. Document 01, "The five
 // controls"; 003 decides for it. Each endpoint has a setting of its own, kept by its address.
-mod face;
+mod answers;
+mod entries;
+mod limits;
 
-pub use face::ENDPOINTS;
-pub use face::FaceLimits;
-pub use face::answer;
-pub use face::entry;
-pub use face::item;
-pub use face::offers_of;
-pub use face::refusal;
-pub use face::takes;
-pub use face::valid;
-pub use face::Taken;
-pub use face::kept;
-pub use face::put;
-pub use face::take;
+pub use answers::answer;
+pub use entries::Taken;
+pub use entries::entry;
+pub use entries::item;
+pub use entries::kept;
+pub use entries::put;
+pub use entries::take;
+pub use entries::takes;
+pub use limits::FaceLimits;
+pub use limits::valid;

@@ -48,7 +48,12 @@ controlRefusal p selector = firstOf ((not (has p selector) ⇒ invalidControl) �
 
 -- the length of a control's payload, of face authentication the longest
 abbrev pub lengthOf : Profile → ℕ → ℕ
-lengthOf p selector = cond (eqb selector ev) 11 (cond (eqb selector face) (1 + 8 * endpoints (p .face)) (cond (eqb selector throttle) 20 4))
+lengthOf p selector =
+    cond (eqb selector ev) 11
+    (cond (eqb selector face) (1 + 8 * endpoints (p .face))
+    (cond (eqb selector metadata) 4
+    (cond (eqb selector hdr) 4
+    20)))
 
 -- the length that a SET of a payload must have; face authentication's goes by its first byte
 abbrev pub takes : Profile → ℕ → List ℕ → ℕ

@@ -71,7 +71,7 @@ throttleHeld (T.Held s) = some (S.Throttle s)
 unfoldable pub held : Settings → ℕ → Option Setting
 held s k =
     cond (eqb k 0) (evHeld (s .ev))
-    (cond (leb k places) (faceHeld (firstAddress - 1 + k) (getD (s .face) (k - 1) 0))
+    (cond (leb k places) (faceHeld (firstAddress + (k - 1)) (getD (s .face) (k - 1) 0))
     (cond (eqb k (places + 1)) (metadataHeld (s .metadata))
     (cond (eqb k (places + 2)) (hdrHeld (s .hdr))
     (cond (eqb k (places + 3)) (throttleHeld (s .throttle)) none))))

@@ -60,7 +60,8 @@ impl Settings {
         ensures { λ r. ⌜ r ≡ setTaken p self selector (now (payload .entry)) ⌝ }
     {
         if selector == FACE {
-            let taken = face::take(p.face, self.face, payload);
+            let held = self.face;
+            let taken = face::take(p.face, held, payload);
             let next = taken.held;
             let mut settings = self;
             settings.face = next;

@@ -59,12 +59,13 @@ impl Settings {
         ensures { λ r. ⌜ r ≡ wellFormed p self ⌝ }
     {
         let ev = self.ev;
+        let face = self.face;
         let metadata = self.metadata;
         let hdr = self.hdr;
         let throttle = self.throttle;
         p.valid()
             & ev_kept(p, ev)
-            & face::kept(p.face, has_control(p, FACE), self.face)
+            & face::kept(p.face, has_control(p, FACE), face)
             & metadata_kept(p, metadata)
             & hdr_kept(p, hdr)
             & throttle_kept(p, throttle)

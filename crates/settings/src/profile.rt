@@ -75,10 +75,13 @@ fn takes_of(p: Profile, selector: u8, payload: &[u8]) -> usize
     if selector == EV {
         return 11;
     }
-    if selector == THROTTLE {
-        return 20;
+    if selector == METADATA {
+        return 4;
     }
-    4
+    if selector == HDR {
+        return 4;
+    }
+    20
 }
 
 impl Profile {

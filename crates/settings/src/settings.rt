@@ -33,24 +33,50 @@ impl Settings {
     pub fn put(self, s: Setting) -> Settings
         ensures { λ r. ⌜ r ≡ put self s ⌝ }
     {
-        let mut next = self;
+        let ev = self.ev;
+        let face = self.face;
+        let metadata = self.metadata;
+        let hdr = self.hdr;
+        let throttle = self.throttle;
         match s {
-            Setting::Ev(e) => {
-                next.ev = Ev::Held(e);
-            }
+            Setting::Ev(e) => Settings {
+                ev: Ev::Held(e),
+                face,
+                metadata,
+                hdr,
+                throttle,
+            },
             Setting::Face { address, flags } => {
-                next.face = face::put(self.face, address, flags);
+                let next = face::put(face, address, flags);
+                Settings {
+                    ev,
+                    face: next,
+                    metadata,
+                    hdr,
+                    throttle,
+                }
             }
-            Setting::Metadata(n) => {
-                next.metadata = Number::Held(n);
-            }
-            Setting::Hdr(n) => {
-                next.hdr = Number::Held(n);
-            }
-            Setting::Throttle(t) => {
-                next.throttle = Throttle::Held(t);
-            }
+            Setting::Metadata(n) => Settings {
+                ev,
+                face,
+                metadata: Number::Held(n),
+                hdr,
+                throttle,
+            },
+            Setting::Hdr(n) => Settings {
+                ev,
+                face,
+                metadata,
+                hdr: Number::Held(n),
+                throttle,
+            },
+            Setting::Throttle(t) => Settings {
+                ev,
+                face,
+                metadata,
+                hdr,
+                throttle: Throttle::Held(t),
+            },
         }
-        next
     }
 }

@@ -8,5 +8,8 @@ pub mod Entries
 pub mod Merging
 pub mod Answers
 pub mod Settings
+pub mod Told
+pub mod Stay
 pub mod Cursor
+pub mod Walk
 pub mod Writing

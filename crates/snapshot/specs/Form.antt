@@ -5,40 +5,43 @@ use mathlib.Core.List.{List, [], _∷_}
 use lib.ListN.{length, getD, take, drop}
 use lib.Dec.{leb, ltb, eqb}
 use Rattle.wire.specs.Number.{leAt}
-use Rattle.wire.specs.Endpoints.{places}
 use Rattle.wire.specs.Rows.{allOf}
 use Rattle.wire.specs.Uvc.{malformedSnapshot}
+use Rattle.wire.specs.Selectors.{ev, face, metadata, hdr, throttle}
+use Rattle.wire.specs.Endpoints.{firstAddress, lastAddress, places}
 
--- The kinds: 0x03 exposure compensation (EV), 0x06 face authentication, 0x09 metadata, 0x0D HDR, 0x0E throttle.
--- A key is a kind, of face authentication with an address. The 19 keys are numbered by kind, then address: 0 is EV, 1 to 15 are face
--- authentication at 0x81 to 0x8F, 16 is metadata, 17 HDR, 18 throttle.
-
--- how many keys there are; as a key, none
+-- The kinds are the selectors: exposure compensation (EV), face authentication, metadata, HDR, throttle.
+-- A key is a kind, of face authentication with an address. The keys are numbered by kind, then address: 0 is EV, from 1 on face
+-- authentication has a key for each address, and metadata, HDR and throttle are the last three.
 abbrev pub keys : ℕ
 keys = 4 + places
 
 -- the length of a whole record of a kind; 0 where the kind is unknown
 abbrev pub lengthOf : ℕ → ℕ
 lengthOf kind =
-    cond (eqb kind 0x03) 15
-    (cond (eqb kind 0x06) 13
-    (cond (eqb kind 0x09) 8
-    (cond (eqb kind 0x0D) 8
-    (cond (eqb kind 0x0E) 24
+    cond (eqb kind ev) 15
+    (cond (eqb kind face) 13
+    (cond (eqb kind metadata) 8
+    (cond (eqb kind hdr) 8
+    (cond (eqb kind throttle) 24
     0))))
 
 -- the length of a whole record of a key; 0 where there is no such key
 abbrev pub sizeOf : ℕ → ℕ
-sizeOf k = cond (eqb k 0) 15 (cond (leb k 15) 13 (cond (leb k 17) 8 (cond (eqb k 18) 24 0)))
+sizeOf k = cond (eqb k 0) 15 (cond (leb k places) 13 (cond (leb k (2 + places)) 8 (cond (eqb k (3 + places)) 24 0)))
+
+-- the length of a snapshot with a record of each key
+abbrev pub longest : ℕ
+longest = 250
 
 -- the key of a known kind, and for face authentication of an address
 abbrev pub keyFor : ℕ → ℕ → ℕ
 keyFor kind address =
-    cond (eqb kind 0x03) 0
-    (cond (eqb kind 0x06) (address - 0x80)
-    (cond (eqb kind 0x09) 16
-    (cond (eqb kind 0x0D) 17
-    18)))
+    cond (eqb kind ev) 0
+    (cond (eqb kind face) (address - (firstAddress - 1))
+    (cond (eqb kind metadata) (1 + places)
+    (cond (eqb kind hdr) (2 + places)
+    (3 + places))))
 
 -- all bytes are zero
 abbrev pub zeros : List ℕ → Bool
@@ -48,15 +51,15 @@ zeros (b ∷ s) = eqb b 0 && zeros s
 -- What a record's faults are told from, its place in the order aside: how many bytes are left from its start on, the length and the kind
 -- that it states, its bytes 4 and 5 (of face authentication the count n of entries and the address), and whether the throttle's tail is zero.
 -- None of these tests fails: 4 bytes are left; the length is not past the end; the kind is known; the length is the kind's; n is 1 and the
--- address within 0x81..0x8F; the tail is zero.
+-- address within the first and the last; the tail is zero.
 abbrev pub tests : ℕ → ℕ → ℕ → ℕ → ℕ → Bool → List Bool
 tests left len kind n address tail =
     leb 4 left
     ∷ leb len left
     ∷ ltb 0 (lengthOf kind)
     ∷ eqb len (lengthOf kind)
-    ∷ cond (eqb kind 0x06) (allOf (eqb n 1 ∷ leb 0x81 address ∷ leb address 0x8F ∷ [])) true
-    ∷ cond (eqb kind 0x0E) tail true
+    ∷ cond (eqb kind face) (allOf (eqb n 1 ∷ leb firstAddress address ∷ leb address lastAddress ∷ [])) true
+    ∷ cond (eqb kind throttle) tail true
     ∷ []
 
 -- the length and the kind that the record at the start of s states
@@ -81,7 +84,7 @@ keyAt s = keyFor (kindAt s) (getD s 5 0)
 -- the place in 01's order of the record at the start of s: its kind, then of face authentication the address, which is a byte. (`key-order`
 -- of proofs/Laws/Keys: the keys' numbers stand in this order.)
 abbrev pub place : List ℕ → ℕ
-place s = 256 * kindAt s + cond (eqb (kindAt s) 0x06) (getD s 5 0) 0
+place s = 256 * kindAt s + cond (eqb (kindAt s) face) (getD s 5 0) 0
 
 abbrev pub isEmpty : List ℕ → Bool
 isEmpty [] = true

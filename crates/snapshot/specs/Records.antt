@@ -8,15 +8,15 @@ use lib.ListN.{length, take, drop}
 use lib.Dec.{leb, eqb}
 use Rattle.wire.specs.declared.parts.Part.{Part}
 use Rattle.wire.specs.Parts.{nowhere}
-use Rattle.snapshot.specs.Form.{sizeOf, lengthAt, sound, keyAt}
+use Rattle.snapshot.specs.Form.{keys, sizeOf, lengthAt, sound, keyAt}
 
 -- a sound record of key k stands at the start of s
 unfoldable pub stands : ℕ → List ℕ → Bool
 stands k s = sound s && eqb (keyAt s) k
 
--- the key of the sound record at the start of s; 19, which is no key, where none stands there
+-- the key of the sound record at the start of s; `keys`, which is no key, where none stands there
 unfoldable pub keyOf : List ℕ → ℕ
-keyOf s = cond (sound s) (keyAt s) 19
+keyOf s = cond (sound s) (keyAt s) keys
 
 -- how many bytes the record at the start of s has, if it has key k; else 0
 unfoldable pub passed : ℕ → List ℕ → ℕ
@@ -42,7 +42,7 @@ decode s k = recordAt k (from s k)
 -- where it stands in s: behind the records of the keys below k, and as long as it is, so of no length where s has none; nowhere where k is
 -- no key
 unfoldable pub recordPlace : List ℕ → ℕ → Part
-recordPlace s k = cond (leb 19 k) nowhere (record { at = length s - length (from s k); len = passed k (from s k) })
+recordPlace s k = cond (leb keys k) nowhere (record { at = length s - length (from s k); len = passed k (from s k) })
 
 abbrev pub bytes : Option (List ℕ) → List ℕ
 bytes none = []
@@ -55,7 +55,7 @@ records (suc n) k m = bytes (m k) ++ records n (suc k) m
 
 -- the snapshot of given records
 unfoldable pub encode : (ℕ → Option (List ℕ)) → List ℕ
-encode m = records 19 0 m
+encode m = records keys 0 m
 
 -- how many of the n keys from k on have a record
 abbrev pub counted : Option (List ℕ) → ℕ → ℕ

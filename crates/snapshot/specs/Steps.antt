@@ -1,10 +1,11 @@
 -- What the code's steps go by, which its private functions' promises cite. No statement and no public promise depends on this file.
 use Prim.Native.Nat.{ℕ, _≤_}
 use mathlib.Core.Path.{_≡_}
-use mathlib.Core.Bool.{cond}
+use mathlib.Core.Bool.{true, cond}
 use mathlib.Core.List.{List}
-use lib.Dec.{eqb}
 use lib.ListN.{length, drop}
+use Rattle.wire.specs.Rows.{allOf}
+use Rattle.snapshot.specs.Form.{keys, keyFor, tests}
 use Rattle.snapshot.specs.Records.{from}
 
 -- the records of the keys below k of s end at `at`
@@ -12,6 +13,7 @@ pub record Cursor (s : List ℕ) (at k : ℕ) : Type 0 where
   pub within : at ≤ length s
   pub here : drop at s ≡ from s k
 
--- how many bytes of the first's record stay in a merge, by how many the two have: none where the second has a record
-abbrev pub keptOf : ℕ → ℕ → ℕ
-keptOf first second = cond (eqb second 0) first 0
+-- the key of a record by the length and the kind that it states and its bytes 4 and 5, however many bytes are left, whatever a throttle's
+-- tail is; `keys` where these have a fault
+abbrev pub keyBy : ℕ → ℕ → ℕ → ℕ → ℕ
+keyBy len kind n address = cond (allOf (tests len len kind n address true)) (keyFor kind address) keys

@@ -6,7 +6,8 @@ use mathlib.Core.Bool.{true}
 use mathlib.Core.List.{List, [], _++_}
 use mathlib.Core.Option.{Option}
 use lib.ListN.{length, drop}
-use Rattle.snapshot.specs.Form.{wellFormed, place, sound, keyAt}
+use Rattle.wire.specs.Endpoints.{places, endpointLimit}
+use Rattle.snapshot.specs.Form.{longest, wellFormed, place, sound, keyAt}
 use Rattle.snapshot.specs.Records.{decode, encode, recordCount, Good, recordsOf, find, Ascending, joined}
 use Rattle.snapshot.specs.Merge.{over, merged, Apart, mergeCode, mergeLen, mergeOut, handed, Alike}
 use Rattle.snapshot.specs.Calls.{Call, verdict, count, lent, left}
@@ -41,7 +42,7 @@ KeyOrder =
 
 -- 01's lengths: a snapshot has at most 250 bytes, and at most 159 with at most 8 endpoints, as many as a profile may have.
 abbrev pub Longest : Type 0
-Longest = (m : ℕ → Option (List ℕ)) → Good m → (length (encode m) ≤ 250) × (recordCount 15 1 m ≤ 8 → length (encode m) ≤ 159)
+Longest = (m : ℕ → Option (List ℕ)) → Good m → (length (encode m) ≤ longest) × (recordCount places 1 m ≤ endpointLimit → length (encode m) ≤ 159)
 
 -- Merging gives, in ascending order, one record for each key that is in either snapshot, the second's where both have it; it is well
 -- formed.
@@ -67,7 +68,7 @@ Commutes = (a b : List ℕ) → Apart a b → merged a b ≡ merged b a
 
 -- 01, 250 bytes always suffice: with so much room the program merges any two well-formed snapshots.
 abbrev pub Suffices : Type 0
-Suffices = (a b out : List ℕ) → wellFormed a ≡ true → wellFormed b ≡ true → 250 ≤ length out → mergeCode a b out ≡ 0
+Suffices = (a b out : List ℕ) → wellFormed a ≡ true → wellFormed b ≡ true → longest ≤ length out → mergeCode a b out ≡ 0
 
 -- An accepted merge: the caller is handed the merged snapshot, and every byte behind it is as it was. With room it is accepted.
 pub record Accepted (a b out : List ℕ) : Type 0 where

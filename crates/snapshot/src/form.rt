@@ -5,7 +5,7 @@ use wire::uvc::MALFORMED_SNAPSHOT;
 ghost use mathlib.Core.Path.{_≡_};
 ghost use Rattle.snapshot.specs.Form.{wellFormed, formCode};
 
-// Whether there is no form fault: going through the keys passes all of it.
+// Whether there is no form fault: going through the records in order passes all of it.
 pub(crate) fn well_formed(snapshot: &[u8]) -> bool
     ensures { λ r. ⌜ r ≡ wellFormed (now (snapshot .entry)) ⌝ }
 {

@@ -1,70 +1,91 @@
-// The keys of a snapshot's records, numbered by kind, then address: 0 exposure compensation, 1 to 15 face authentication at the
-// addresses 0x81 to 0x8F, 16 metadata, 17 HDR, 18 throttle.
+// The keys of a snapshot's records, numbered by kind, then address: exposure compensation, face authentication at each address, metadata,
+// HDR, throttle.
+use wire::endpoints;
+use wire::endpoints::PLACES;
+use wire::selectors;
 ghost use mathlib.Core.Path.{_≡_};
-ghost use Rattle.snapshot.specs.Form.{lengthOf, sizeOf, keyFor};
+ghost use mathlib.Core.Bool.{cond};
+ghost use lib.Dec.{eqb};
+ghost use Rattle.snapshot.specs.Form.{keys, sizeOf};
+ghost use Rattle.snapshot.specs.Steps.{keyBy};
+
+const EV_KEY: usize = 0;
+
+const METADATA_KEY: usize = PLACES + 1;
+
+const HDR_KEY: usize = PLACES + 2;
+
+pub(crate) const THROTTLE_KEY: usize = PLACES + 3;
 
 // How many keys there are; as a key, none.
-pub const KEYS: usize = 19;
+pub const KEYS: usize = PLACES + 4;
+
+// The kinds, and the addresses of face authentication.
+const EV: usize = selectors::EV as usize;
+
+const FACE: usize = selectors::FACE as usize;
+
+const METADATA: usize = selectors::METADATA as usize;
+
+const HDR: usize = selectors::HDR as usize;
+
+const THROTTLE: usize = selectors::THROTTLE as usize;
+
+const FIRST: usize = endpoints::FIRST as usize;
+
+const LAST: usize = FIRST + PLACES - 1;
 
 // The length of a record of a key; 0 where there is no such key.
 pub fn size_of(key: usize) -> usize
     ensures { λ r. ⌜ r ≡ sizeOf key ⌝ }
 {
-    if key == 0 {
+    if key == EV_KEY {
         return 15;
     }
-    if key <= 15 {
+    if key <= PLACES {
         return 13;
     }
-    if key <= 17 {
+    if key <= HDR_KEY {
         return 8;
     }
-    if key == 18 {
+    if key == THROTTLE_KEY {
         return 24;
     }
     0
 }
 
-// The length of a record of a kind; 0 where the kind is unknown.
-pub(crate) fn length_of(kind: usize) -> usize
-    ensures { λ r. ⌜ r ≡ lengthOf kind ⌝ }
+// The key, if its records have this length; else KEYS.
+fn key_if(len: usize, key: usize) -> usize
+    ensures { λ r. ⌜ r ≡ cond (eqb len (sizeOf key)) key keys ⌝ }
 {
-    if kind == 0x03 {
-        return 15;
+    if len == size_of(key) {
+        return key;
     }
-    if kind == 0x06 {
-        return 13;
-    }
-    if kind == 0x09 {
-        return 8;
-    }
-    if kind == 0x0D {
-        return 8;
-    }
-    if kind == 0x0E {
-        return 24;
-    }
-    0
+    KEYS
 }
 
-// The key of a known kind, and for face authentication of an address.
-pub(crate) fn key_for(kind: usize, address: usize) -> usize
-    ensures { λ r. ⌜ r ≡ keyFor kind address ⌝ }
+// The key of a record that states this length and kind, its bytes 4 and 5 (of face authentication the number of entries and the address)
+// being these; KEYS where there is a fault in them. A throttle's tail is not among them.
+pub(crate) fn key_by(len: usize, kind: usize, entries: usize, address: usize) -> usize
+    ensures { λ r. ⌜ r ≡ keyBy len kind entries address ⌝ }
 {
-    if kind == 0x03 {
-        return 0;
-    }
-    if kind == 0x06 {
-        if address < 0x80 {
-            return 0;
+    if kind == FACE {
+        if (entries == 1) & (FIRST <= address) & (address <= LAST) {
+            return key_if(len, address - (FIRST - 1));
         }
-        return address - 0x80;
+        return KEYS;
     }
-    if kind == 0x09 {
-        return 16;
+    if kind == EV {
+        return key_if(len, EV_KEY);
     }
-    if kind == 0x0D {
-        return 17;
+    if kind == METADATA {
+        return key_if(len, METADATA_KEY);
     }
-    18
+    if kind == HDR {
+        return key_if(len, HDR_KEY);
+    }
+    if kind == THROTTLE {
+        return key_if(len, THROTTLE_KEY);
+    }
+    KEYS
 }

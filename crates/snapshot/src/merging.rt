@@ -1,15 +1,21 @@
 // Merging two snapshots: one record for each key that is in either, the second's where both have it.
 use crate::form::well_formed;
 use crate::keys::KEYS;
-use crate::records::passed_at;
+use crate::keys::size_of;
+use crate::records::key_at;
 use wire::Part;
 use wire::uvc::MALFORMED_SNAPSHOT;
 use wire::uvc::NO_ROOM;
 ghost use mathlib.Core.Path.{_≡_};
+ghost use mathlib.Core.Bool.{true};
 ghost use lib.ListN.{length};
+ghost use lib.Dec.{leb};
 ghost use Rattle.wire.specs.Overlay.{overlay};
+ghost use Rattle.snapshot.specs.Form.{wellFormed};
 ghost use Rattle.snapshot.specs.Merge.{merged, mergeCode, mergeLen, mergeOut};
-ghost use Rattle.snapshot.specs.Steps.{keptOf};
+
+// As many bytes as any snapshot needs.
+const LONGEST: usize = 250;
 
 // The verdict, and how many bytes the merged snapshot has; 0 where it is refused.
 pub struct Merged {
@@ -24,35 +30,53 @@ fn refused(code: u8) -> Merged
     Merged { code, len: 0 }
 }
 
-// How many bytes of the first's record of a key stay, by how many the two snapshots have: none where the second has a record.
-fn kept(first: usize, second: usize) -> usize
-    ensures { λ r. ⌜ r ≡ keptOf first second ⌝ }
-{
-    if second == 0 { first } else { 0 }
-}
-
 // Writes the merged snapshot over the start of out, as far as out reaches, and returns how long all of it is.
 fn write_merged(first: &[u8], second: &[u8], out: &mut [u8]) -> usize
+    requires { ⌜ (wellFormed (now first) ≡ true) × (wellFormed (now second) ≡ true) ⌝ }
     ensures { λ r. ⌜ r ≡ length (merged (now (first .entry)) (now (second .entry))) ⌝ }
     ensures { λ _. ⌜ now (out .exit) ≡ overlay (now (out .entry)) 0 (merged (now (first .entry)) (now (second .entry))) ⌝ }
 {
+    // A place in each, and the key that stands there.
     let mut a = 0;
+    let mut x = key_at(first, 0);
     let mut b = 0;
+    let mut y = key_at(second, 0);
     let mut n = 0;
-    let mut key = 0;
-    while key < KEYS {
-        let p = passed_at(first, a, key);
-        let q = passed_at(second, b, key);
-        let m = kept(p, q);
-        wire::copy(out, n, wire::part_at(first, Part { at: a, len: m }));
-        n += m;
-        wire::copy(out, n, wire::part_at(second, Part { at: b, len: q }));
-        n += q;
-        a += p;
-        b += q;
-        key += 1;
+    while wire::least(x, y) < KEYS {
+        if x < y {
+            let size = size_of(x);
+            wire::copy(out, n, wire::part_at(first, Part { at: a, len: size }));
+            n += size;
+            a += size;
+            x = key_at(first, a);
+            continue;
+        }
+        // Of equal keys the first's record is passed over.
+        if x == y {
+            a += size_of(x);
+            x = key_at(first, a);
+            continue;
+        }
+        let size = size_of(y);
+        wire::copy(out, n, wire::part_at(second, Part { at: b, len: size }));
+        n += size;
+        b += size;
+        y = key_at(second, b);
     }
     n
+}
+
+// Whether so much room is enough for the merged snapshot.
+fn has_room(first: &[u8], second: &[u8], room: usize) -> bool
+    requires { ⌜ (wellFormed (now first) ≡ true) × (wellFormed (now second) ≡ true) ⌝ }
+    ensures { λ r. ⌜ r ≡ leb (length (merged (now (first .entry)) (now (second .entry)))) room ⌝ }
+{
+    if LONGEST <= room {
+        return true;
+    }
+    // Into no room nothing is written: this only measures.
+    let mut none = [0u8; 0];
+    write_merged(first, second, &mut none) <= room
 }
 
 // Merges two snapshots into the start of out: a form fault of either is 0x22, then room short of the merged snapshot 0x20.
@@ -67,9 +91,7 @@ pub fn merge(first: &[u8], second: &[u8], out: &mut [u8]) -> Merged
     if !well_formed(second) {
         return refused(MALFORMED_SNAPSHOT);
     }
-    // Into no room nothing is written: this only measures.
-    let mut none = [0u8; 0];
-    if out.len() < write_merged(first, second, &mut none) {
+    if !has_room(first, second, out.len()) {
         return refused(NO_ROOM);
     }
     let n = write_merged(first, second, out);

@@ -1,5 +1,5 @@
 -- Laws of the face control's definitions. Assumes nothing.
-use mathlib.Core.Path.{_≡_, refl, ap, sym, _∙_}
+use mathlib.Core.Path.{_≡_, refl, ap, _∙_}
 use mathlib.Core.List.{List, [], _∷_}
 use mathlib.Core.Bool.{Bool, true, false, cond, not, _||_, and-eq-true-iff}
 use Prim.Native.Nat.{ℕ, zero, suc, _+_, _*_, _-_, _/_, _^_, _≤_, _<_}
@@ -7,19 +7,20 @@ use native.Mathlib.Numerals.{add-one, sub-one}
 use native.Mathlib.Omega.{arith}
 use lib.Dec.{leb, eqb, lit≤}
 use lib.ListN.{length, getD, length-append}
-use borrow.Author.Tests.{eq-eqb, ne-eqb, eqb-true, eqb-false, lt-ltb, ltb-true, le-leb, leb-true}
+use borrow.Author.Tests.{eqb-true, eqb-false, lt-ltb, ltb-true, le-leb, leb-true}
+use Rattle.wire.specs.Endpoints.{firstAddress, lastAddress, endpointLimit}
 use Rattle.wire.specs.Number.{leAt, bytesOf}
 use Rattle.wire.specs.Flags.{choiceOf}
+use Rattle.wire.specs.Uvc.{getCur, getDef, getLen, getMin, getRes, invalidValue, outOfRange}
 use Rattle.wire.specs.Rows.{_⇒_, firstOf}
 use Rattle.wire.specs.Overlay.{overlay}
-use Rattle.wire.specs.declared.flags.Choice.the-variants as C
 use Rattle.wire.proofs.Laws.Overlay.{append}
-use Rattle.face.specs.declared.face.FaceLimits.{FaceLimits}
-use Rattle.controls.specs.declared.settings.Item.the-variants.{Refused, Given}
+use Rattle.face.specs.declared.limits.FaceLimits.{FaceLimits}
+use Rattle.controls.specs.declared.settings.Item.the-variants.{Given}
 use Rattle.controls.specs.declared.settings.Setting.the-variants as S
 use Rattle.controls.specs.Settings.{itemOf}
-use Rattle.request.specs.Answers.{answerBy}
-use Rattle.face.specs.Face.{endpointLimit, endpoints, addressAt, offersAt, allBelow, offersValid, addressBefore, endpointValid, faceValid, offersFrom, offersOf, takesFace, entryAddress, entryFlags, seenIn, seenBefore, isChoice, faceRefusal, entryRefusal, faceItem, entryOf, heldAt, flagsAt, entriesOf, faceValue, faceAnswer}
+use Rattle.request.specs.Answers.{answerBy, longest}
+use Rattle.face.specs.Face.{endpoints, addressAt, offersAt, allBelow, offersValid, addressBefore, endpointValid, faceValid, offersFrom, offersOf, takesFace, entryAddress, entryFlags, seenIn, seenBefore, isChoice, faceRefusal, entryRefusal, faceItem, entryOf, heldAt, flagsAt, entriesOf, faceValue, faceAnswer}
 use Rattle.wire.proofs.Laws.Bytes.{number-bytes, bytes-byte}
 use Rattle.controls.proofs.Laws.Settings.{given-is}
 use Rattle.request.proofs.Laws.Answers.{answer-len, answer-length}
@@ -30,19 +31,6 @@ pub before-next : (l : FaceLimits) (i : ℕ) → (i ≡ 0 → ⊥) → addressAt
 unfolding addressBefore
 before-next l zero p = absurd (p refl)
 before-next l (suc i) p = rw sub-one
-
--- looking an address up: at its place, and past another's
-module _ (l : FaceLimits) (address n i : ℕ) (h : i < n) where
-  abbrev left : n - i ≡ suc (n - (i + 1))
-  left = omega arith
-
-  pub offers-here : addressAt l i ≡ address → offersFrom l address (n - i) i ≡ offersAt l i
-  unfolding offersFrom
-  offers-here e = rw (left, eq-eqb (addressAt l i) address e)
-
-  pub offers-next : (addressAt l i ≡ address → ⊥) → offersFrom l address (n - i) i ≡ offersFrom l address (n - (i + 1)) (i + 1)
-  unfolding offersFrom
-  offers-next p = rw (left, ne-eqb (addressAt l i) address p, add-one i)
 
 -- the length that a payload must have, by its first byte
 pub takes-empty : (l : FaceLimits) (s : List ℕ) → length s ≡ 0 → takesFace l s ≡ 1
@@ -55,50 +43,10 @@ unfolding takesFace
 takes-first l [] p = absurd (p refl)
 takes-first l (n ∷ s) p = refl
 
--- one entry more
-pub seen-next : (s : List ℕ) (i j : ℕ) → seenIn s i (j + 1) ≡ seenIn s i j || eqb (entryAddress s j) (entryAddress s i)
-unfolding seenIn
-seen-next s i j = rw add-one
-
 -- an entry whose flags are one byte
 pub entry-small : (address flags : ℕ) → flags < 256 → entryOf address flags ≡ address ∷ flags ∷ 0 ∷ 0 ∷ 0 ∷ 0 ∷ 0 ∷ 0 ∷ []
 unfolding bytesOf
 entry-small address flags h = ap (λ (l : List ℕ). address ∷ l) (bytes-byte 6 flags h)
-
--- a setting by itself
-pub refusal-none : (offers flags p : ℕ) → choiceOf offers flags ≡ C.At p → faceRefusal offers flags ≡ 0
-unfolding faceRefusal isChoice
-refusal-none offers flags p e = rw e
-
-pub refusal-flags : (offers flags : ℕ) → choiceOf offers flags ≡ C.Refused → faceRefusal offers flags ≡ 0x08
-unfolding faceRefusal isChoice
-refusal-flags offers flags e = rw e
-
--- an entry, by the first of its tests that fails; address, offers and flags are what the code reads
-module _ (l : FaceLimits) (s : List ℕ) (i address offers : ℕ) (ha : address ≡ entryAddress s i) (ho : offers ≡ offersOf l address) where
-  offers-are : offersOf l (entryAddress s i) ≡ offers
-  offers-are = ap (offersOf l) (sym ha) ∙ sym ho
-
-  pub item-unlisted : offers ≡ 0 → faceItem l s i ≡ Refused 0x04
-  unfolding faceItem entryRefusal itemOf
-  item-unlisted e = rw (offers-are, eq-eqb offers 0 e)
-
-  module _ (listed : offers ≡ 0 → ⊥) where
-    pub item-seen : seenBefore s i ≡ true → faceItem l s i ≡ Refused 0x08
-    unfolding faceItem entryRefusal itemOf
-    item-seen e = rw (offers-are, ne-eqb offers 0 listed, e)
-
-    module _ (flags : ℕ) (hf : flags ≡ leAt 7 s (1 + 8 * i + 1)) (new : seenBefore s i ≡ false) where
-      flags-are : leAt 7 s (2 + 8 * i) ≡ flags
-      flags-are = let e : 2 + 8 * i ≡ 1 + 8 * i + 1 = omega arith in ap (leAt 7 s) e ∙ sym hf
-
-      pub item-flags : choiceOf offers flags ≡ C.Refused → faceItem l s i ≡ Refused 0x08
-      unfolding faceItem entryRefusal itemOf isChoice
-      item-flags e = rw (offers-are, ne-eqb offers 0 listed, new, flags-are, e)
-
-      pub item-given : (p : ℕ) → choiceOf offers flags ≡ C.At p → faceItem l s i ≡ Given (S.Face address flags)
-      unfolding faceItem entryRefusal itemOf isChoice
-      item-given p e = rw (offers-are, ne-eqb offers 0 listed, new, flags-are, e, ha)
 
 -- the entries of an answer, one after the other
 module _ (l : FaceLimits) (held : List ℕ) (code : ℕ) where
@@ -115,22 +63,22 @@ module _ (l : FaceLimits) (held : List ℕ) (code : ℕ) where
       let n : 1 + 8 * i ≡ length s = omega (arith, length-entries i) in
       rw (e, n, add-one i) (append blank s (entryOf (addressAt l i) (flagsAt l held code i)))
 
-  pub value-length : length (faceValue l held code) ≤ 65
+  pub value-length : length (faceValue l held code) ≤ longest
   unfolding faceValue
-  value-length = go (eqb code 0x82 || eqb code 0x84)
+  value-length = go (eqb code getMin || eqb code getRes)
     where
-      go : (b : Bool) → length (cond b (0 ∷ []) (endpoints l ∷ entriesOf l held code (endpoints l))) ≤ 65
+      go : (b : Bool) → length (cond b (0 ∷ []) (endpoints l ∷ entriesOf l held code (endpoints l))) ≤ longest
       go true = lit≤ tt
       go false = omega (arith, length-entries (endpoints l))
 
-  pub answer-fits : length (faceAnswer l held code) ≤ 65
+  pub answer-fits : length (faceAnswer l held code) ≤ longest
   unfolding faceAnswer
-  answer-fits = answer-length code (1 + 8 * endpoints l) 0x03 (faceValue l held code) 65 (lit≤ tt) value-length
+  answer-fits = answer-length code (1 + 8 * endpoints l) 0x03 (faceValue l held code) longest (lit≤ tt) value-length
 
 -- a listed endpoint of a valid profile
 pub record Listed (address offers : ℕ) : Type 0 where
-  pub first : 0x81 ≤ address
-  pub last : address ≤ 0x8F
+  pub first : firstAddress ≤ address
+  pub last : address ≤ lastAddress
   pub least : 2 ≤ offers
   pub most : offers ≤ 5
 
@@ -145,6 +93,16 @@ all-at (suc n) f h i p =
     go : (b : Bool) → eqb i n ≡ b → f n ≡ true → (i < n → f i ≡ true) → f i ≡ true
     go true e last before = ap f (eqb-true i n e) ∙ last
     go false e last before = let q = eqb-false i n e in before (omega arith)
+
+pub all-of : (n : ℕ) (f : ℕ → Bool) → ((i : ℕ) → i < n → f i ≡ true) → allBelow n f ≡ true
+unfolding allBelow
+all-of zero f h = refl
+all-of (suc n) f h = rw (all-of n f (λ i p. h i (omega arith)), h n (omega arith))
+
+pub all-same : (n : ℕ) (f g : ℕ → Bool) → ((i : ℕ) → i < n → f i ≡ g i) → allBelow n f ≡ allBelow n g
+unfolding allBelow
+all-same zero f g h = refl
+all-same (suc n) f g h = rw (all-same n f g (λ i p. h i (omega arith)), h n (omega arith))
 
 offers-between : (o : ℕ) → offersValid o ≡ true → (2 ≤ o) × (o ≤ 5)
 offers-between o h = go (eqb (o / 2) 1) (eqb (o / 2) 2) refl refl h
@@ -163,15 +121,15 @@ module _ (l : FaceLimits) (valid : faceValid l ≡ true) where
   unfolding faceValid
   count-most = leb-true (l .count) endpointLimit (simp and-eq-true-iff at valid .0 .1)
 
-  place-valid : (i : ℕ) → i < l .count → (addressBefore l i < addressAt l i) × (addressAt l i ≤ 0x8F) × (2 ≤ offersAt l i) × (offersAt l i ≤ 5)
+  place-valid : (i : ℕ) → i < l .count → (addressBefore l i < addressAt l i) × (addressAt l i ≤ lastAddress) × (2 ≤ offersAt l i) × (offersAt l i ≤ 5)
   unfolding faceValid endpointValid
   place-valid i h =
       let v = all-at endpointLimit (endpointValid l) (simp and-eq-true-iff at valid .1) i (omega (arith, count-most)) in
       let w = simp and-eq-true-iff at (rw (lt-ltb i (l .count) h) at v) in
       let o = offers-between (offersAt l i) (w .1) in
-      (ltb-true (addressBefore l i) (addressAt l i) (w .0 .0), leb-true (addressAt l i) 0x8F (w .0 .1), o .0, o .1)
+      (ltb-true (addressBefore l i) (addressAt l i) (w .0 .0), leb-true (addressAt l i) lastAddress (w .0 .1), o .0, o .1)
 
-  above : (i : ℕ) → i < l .count → 0x80 < addressAt l i
+  above : (i : ℕ) → i < l .count → firstAddress ≤ addressAt l i
   unfolding addressBefore
   above zero h = place-valid zero h .0
   above (suc i) h = omega (arith, above i (omega arith), place-valid (suc i) h .0)
@@ -202,7 +160,7 @@ entry-flags n address flags h = number-bytes 7 flags h
 
 -- a payload of one entry, as a snapshot's record has it
 pub one-entry : (l : FaceLimits) (address flags : ℕ) → flags < 256
-    → faceItem l (1 ∷ entryOf address flags) 0 ≡ itemOf (firstOf ((eqb (offersOf l address) 0 ⇒ 0x04) ∷ (not (isChoice (choiceOf (offersOf l address) flags)) ⇒ 0x08) ∷ [])) (S.Face address flags)
+    → faceItem l (1 ∷ entryOf address flags) 0 ≡ itemOf (firstOf ((eqb (offersOf l address) 0 ⇒ outOfRange) ∷ (not (isChoice (choiceOf (offersOf l address) flags)) ⇒ invalidValue) ∷ [])) (S.Face address flags)
 unfolding faceItem entryRefusal seenIn
 one-entry l address flags h = rw (entry-flags 1 address flags (omega arith))
 
@@ -214,7 +172,7 @@ pub record Accepted (l : FaceLimits) (s : List ℕ) (i address flags : ℕ) : Ty
   pub new : seenBefore s i ≡ false
   pub sound : faceRefusal (offersOf l address) flags ≡ 0
 
-tests-passed : (a b c : Bool) → firstOf ((a ⇒ 0x04) ∷ (b ⇒ 0x08) ∷ (not c ⇒ 0x08) ∷ []) ≡ 0 → (a ≡ false) × (b ≡ false) × (c ≡ true)
+tests-passed : (a b c : Bool) → firstOf ((a ⇒ outOfRange) ∷ (b ⇒ invalidValue) ∷ (not c ⇒ invalidValue) ∷ []) ≡ 0 → (a ≡ false) × (b ≡ false) × (c ≡ true)
 tests-passed true b c e = absurd (omega arith)
 tests-passed false true c e = absurd (omega arith)
 tests-passed false false false e = absurd (omega arith)
@@ -239,23 +197,23 @@ accepted l s i address flags e =
 
 -- while no setting is held CUR is DEF
 module _ (l : FaceLimits) (held : List ℕ) (none : (address : ℕ) → heldAt held address ≡ 0) where
-  fresh-flags : (i : ℕ) → flagsAt l held 0x81 i ≡ flagsAt l held 0x87 i
+  fresh-flags : (i : ℕ) → flagsAt l held getCur i ≡ flagsAt l held getDef i
   unfolding flagsAt
   fresh-flags i = rw (none (addressAt l i))
 
-  fresh-entries : (n : ℕ) → entriesOf l held 0x81 n ≡ entriesOf l held 0x87 n
+  fresh-entries : (n : ℕ) → entriesOf l held getCur n ≡ entriesOf l held getDef n
   unfolding entriesOf
   fresh-entries zero = refl
   fresh-entries (suc n) = rw (fresh-entries n, fresh-flags n)
 
-  pub fresh-answer : faceAnswer l held 0x81 ≡ faceAnswer l held 0x87
+  pub fresh-answer : faceAnswer l held getCur ≡ faceAnswer l held getDef
   unfolding faceAnswer answerBy faceValue
   fresh-answer = rw (fresh-entries (endpoints l))
 
 -- LEN's answer is the length of the longest SET
-pub len-answer : (l : FaceLimits) (held : List ℕ) → faceAnswer l held 0x85 ≡ bytesOf 2 (1 + 8 * endpoints l)
+pub len-answer : (l : FaceLimits) (held : List ℕ) → faceAnswer l held getLen ≡ bytesOf 2 (1 + 8 * endpoints l)
 unfolding faceAnswer
-len-answer l held = answer-len 0x85 (1 + 8 * endpoints l) 0x03 (faceValue l held 0x85) refl
+len-answer l held = answer-len getLen (1 + 8 * endpoints l) 0x03 (faceValue l held getLen) refl
 
 module _ (l : FaceLimits) (valid : faceValid l ≡ true) where
   pub len-taken : (rest : List ℕ) → takesFace l (l .count ∷ rest) ≡ 1 + 8 * endpoints l

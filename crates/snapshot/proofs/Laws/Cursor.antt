@@ -3,22 +3,23 @@ use Prim.Native.Nat.{ℕ, _+_, _-_, _≤_, _<_}
 use native.Mathlib.Omega.{arith}
 use native.Mathlib.Numerals.{add-one}
 use mathlib.Core.Path.{_≡_, refl, sym, ap, ap₂, _∙_}
-use mathlib.Core.Bool.{Bool, true, false, cond}
+use mathlib.Core.Bool.{Bool, true, false, cond, _&&_, true≢false}
 use mathlib.Core.List.{List, [], _∷_}
 use mathlib.Core.Option.{none, some}
 use lib.ListN.{length, take, drop, length-drop}
 use lib.Seq.{drop-drop}
-use lib.Dec.{eqb}
-use borrow.Author.Tests.{le-leb, lt-leb, eq-eqb, ne-eqb}
+use lib.Dec.{leb, ltb, eqb}
+use borrow.Author.Tests.{le-leb, lt-leb, lt-ltb, leb-true, ltb-true, eq-eqb, ne-eqb}
 use Rattle.wire.specs.declared.parts.Part.{Part}
 use Rattle.wire.specs.Parts.{nowhere}
-use Rattle.snapshot.specs.Form.{sizeOf, isEmpty, wellFormed}
-use Rattle.snapshot.specs.Records.{stands, passed, skip, from, recordAt, decode, bytes, recordPlace}
+use Rattle.snapshot.specs.Form.{keys, sizeOf, sound, keyAt, isEmpty, wellFormed}
+use Rattle.snapshot.specs.Records.{stands, keyOf, passed, skip, from, recordAt, decode, bytes, recordPlace}
 use Rattle.snapshot.specs.Steps.{Cursor}
-use Rattle.snapshot.proofs.Laws.Sound.{stands-long}
+use Rattle.snapshot.proofs.Laws.Sound.{and-left, and-right, stands-long}
 use Rattle.snapshot.proofs.Laws.Form.{formed-from}
+use Rattle.snapshot.proofs.Laws.Stay.{other-stands, stay}
 
-pub passed-long : (k : ℕ) (s : List ℕ) → passed k s ≤ length s
+passed-long : (k : ℕ) (s : List ℕ) → passed k s ≤ length s
 unfolding passed
 passed-long k s = go (stands k s) refl
   where
@@ -34,13 +35,26 @@ skip-passed k s = go (stands k s)
     go true = refl
     go false = refl
 
-pub record-passed : (k : ℕ) (s : List ℕ) → bytes (recordAt k s) ≡ take (passed k s) s
+record-passed : (k : ℕ) (s : List ℕ) → bytes (recordAt k s) ≡ take (passed k s) s
 unfolding recordAt passed
 record-passed k s = go (stands k s)
   where
     go : (b : Bool) → bytes (cond b (some (take (sizeOf k) s)) none) ≡ take (cond b (sizeOf k) 0) s
     go true = refl
     go false = refl
+
+-- nothing but a record has bytes, so a key that is none passes as many as its records have
+pub is-passed : (k : ℕ) (t : List ℕ) → keyOf t ≡ k → sizeOf k ≡ passed k t
+unfolding passed stands keyOf
+is-passed k t e = go (sound t) refl e
+  where
+    go : (b : Bool) → sound t ≡ b → cond b (keyAt t) keys ≡ k → sizeOf k ≡ cond (b && eqb (keyAt t) k) (sizeOf k) 0
+    go true p e = simp (eq-eqb (keyAt t) k e)
+    go false p e = ap sizeOf (sym e)
+
+pub not-passed : (k : ℕ) (t : List ℕ) → (keyOf t ≡ k → ⊥) → 0 ≡ passed k t
+unfolding passed
+not-passed k t e = simp (other-stands k t e)
 
 pub start : (s : List ℕ) → Cursor s 0 0
 unfolding from
@@ -62,22 +76,43 @@ module _ (s : List ℕ) (at k : ℕ) (c : Cursor s at k) where
     here = rw add-one (sym (drop-drop (passed k (drop at s)) at s) ∙ sym (skip-passed k (drop at s)) ∙ ap (skip k) (c .here));
   }
 
+  -- where no record of a key from k up to j stands at the cursor, nothing is passed
+  pub cursor-stay : (j : ℕ) → k ≤ j → ((i : ℕ) → k ≤ i → i < j → keyOf (drop at s) ≡ i → ⊥) → Cursor s at j
+  cursor-stay j h n = record {
+    within = c .within;
+    here = c .here ∙ sym (stay s k j h (λ i p q. rw (← (c .here)) (other-stands i (drop at s) (n i p q))));
+  }
+
   -- and stands at the cursor
-  pub cursor-place : k < 19 → {n : ℕ} → n ≡ passed k (drop at s) → record { at = at; len = n } ≡ recordPlace s k
+  pub cursor-place : k < keys → {n : ℕ} → n ≡ passed k (drop at s) → record { at = at; len = n } ≡ recordPlace s k
   unfolding recordPlace
   cursor-place h {n} e =
       let a : at ≡ length s - length (from s k) = omega (arith, c .within, ap length (c .here), length-drop at s) in
-      simp (lt-leb 19 k h) (ap₂ {C = Part} (λ i m. record { at = i; len = m }) a (e ∙ ap (passed k) (c .here)))
+      simp (lt-leb keys k h) (ap₂ {C = Part} (λ i m. record { at = i; len = m }) a (e ∙ ap (passed k) (c .here)))
 
 -- a number that is no key has its record nowhere
-pub no-place : (s : List ℕ) (k : ℕ) → 19 ≤ k → nowhere ≡ recordPlace s k
+pub no-place : (s : List ℕ) (k : ℕ) → keys ≤ k → nowhere ≡ recordPlace s k
 unfolding recordPlace
-no-place s k h = simp (le-leb 19 k h)
+no-place s k h = simp (le-leb keys k h)
 
 -- behind the last key, the bytes are well formed where nothing is left
-pub end : (s : List ℕ) (at : ℕ) → Cursor s at 19 → eqb at (length s) ≡ wellFormed s
+pub end : (s : List ℕ) (at : ℕ) → Cursor s at keys → eqb at (length s) ≡ wellFormed s
 end s at c = go (drop at s) (length-drop at s) ∙ ap isEmpty (c .here) ∙ sym (formed-from s)
   where
     go : (t : List ℕ) → length t ≡ length s - at → eqb at (length s) ≡ isEmpty t
     go [] e = eq-eqb at (length s) (omega (arith, c .within))
     go (b ∷ t) e = ne-eqb at (length s) (omega arith)
+
+-- going from record to record, with the lowest key that may follow: on to the next while it ascends and is below the key, and else done
+module _ (s : List ℕ) (at low k key : ℕ) (c : Cursor s at low) (e : k ≡ keyOf (drop at s)) where
+  pub cursor-on : (leb low k && ltb k key) ≡ true → (low ≤ k) × ((k < key) × Cursor s (at + sizeOf k) (k + 1))
+  cursor-on h =
+      let l = leb-true low k (and-left _ (ltb k key) h) in
+      let d = cursor-stay s at low c k l (λ i p q f. omega arith) in
+      (l, (ltb-true k key (and-right (leb low k) _ h), rw (is-passed k (drop at s) (sym e)) (next s at k d)))
+
+  pub cursor-done : (leb low k && ltb k key) ≡ false → low ≤ key → Cursor s at key
+  cursor-done h l =
+      cursor-stay s at low c key l
+      (λ i p q f.
+      let g : k ≡ i = e ∙ f in true≢false (sym (simp (le-leb low k (omega arith), lt-ltb k key (omega arith))) ∙ h))

@@ -5,13 +5,13 @@ use mathlib.Core.Path.{_≡_, refl, sym, ap, _∙_}
 use mathlib.Core.Bool.{Bool, true, false}
 use mathlib.Core.List.{List, [], _∷_, _++_}
 use mathlib.Core.Option.{Option, none, some}
-use lib.ListN.{length, take, drop, length-drop}
+use lib.ListN.{length, take, length-drop}
 use lib.Dec.{leb, eqb}
 use borrow.Author.Tests.{leb-true, leb-false, eqb-true, eqb-false, ne-eqb}
-use Rattle.snapshot.specs.Form.{sizeOf, sound, formed, wellFormed}
+use Rattle.snapshot.specs.Form.{keys, sizeOf, sound, formed, wellFormed}
 use Rattle.snapshot.specs.Records.{stands, skip, from, recordAt, decode, bytes, records, encode, Entry, split, recordsOf, find, Ascending, joined}
 use Rattle.snapshot.proofs.Laws.Sound.{parts-sound, stands-sound, stands-size, stands-long, stands-some}
-use Rattle.snapshot.proofs.Laws.Maps.{decode-good, none-above}
+use Rattle.snapshot.proofs.Laws.Maps.{skip-at, skip-not, decode-good, none-above}
 use Rattle.snapshot.proofs.Laws.Form.{empty-nil, formed-end, formed-at, formed-not, encode-decode}
 
 -- the record of key k of a map, as a list of one or none
@@ -29,14 +29,6 @@ unfolding split sound
 split-nil zero = refl
 split-nil (suc fuel) = refl
 
-skip-at : (k : ℕ) (t : List ℕ) → stands k t ≡ true → skip k t ≡ drop (sizeOf k) t
-unfolding skip
-skip-at k t e = simp e
-
-skip-not : (k : ℕ) (t : List ℕ) → stands k t ≡ false → skip k t ≡ t
-unfolding skip
-skip-not k t e = simp e
-
 -- where a record of key k stands it is the first of the list, and where none stands the list is that of the later keys
 split-at : (fuel k : ℕ) (t : List ℕ) (rest : List Entry) (b : Bool) → stands k t ≡ b → length t ≤ fuel → formed fuel k t ≡ true
     → ((f : ℕ) → length (skip k t) ≤ f → formed f (suc k) (skip k t) ≡ true → split f (skip k t) ≡ rest)
@@ -53,20 +45,20 @@ split-at fuel k t rest false e l w ih =
     let r = ih fuel (rw s l) (rw s (sym (formed-not fuel k t e) ∙ w)) in
     simp e (rw s at r)
 
-split-entries : (n fuel k : ℕ) (s : List ℕ) → length (from s k) ≤ fuel → n + k ≡ 19 → formed fuel k (from s k) ≡ true
+split-entries : (n fuel k : ℕ) (s : List ℕ) → length (from s k) ≤ fuel → n + k ≡ keys → formed fuel k (from s k) ≡ true
     → split fuel (from s k) ≡ entries n k (decode s)
 unfolding entries decode from
 split-entries zero fuel k s l h w =
-    let q : k ≡ 19 = omega arith in
+    let q : k ≡ keys = omega arith in
     let e : from s k ≡ [] = empty-nil _ (sym (formed-end fuel (from s k)) ∙ ap (λ i. formed fuel i (from s k)) (sym q) ∙ w) in
     ap (split fuel) e ∙ split-nil fuel
 split-entries (suc n) fuel k s l h w =
     split-at fuel k (from s k) (entries n (suc k) (decode s)) _ refl l w (λ f p q. split-entries n f (suc k) s p (omega arith) q)
 
 -- the list of a well-formed snapshot's records is that of its map
-pub records-entries : (s : List ℕ) → wellFormed s ≡ true → recordsOf s ≡ entries 19 0 (decode s)
+pub records-entries : (s : List ℕ) → wellFormed s ≡ true → recordsOf s ≡ entries keys 0 (decode s)
 unfolding recordsOf wellFormed from
-records-entries s w = split-entries 19 (length s) 0 s (omega arith) refl w
+records-entries s w = split-entries keys (length s) 0 s (omega arith) refl w
 
 -- a key that is not among those passed is not found
 find-none : (n k j : ℕ) (m : ℕ → Option (List ℕ)) → ((i : ℕ) → k ≤ i → i < n + k → i ≡ j → ⊥) → find j (entries n k m) ≡ none
@@ -94,13 +86,13 @@ find-entries (suc n) k j m h l = go (eqb k j) refl (m k) refl (λ (p : suc k ≤
 
 -- the record of each key in the list is that of the map
 pub find-records : (s : List ℕ) → wellFormed s ≡ true → (k : ℕ) → find k (recordsOf s) ≡ decode s k
-find-records s w k = ap (find k) (records-entries s w) ∙ go (leb 19 k) refl
+find-records s w k = ap (find k) (records-entries s w) ∙ go (leb keys k) refl
   where
-    go : (b : Bool) → leb 19 k ≡ b → find k (entries 19 0 (decode s)) ≡ decode s k
+    go : (b : Bool) → leb keys k ≡ b → find k (entries keys 0 (decode s)) ≡ decode s k
     go true e =
-        let h = leb-true 19 k e in
-        find-none 19 0 k (decode s) (λ i p q. omega arith) ∙ sym (none-above (decode s) (decode-good s) k h)
-    go false e = let h = leb-false 19 k e in find-entries 19 0 k (decode s) (omega arith) (omega arith)
+        let h = leb-true keys k e in
+        find-none keys 0 k (decode s) (λ i p q. omega arith) ∙ sym (none-above (decode s) (decode-good s) k h)
+    go false e = let h = leb-false keys k e in find-entries keys 0 k (decode s) (omega arith) (omega arith)
 
 entries-ascend : (n k low : ℕ) (m : ℕ → Option (List ℕ)) → low ≤ k → Ascending low (entries n k m)
 unfolding entries
@@ -113,7 +105,7 @@ entries-ascend (suc n) k low m h = go (m k) (λ low (p : low ≤ suc k). entries
 
 -- its keys ascend strictly
 pub records-ascend : (s : List ℕ) → wellFormed s ≡ true → Ascending 0 (recordsOf s)
-records-ascend s w = rw (records-entries s w) (entries-ascend 19 0 0 (decode s) (omega arith))
+records-ascend s w = rw (records-entries s w) (entries-ascend keys 0 0 (decode s) (omega arith))
 
 entries-joined : (n k : ℕ) (m : ℕ → Option (List ℕ)) → joined (entries n k m) ≡ records n k m
 unfolding entries records
@@ -127,4 +119,4 @@ entries-joined (suc n) k m = go (m k) (entries-joined n (suc k) m)
 -- its records are all its bytes
 pub records-joined : (s : List ℕ) → wellFormed s ≡ true → joined (recordsOf s) ≡ s
 unfolding encode
-records-joined s w = ap joined (records-entries s w) ∙ entries-joined 19 0 (decode s) ∙ encode-decode s w
+records-joined s w = ap joined (records-entries s w) ∙ entries-joined keys 0 (decode s) ∙ encode-decode s w

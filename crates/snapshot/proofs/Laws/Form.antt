@@ -1,4 +1,4 @@
--- Well-formed bytes: going through the 19 keys passes all of them, and they are the snapshot of their records. Assumes nothing.
+-- Well-formed bytes: going through the keys passes all of them, and they are the snapshot of their records. Assumes nothing.
 use Prim.Native.Nat.{ℕ, zero, suc, _+_, _≤_, _<_}
 use native.Mathlib.Omega.{arith}
 use native.Mathlib.Nat.{zero-add}
@@ -9,7 +9,7 @@ use mathlib.Core.Option.{Option, none, some}
 use lib.ListN.{length, take, drop, length-drop, take-append-drop}
 use lib.Dec.{leb}
 use borrow.Author.Tests.{le-leb, lt-leb, leb-true, leb-false}
-use Rattle.snapshot.specs.Form.{sizeOf, lengthAt, sound, keyAt, isEmpty, formed, wellFormed}
+use Rattle.snapshot.specs.Form.{keys, sizeOf, lengthAt, sound, keyAt, isEmpty, formed, wellFormed}
 use Rattle.snapshot.specs.Records.{stands, skip, from, recordAt, decode, bytes, records, encode, Good}
 use Rattle.snapshot.proofs.Laws.Sound.{sound-parts, parts-sound, sound-of, stands-sound, sound-stands, stands-size, stands-long, stands-some}
 use Rattle.snapshot.proofs.Laws.Maps.{from-records}
@@ -32,15 +32,15 @@ pub empty-nil : (s : List ℕ) → isEmpty s ≡ true → s ≡ []
 empty-nil [] e = refl
 empty-nil (b ∷ s) e = absurd (false≢true e)
 
--- no key is 19 or above
-pub formed-end : (fuel : ℕ) (s : List ℕ) → formed fuel 19 s ≡ isEmpty s
+-- no number from `keys` on is a key
+pub formed-end : (fuel : ℕ) (s : List ℕ) → formed fuel keys s ≡ isEmpty s
 unfolding formed
 formed-end zero s = refl
 formed-end (suc fuel) [] = refl
 formed-end (suc fuel) (b ∷ s) = go (sound (b ∷ s)) refl
   where
-    go : (t : Bool) → sound (b ∷ s) ≡ t → (t && leb 19 (keyAt (b ∷ s)) && formed fuel (suc (keyAt (b ∷ s))) (drop (lengthAt (b ∷ s)) (b ∷ s))) ≡ false
-    go true e = simp (lt-leb 19 (keyAt (b ∷ s)) (sound-of (b ∷ s) (sound-parts (b ∷ s) e) .key))
+    go : (t : Bool) → sound (b ∷ s) ≡ t → (t && leb keys (keyAt (b ∷ s)) && formed fuel (suc (keyAt (b ∷ s))) (drop (lengthAt (b ∷ s)) (b ∷ s))) ≡ false
+    go true e = simp (lt-leb keys (keyAt (b ∷ s)) (sound-of (b ∷ s) (sound-parts (b ∷ s) e) .key))
     go false e = refl
 
 -- where the key `low` stands, its record is passed
@@ -68,9 +68,9 @@ formed-not (suc fuel) low s e = go (sound s) refl
     go true p = rw (same _ refl p)
     go false p = refl
 
-formed-sweep : (n fuel low : ℕ) (s : List ℕ) → length s ≤ fuel → n + low ≡ 19 → formed fuel low s ≡ isEmpty (sweep n low s)
+formed-sweep : (n fuel low : ℕ) (s : List ℕ) → length s ≤ fuel → n + low ≡ keys → formed fuel low s ≡ isEmpty (sweep n low s)
 unfolding sweep skip stands
-formed-sweep zero fuel low s l h = let e : low ≡ 19 = omega arith in rw e (formed-end fuel s)
+formed-sweep zero fuel low s l h = let e : low ≡ keys = omega arith in rw e (formed-end fuel s)
 formed-sweep (suc n) fuel low s l h = go (stands low s) refl fuel l (λ fuel s l. formed-sweep n fuel (suc low) s l (omega arith))
   where
     go : (t : Bool) → stands low s ≡ t → (fuel : ℕ) → length s ≤ fuel
@@ -80,9 +80,9 @@ formed-sweep (suc n) fuel low s l h = go (stands low s) refl fuel l (λ fuel s l
     go true e (suc fuel) l ih = formed-at fuel low s e ∙ ih fuel (drop (sizeOf low) s) (simp length-drop (omega (arith, stands-some low s e)))
     go false e fuel l ih = formed-not fuel low s e ∙ ih fuel s l
 
-pub formed-from : (s : List ℕ) → wellFormed s ≡ isEmpty (from s 19)
+pub formed-from : (s : List ℕ) → wellFormed s ≡ isEmpty (from s keys)
 unfolding wellFormed from
-formed-from s = formed-sweep 19 (length s) 0 s (omega arith) refl ∙ ap isEmpty (from-sweep 19 0 s)
+formed-from s = formed-sweep keys (length s) 0 s (omega arith) refl ∙ ap isEmpty (from-sweep keys 0 s)
 
 -- the record of key k, and what is behind it
 at-skip : (k : ℕ) (s : List ℕ) → bytes (recordAt k s) ++ skip k s ≡ s
@@ -93,20 +93,20 @@ at-skip k s = go (stands k s)
     go true = take-append-drop (sizeOf k) s
     go false = refl
 
-records-from : (n k : ℕ) (s : List ℕ) → from s 19 ≡ [] → n + k ≡ 19 → records n k (decode s) ≡ from s k
+records-from : (n k : ℕ) (s : List ℕ) → from s keys ≡ [] → n + k ≡ keys → records n k (decode s) ≡ from s k
 unfolding records from decode
-records-from zero k s e h = let q : k ≡ 19 = omega arith in rw q (sym e)
+records-from zero k s e h = let q : k ≡ keys = omega arith in rw q (sym e)
 records-from (suc n) k s e h = rw (records-from n (suc k) s e (omega arith)) (at-skip k (from s k))
 
 -- the second round trip: well-formed bytes are the snapshot of their records
 pub encode-decode : (s : List ℕ) → wellFormed s ≡ true → encode (decode s) ≡ s
 unfolding encode from
-encode-decode s w = records-from 19 0 s (empty-nil _ (sym (formed-from s) ∙ w)) refl
+encode-decode s w = records-from keys 0 s (empty-nil _ (sym (formed-from s) ∙ w)) refl
 
 -- the snapshot of records of their keys is well formed
 pub encode-formed : (m : ℕ → Option (List ℕ)) → Good m → wellFormed (encode m) ≡ true
 unfolding records
-encode-formed m g = formed-from (encode m) ∙ ap isEmpty (from-records m g 19 0 refl)
+encode-formed m g = formed-from (encode m) ∙ ap isEmpty (from-records m g keys 0 refl)
 
 pub nil-formed : wellFormed [] ≡ true
 unfolding wellFormed formed

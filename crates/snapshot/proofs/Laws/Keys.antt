@@ -5,52 +5,53 @@ use mathlib.Core.Path.{_≡_, refl, sym, ap, _∙_}
 use mathlib.Core.Bool.{Bool, true, false, cond}
 use mathlib.Core.List.{List}
 use lib.ListN.{getD}
-use lib.Dec.{leb, eqb}
-use borrow.Author.Tests.{eqb-true, eqb-false, leb-true, leb-false, le-leb, ne-eqb}
-use Rattle.snapshot.specs.Form.{kindAt, place, sound, keyAt}
+use lib.Dec.{leb, ltb, eqb}
+use borrow.Author.Tests.{eqb-true, eqb-false, leb-true, leb-false, ltb-true, ltb-false, le-leb, ne-eqb}
+use Rattle.wire.specs.Endpoints.{firstAddress, places}
+use Rattle.snapshot.specs.Form.{keys, kindAt, place, sound, keyAt}
 use Rattle.snapshot.proofs.Laws.Sound.{Sound, Kind, ev, face, metadata, hdr, throttle, kind-of, sound-parts, sound-of, sound-address}
 
 -- the place of a key in the order
 placeOf : ℕ → ℕ
-placeOf k = cond (eqb k 0) 0x300 (cond (leb k 15) (0x680 + k) (cond (eqb k 16) 0x900 (cond (eqb k 17) 0xD00 0xE00)))
+placeOf k = cond (eqb k 0) 0x300 (cond (leb k places) (0x680 + k) (cond (eqb k (1 + places)) 0x900 (cond (eqb k (2 + places)) 0xD00 0xE00)))
 
-face-place : (k : ℕ) → 1 ≤ k → k ≤ 15 → placeOf k ≡ 0x680 + k
+face-place : (k : ℕ) → 1 ≤ k → k ≤ places → placeOf k ≡ 0x680 + k
 unfolding placeOf
-face-place k h l = simp (ne-eqb k 0 (omega arith), le-leb k 15 l)
+face-place k h l = simp (ne-eqb k 0 (omega arith), le-leb k places l)
 
 place-kind : (s : List ℕ) → Sound s → Kind (kindAt s) → place s ≡ placeOf (keyAt s)
 unfolding keyAt placeOf
 place-kind s p (ev e) = rw e
 place-kind s p (face e) =
     let b = sound-address s p e in
-    let f = face-place (getD s 5 0 - 0x80) (omega arith) (omega arith) in
+    let f = face-place (getD s 5 0 - (firstAddress - 1)) (omega arith) (omega arith) in
     rw e (omega arith)
 place-kind s p (metadata e) = rw e
 place-kind s p (hdr e) = rw e
 place-kind s p (throttle e) = rw e
 
 -- from one key to the next
-place-next : (k : ℕ) → k < 18 → placeOf k < placeOf (suc k)
+place-next : (k : ℕ) → suc k < keys → placeOf k < placeOf (suc k)
 unfolding placeOf
-place-next k h = go (eqb k 0) refl (leb k 14) refl (leb k 15) refl (eqb k 16) refl
+place-next k h = go (eqb k 0) refl (ltb k places) refl (leb k places) refl (eqb k (1 + places)) refl
   where
-    go : (a : Bool) → eqb k 0 ≡ a → (b : Bool) → leb k 14 ≡ b → (c : Bool) → leb k 15 ≡ c → (d : Bool) → eqb k 16 ≡ d → placeOf k < placeOf (suc k)
+    go : (a : Bool) → eqb k 0 ≡ a → (b : Bool) → ltb k places ≡ b → (c : Bool) → leb k places ≡ c → (d : Bool) → eqb k (1 + places) ≡ d → placeOf k < placeOf (suc k)
     go true p b q c r d s = let e = eqb-true k 0 p in rw e (omega arith)
     go false p true q c r d s =
         let n = eqb-false k 0 p in
-        let l = leb-true k 14 q in
+        let l = ltb-true k places q in
         omega (arith, face-place k (omega arith) (omega arith), face-place (suc k) (omega arith) (omega arith))
     go false p false q true r d s =
-        let l = leb-false k 14 q in
-        let m = leb-true k 15 r in
-        let e : k ≡ 15 = omega arith in rw e (omega arith)
-    go false p false q false r true s = let e = eqb-true k 16 s in rw e (omega arith)
+        let l = ltb-false k places q in
+        let m = leb-true k places r in
+        let e : k ≡ places = omega arith in rw e (omega arith)
+    go false p false q false r true s = let e = eqb-true k (1 + places) s in rw e (omega arith)
     go false p false q false r false s =
-        let l = leb-false k 15 r in
-        let n = eqb-false k 16 s in
-        let e : k ≡ 17 = omega arith in rw e (omega arith)
+        let l = leb-false k places r in
+        let n = eqb-false k (1 + places) s in
+        let e : k ≡ 2 + places = omega arith in rw e (omega arith)
 
-place-later : (j k : ℕ) → j < k → k < 19 → placeOf j < placeOf k
+place-later : (j k : ℕ) → j < k → k < keys → placeOf j < placeOf k
 place-later j zero h l = absurd (omega arith)
 place-later j (suc k) h l = go (eqb j k) refl (λ (p : j < k). place-later j k p (omega arith))
   where

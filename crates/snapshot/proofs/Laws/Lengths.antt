@@ -6,7 +6,8 @@ use mathlib.Core.List.{List, _++_}
 use mathlib.Core.Option.{Option, none, some}
 use lib.ListN.{length, length-append}
 use borrow.Author.Tests.{ne-eqb, le-leb}
-use Rattle.snapshot.specs.Form.{sizeOf}
+use Rattle.wire.specs.Endpoints.{places, endpointLimit}
+use Rattle.snapshot.specs.Form.{keys, sizeOf, longest}
 use Rattle.snapshot.specs.Records.{bytes, records, encode, counted, recordCount, GoodAt, Good}
 use Rattle.snapshot.proofs.Laws.Maps.{records-split}
 
@@ -25,36 +26,35 @@ module _ (m : ℕ → Option (List ℕ)) (g : Good m) where
       short none p = omega arith
       short (some r) p = omega (arith, p .long)
 
-  -- a snapshot has at most 250 bytes
-  pub encode-length : length (encode m) ≤ 250
+  pub encode-length : length (encode m) ≤ longest
   unfolding encode total
-  encode-length = records-length 19 0
+  encode-length = records-length keys 0
 
   -- 13 for each endpoint that is held
-  faces-length : (n k : ℕ) → 1 ≤ k → n + k ≤ 16 → length (records n k m) ≤ 13 * recordCount n k m
+  faces-length : (n k : ℕ) → 1 ≤ k → n + k ≤ 1 + places → length (records n k m) ≤ 13 * recordCount n k m
   unfolding records recordCount
   faces-length zero k h l = omega arith
   faces-length (suc n) k h l = go (m k) (g k) (faces-length n (suc k) (omega arith) (omega arith))
     where
       size : sizeOf k ≡ 13
-      size = simp (ne-eqb k 0 (omega arith), le-leb k 15 (omega arith))
+      size = simp (ne-eqb k 0 (omega arith), le-leb k places (omega arith))
 
       go : (o : Option (List ℕ)) → GoodAt k o → length (records n (suc k) m) ≤ 13 * recordCount n (suc k) m
           → length (bytes o ++ records n (suc k) m) ≤ 13 * counted o (recordCount n (suc k) m)
       go none p ih = ih
       go (some r) p ih = simp length-append (omega (arith, p .long, size))
 
-  -- a snapshot with at most 8 endpoints has at most 159 bytes
-  pub encode-short : recordCount 15 1 m ≤ 8 → length (encode m) ≤ 159
+  -- with as many endpoints as a profile may have
+  pub encode-short : recordCount places 1 m ≤ endpointLimit → length (encode m) ≤ 159
   unfolding encode total
   encode-short h =
       omega (
         arith,
-        ap length (records-split m 1 18 0),
-        length-append (records 1 0 m) (records 18 1 m),
-        ap length (records-split m 15 3 1),
-        length-append (records 15 1 m) (records 3 16 m),
+        ap length (records-split m 1 (3 + places) 0),
+        length-append (records 1 0 m) (records (3 + places) 1 m),
+        ap length (records-split m places 3 1),
+        length-append (records places 1 m) (records 3 (1 + places) m),
         records-length 1 0,
-        faces-length 15 1 (omega arith) (omega arith),
-        records-length 3 16,
+        faces-length places 1 (omega arith) (omega arith),
+        records-length 3 (1 + places),
       )

@@ -6,13 +6,21 @@ use mathlib.Core.Path.{_≡_, refl, sym, ap, _∙_, fun-ext}
 use mathlib.Core.Bool.{Bool, true, false, cond}
 use mathlib.Core.List.{List, _++_, append-assoc}
 use mathlib.Core.Option.{Option, none, some}
-use lib.ListN.{take}
+use lib.ListN.{take, drop}
 use lib.Seq.{drop-at, take-at}
 use lib.Dec.{leb}
 use borrow.Author.Tests.{leb-true, leb-false}
-use Rattle.snapshot.specs.Form.{sizeOf}
+use Rattle.snapshot.specs.Form.{keys, sizeOf}
 use Rattle.snapshot.specs.Records.{stands, skip, from, recordAt, decode, bytes, records, encode, GoodAt, Good}
 use Rattle.snapshot.proofs.Laws.Sound.{stands-one, stands-nil, stands-below, stands-record, record-stands}
+
+pub skip-at : (k : ℕ) (t : List ℕ) → stands k t ≡ true → skip k t ≡ drop (sizeOf k) t
+unfolding skip
+skip-at k t e = simp e
+
+pub skip-not : (k : ℕ) (t : List ℕ) → stands k t ≡ false → skip k t ≡ t
+unfolding skip
+skip-not k t e = simp e
 
 at-good : (k : ℕ) (s : List ℕ) → GoodAt k (recordAt k s)
 unfolding recordAt
@@ -26,7 +34,7 @@ pub decode-good : (s : List ℕ) → Good (decode s)
 unfolding decode
 decode-good s k = at-good k (from s k)
 
-not-true : (b : Bool) → (b ≡ true → ⊥) → b ≡ false
+pub not-true : (b : Bool) → (b ≡ true → ⊥) → b ≡ false
 not-true true h = absurd (h refl)
 not-true false h = refl
 
@@ -58,13 +66,13 @@ module _ (m : ℕ → Option (List ℕ)) (g : Good m) where
       go (some r) p = simp (record-stands k r (records n (suc k) m) p) (ap {B = Option (List ℕ)} some (take-at r (records n (suc k) m) (sizeOf k) (p .long)))
 
   -- the keys below k are passed once their records are
-  pub from-records : (k n : ℕ) → n + k ≡ 19 → from (encode m) k ≡ records n k m
+  pub from-records : (k n : ℕ) → n + k ≡ keys → from (encode m) k ≡ records n k m
   unfolding from encode
-  from-records zero n h = let e : 19 ≡ n = omega arith in rw (← e)
+  from-records zero n h = let e : keys ≡ n = omega arith in rw (← e)
   from-records (suc k) n h = rw (from-records k (suc n) (omega arith)) (skip-records n k)
 
-  -- no key is 19 or above
-  pub none-above : (k : ℕ) → 19 ≤ k → m k ≡ none
+  -- no number from `keys` on is a key
+  pub none-above : (k : ℕ) → keys ≤ k → m k ≡ none
   none-above k h = go (m k) (g k)
     where
       go : (o : Option (List ℕ)) → GoodAt k o → o ≡ none
@@ -73,13 +81,13 @@ module _ (m : ℕ → Option (List ℕ)) (g : Good m) where
 
 pub decode-encode : (m : ℕ → Option (List ℕ)) → Good m → decode (encode m) ≡ m
 unfolding decode
-decode-encode m g = fun-ext λ k. go k (leb 19 k) refl
+decode-encode m g = fun-ext λ k. go k (leb keys k) refl
   where
-    go : (k : ℕ) (b : Bool) → leb 19 k ≡ b → decode (encode m) k ≡ m k
+    go : (k : ℕ) (b : Bool) → leb keys k ≡ b → decode (encode m) k ≡ m k
     go k true e = none-above (decode (encode m)) (decode-good (encode m)) k (leb-true _ _ e) ∙ sym (none-above m g k (leb-true _ _ e))
     go k false e =
-        let h = leb-false 19 k e in
-        ap (recordAt k) (from-records m g k (suc (18 - k)) (omega arith)) ∙ at-records m g (18 - k) k
+        let h = leb-false keys k e in
+        ap (recordAt k) (from-records m g k (suc (keys - suc k)) (omega arith)) ∙ at-records m g (keys - suc k) k
 
 -- the records of the next j keys behind those of the first i
 pub records-split : (m : ℕ → Option (List ℕ)) (i j k : ℕ) → records (i + j) k m ≡ records i k m ++ records j (i + k) m

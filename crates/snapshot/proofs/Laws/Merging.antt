@@ -6,7 +6,7 @@ use mathlib.Core.List.{List, []}
 use mathlib.Core.Option.{Option, none, some}
 use mathlib.Core.Bool.{true}
 use lib.ListN.{length}
-use Rattle.snapshot.specs.Form.{wellFormed}
+use Rattle.snapshot.specs.Form.{longest, wellFormed}
 use Rattle.snapshot.specs.Records.{skip, from, recordAt, decode, encode, GoodAt, Good}
 use Rattle.snapshot.specs.Merge.{over, overs, merged, Apart}
 use Rattle.snapshot.proofs.Laws.Sound.{stands-nil}
@@ -33,7 +33,7 @@ pub merged-formed : (a b : List ℕ) → wellFormed (merged a b) ≡ true
 unfolding merged
 merged-formed a b = encode-formed _ (both-good a b)
 
-pub merged-length : (a b : List ℕ) → length (merged a b) ≤ 250
+pub merged-length : (a b : List ℕ) → length (merged a b) ≤ longest
 unfolding merged
 merged-length a b = encode-length _ (both-good a b)
 

@@ -11,7 +11,9 @@ use borrow.Author.Tests.{leb-true, ltb-true, eqb-true, le-leb, eq-eqb, ne-eqb, l
 use Rattle.wire.specs.Number.{leAt, number}
 use Rattle.wire.proofs.Laws.Numbers.{front}
 use Rattle.wire.specs.Rows.{allOf}
-use Rattle.snapshot.specs.Form.{lengthOf, sizeOf, keyFor, lengthAt, kindAt, tailAt, zeros, tests, sound, keyAt}
+use Rattle.wire.specs.Selectors as selectors
+use Rattle.wire.specs.Endpoints.{firstAddress, lastAddress, places}
+use Rattle.snapshot.specs.Form.{keys, lengthOf, sizeOf, keyFor, lengthAt, kindAt, tailAt, zeros, tests, sound, keyAt}
 use Rattle.snapshot.specs.Records.{stands, Record}
 
 pub and-left : (a b : Bool) → (a && b) ≡ true → a ≡ true
@@ -22,7 +24,7 @@ pub and-right : (a b : Bool) → (a && b) ≡ true → b ≡ true
 and-right true b e = e
 and-right false b e = absurd (false≢true e)
 
-each : (ts : List Bool) → allOf ts ≡ true → (i : ℕ) → getD ts i true ≡ true
+pub each : (ts : List Bool) → allOf ts ≡ true → (i : ℕ) → getD ts i true ≡ true
 each [] e i = refl
 each (t ∷ ts) e zero = and-left t (allOf ts) e
 each (t ∷ ts) e (suc i) = each ts (and-right t (allOf ts) e) i
@@ -33,8 +35,8 @@ pub record Sound (s : List ℕ) : Type 0 where
   pub within : lengthAt s ≤ length s
   pub known : 0 < lengthOf (kindAt s)
   pub right : lengthAt s ≡ lengthOf (kindAt s)
-  pub face : cond (eqb (kindAt s) 0x06) (allOf (eqb (getD s 4 0) 1 ∷ leb 0x81 (getD s 5 0) ∷ leb (getD s 5 0) 0x8F ∷ [])) true ≡ true
-  pub tail : cond (eqb (kindAt s) 0x0E) (zeros (tailAt s)) true ≡ true
+  pub face : cond (eqb (kindAt s) selectors.face) (allOf (eqb (getD s 4 0) 1 ∷ leb firstAddress (getD s 5 0) ∷ leb (getD s 5 0) lastAddress ∷ [])) true ≡ true
+  pub tail : cond (eqb (kindAt s) selectors.throttle) (zeros (tailAt s)) true ≡ true
 
 pub sound-parts : (s : List ℕ) → sound s ≡ true → Sound s
 unfolding sound
@@ -56,33 +58,33 @@ parts-sound s p =
 
 -- the five kinds
 pub data Kind (n : ℕ) : Type 0 where
-  ev : n ≡ 0x03 → Kind n
-  face : n ≡ 0x06 → Kind n
-  metadata : n ≡ 0x09 → Kind n
-  hdr : n ≡ 0x0D → Kind n
-  throttle : n ≡ 0x0E → Kind n
+  ev : n ≡ selectors.ev → Kind n
+  face : n ≡ selectors.face → Kind n
+  metadata : n ≡ selectors.metadata → Kind n
+  hdr : n ≡ selectors.hdr → Kind n
+  throttle : n ≡ selectors.throttle → Kind n
 
 pub kind-of : (n : ℕ) → 0 < lengthOf n → Kind n
-kind-of n h = go (eqb n 0x03) (eqb n 0x06) (eqb n 0x09) (eqb n 0x0D) (eqb n 0x0E) refl refl refl refl refl h
+kind-of n h = go (eqb n selectors.ev) (eqb n selectors.face) (eqb n selectors.metadata) (eqb n selectors.hdr) (eqb n selectors.throttle) refl refl refl refl refl h
   where
-    go : (a b c d e : Bool) → eqb n 0x03 ≡ a → eqb n 0x06 ≡ b → eqb n 0x09 ≡ c → eqb n 0x0D ≡ d → eqb n 0x0E ≡ e
+    go : (a b c d e : Bool) → eqb n selectors.ev ≡ a → eqb n selectors.face ≡ b → eqb n selectors.metadata ≡ c → eqb n selectors.hdr ≡ d → eqb n selectors.throttle ≡ e
         → 0 < cond a 15 (cond b 13 (cond c 8 (cond d 8 (cond e 24 0)))) → Kind n
-    go true b c d e p q r s t h = ev (eqb-true n 0x03 p)
-    go false true c d e p q r s t h = face (eqb-true n 0x06 q)
-    go false false true d e p q r s t h = metadata (eqb-true n 0x09 r)
-    go false false false true e p q r s t h = hdr (eqb-true n 0x0D s)
-    go false false false false true p q r s t h = throttle (eqb-true n 0x0E t)
+    go true b c d e p q r s t h = ev (eqb-true n selectors.ev p)
+    go false true c d e p q r s t h = face (eqb-true n selectors.face q)
+    go false false true d e p q r s t h = metadata (eqb-true n selectors.metadata r)
+    go false false false true e p q r s t h = hdr (eqb-true n selectors.hdr s)
+    go false false false false true p q r s t h = throttle (eqb-true n selectors.throttle t)
     go false false false false false p q r s t h = absurd (omega arith)
 
 -- of face authentication, the address
-pub sound-address : (s : List ℕ) → Sound s → kindAt s ≡ 0x06 → (0x81 ≤ getD s 5 0) × (getD s 5 0 ≤ 0x8F)
+pub sound-address : (s : List ℕ) → Sound s → kindAt s ≡ selectors.face → (firstAddress ≤ getD s 5 0) × (getD s 5 0 ≤ lastAddress)
 sound-address s p e =
-    let at = each (eqb (getD s 4 0) 1 ∷ leb 0x81 (getD s 5 0) ∷ leb (getD s 5 0) 0x8F ∷ []) (rw e at (p .face)) in
+    let at = each (eqb (getD s 4 0) 1 ∷ leb firstAddress (getD s 5 0) ∷ leb (getD s 5 0) lastAddress ∷ []) (rw e at (p .face)) in
     (leb-true _ _ (at 1), leb-true _ _ (at 2))
 
 -- what its kind says of a sound record
 pub record Of (s : List ℕ) : Type 0 where
-  pub key : keyAt s < 19
+  pub key : keyAt s < keys
   pub size : sizeOf (keyAt s) ≡ lengthAt s
   pub eight : 8 ≤ lengthAt s
 
@@ -94,7 +96,7 @@ of-kind s p (face e) =
     let b = sound-address s p e in
     record {
       key = rw e (omega arith);
-      size = rw e (simp (ne-eqb (getD s 5 0 - 0x80) 0 (omega arith), le-leb (getD s 5 0 - 0x80) 15 (omega arith)) (sym r));
+      size = rw e (simp (ne-eqb (getD s 5 0 - (firstAddress - 1)) 0 (omega arith), le-leb (getD s 5 0 - (firstAddress - 1)) places (omega arith)) (sym r));
       eight = omega arith;
     }
 of-kind s p (metadata e) = let r : lengthAt s ≡ 8 = rw e at (p .right) in record { key = rw e (omega arith); size = rw e (sym r); eight = omega arith }
@@ -128,7 +130,7 @@ module _ (s s′ : List ℕ) (p : Sound s) (long : lengthAt s ≤ length s′) (
   unfolding keyAt
   same-key = ap₂ keyFor same-kind (same-at 5 (omega arith))
 
-  same-tail : kindAt s ≡ 0x0E → tailAt s′ ≡ tailAt s
+  same-tail : kindAt s ≡ selectors.throttle → tailAt s′ ≡ tailAt s
   same-tail e =
       let r : lengthAt s ≡ 24 = rw e at (p .right) in
       let l : (t : List ℕ) → 24 ≤ length t → length (tailAt t) ≡ 12 = λ t h. length-take-le 12 (drop 12 t) (simp length-drop (omega arith)) in
@@ -138,7 +140,7 @@ module _ (s s′ : List ℕ) (p : Sound s) (long : lengthAt s ≤ length s′) (
       getD-take 12 (drop 12 s′) i 0 (omega arith) ∙ getD-drop 12 s′ i 0 ∙ same (12 + i) (omega arith)
       ∙ sym (getD-drop 12 s i 0) ∙ sym (getD-take 12 (drop 12 s) i 0 (omega arith)))
 
-  zeros-same : (b : Bool) → eqb (kindAt s) 0x0E ≡ b → cond b (zeros (tailAt s)) true ≡ true → cond b (zeros (tailAt s′)) true ≡ true
+  zeros-same : (b : Bool) → eqb (kindAt s) selectors.throttle ≡ b → cond b (zeros (tailAt s)) true ≡ true → cond b (zeros (tailAt s′)) true ≡ true
   zeros-same true e h = rw (same-tail (eqb-true _ _ e)) h
   zeros-same false e h = refl
 
@@ -169,7 +171,7 @@ pub stands-nil : (k : ℕ) → stands k [] ≡ false
 unfolding stands sound
 stands-nil k = refl
 
-pub stands-below : (k : ℕ) (s : List ℕ) → stands k s ≡ true → k < 19
+pub stands-below : (k : ℕ) (s : List ℕ) → stands k s ≡ true → k < keys
 stands-below k s e = let p = stands-sound k s e in rw (← (p .1)) (sound-of s (p .0) .key)
 
 -- it is the first `sizeOf k` bytes

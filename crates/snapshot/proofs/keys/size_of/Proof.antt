@@ -1,4 +1,6 @@
+use Prim.Native.Nat.{_+_}
 use borrow.Author.Tests.{ne-eqb, le-leb, lt-leb}
+use Rattle.wire.specs.Endpoints.{places}
 use Rattle.snapshot.proofs.keys.size_of.Statement.{statement}
 use Rattle.snapshot.proofs.keys.size_of.Tie as tie
 
@@ -6,10 +8,10 @@ returns : tie.Need-returns
 returns c = rw (c .if1 .taken)
 
 returns-2 : tie.Need-returns-2
-returns-2 c = simp (ne-eqb _ 0 (c .before .if1 .left), le-leb _ 15 (c .if2 .taken))
+returns-2 c = simp (ne-eqb _ 0 (c .before .if1 .left), le-leb _ places (c .if2 .taken))
 
 returns-3 : tie.Need-returns-3
-returns-3 c = simp (ne-eqb _ 0 (c .before .before .if1 .left), lt-leb _ 15 (c .before .if2 .left), le-leb _ 17 (c .if3 .taken))
+returns-3 c = simp (ne-eqb _ 0 (c .before .before .if1 .left), lt-leb _ places (c .before .if2 .left), le-leb _ (2 + places) (c .if3 .taken))
 
 returns-4 : tie.Need-returns-4
 returns-4 c = rw (c .if4 .taken)
@@ -18,9 +20,9 @@ returns-5 : tie.Need-returns-5
 returns-5 c =
     simp (
       ne-eqb _ 0 (c .before .before .before .if1 .left),
-      lt-leb _ 15 (c .before .before .if2 .left),
-      lt-leb _ 17 (c .before .if3 .left),
-      ne-eqb _ 18 (c .if4 .left),
+      lt-leb _ places (c .before .before .if2 .left),
+      lt-leb _ (2 + places) (c .before .if3 .left),
+      ne-eqb _ (3 + places) (c .if4 .left),
     )
 
 pub size-of-spec : {M : Type 1} → statement M

@@ -1,54 +1,50 @@
-use Prim.Native.Nat.{ℕ}
+use Prim.Native.Nat.{ℕ, _≤_}
 use mathlib.Core.Path.{_≡_, refl, sym, ap, _∙_}
-use mathlib.Core.Bool.{Bool, true, false}
 use mathlib.Core.List.{List}
+use native.Mathlib.Omega.{arith}
 use lib.ListN.{length, getD, drop}
 use borrow.Author.Needs.{needs}
 use Rattle.wire.specs.Number.{leAt}
-use Rattle.wire.specs.Rows.{allOf}
 use Rattle.wire.proofs.Laws.Parts.{rest}
-use Rattle.snapshot.specs.Form.{keyFor, zeros, tests, tailAt, sound, keyAt}
-use Rattle.snapshot.specs.Records.{keyOf}
+use Rattle.snapshot.specs.Form.{zeros, lengthAt, tailAt}
+use Rattle.snapshot.specs.Steps.{keyBy}
+use Rattle.snapshot.proofs.Laws.Told.{told, short-none, cut-none, other-key, zero-key, tail-none}
 use Rattle.snapshot.proofs.records.key_at.Statement.{statement}
 use Rattle.snapshot.proofs.records.key_at.Tie as tie
 
--- the tests of what was read from r, which are the bytes t
-read : (t r : List ℕ) (len kind n address : ℕ) (tail : Bool)
+-- what was read from r, which are the bytes t
+read : (t r : List ℕ) (len kind n address key : ℕ)
     → r ≡ t → len ≡ leAt 2 r 0 → kind ≡ leAt 2 r 2 → n ≡ getD r 4 0 → address ≡ getD r 5 0
-    → tail ≡ zeros (tailAt r) → (allOf (tests (length r) len kind n address tail) ≡ sound t) × (keyFor kind address ≡ keyAt t)
-unfolding sound keyAt
-read t r len kind n address tail e f g h i j = rw (f, g, h, i, j, e) (refl, refl)
+    → key ≡ keyBy len kind n address → key ≡ told t
+read t r len kind n address key e f g h i j = j ∙ rw (f, g, h, i, e) refl
 
-at : (d : tie.After-is-sound) → let a = d .before .before .before .before .before .before .before .before .before .args in
-    (d .is-sound .result ≡ sound (drop (a .at) (a .s .now)))
-    × (keyFor (d .before .before .before .before .before .le162 .result) (d .before .before .before .byte2 .result)
-    ≡ keyAt (drop (a .at) (a .s .now)))
+cut : (d : tie.Else2) → let a = d .before .before .before .before .before .args in
+    lengthAt (drop (a .at) (a .s .now)) ≤ length (drop (a .at) (a .s .now))
+cut d =
+    let e = rest (d .before .before .before .tail .ensures) in
+    omega (arith, d .if2 .left, d .before .le16 .ensures .0, ap length e, ap lengthAt e)
+
+at : (d : tie.After-key-by) → let a = d .before .before .before .before .before .before .before .before .before .args in
+    d .key-by .result ≡ told (drop (a .at) (a .s .now))
 at d =
-    let z = d .before in
-    let b = z .before .before .before in
-    let w = b .before .before .before in
-    let r =
-    read _ _ _ _ _ _ _ (rest (w .tail .ensures))
-    (b .before .before .le16 .ensures .0)
-    (b .before .le162 .ensures .0)
-    (b .byte .ensures)
-    (z .before .before .byte2 .ensures)
-    (z .all-zero .ensures ∙ ap zeros (z .before .part-at .ensures .bytes)) in
-    (d .is-sound .ensures ∙ r .0, r .1)
-
-sound-key : (t : List ℕ) → sound t ≡ true → keyOf t ≡ keyAt t
-unfolding keyOf
-sound-key t e = simp e
-
-no-key : (t : List ℕ) → sound t ≡ false → keyOf t ≡ 19
-unfolding keyOf
-no-key t e = simp e
+    let b = d .before in
+    let k = b .before .before in
+    let l = k .before .before in
+    read _ _ _ _ _ _ _ (rest (l .before .before .tail .ensures)) (l .le16 .ensures .0) (k .le162 .ensures .0) (b .before .byte .ensures) (b .byte2 .ensures) (d .key-by .ensures)
 
 tail-requires : tie.Need-tail-requires
 tail-requires c κs = search needs
 
+returns : tie.Need-returns
+returns c = short-none _ (omega (arith, c .if1 .taken, ap length (rest (c .before .tail .ensures))))
+
 le16-requires : tie.Need-le16-requires
 le16-requires c κs = search needs
+
+returns-2 : tie.Need-returns-2
+returns-2 c =
+    let e = rest (c .before .before .before .tail .ensures) in
+    cut-none _ (omega (arith, c .if2 .taken, c .before .le16 .ensures .0, ap length e, ap lengthAt e))
 
 le16-requires-2 : tie.Need-le16-requires-2
 le16-requires-2 c κs = search needs
@@ -65,40 +61,51 @@ byte-requires-2 c κs = search needs
 cast-address : tie.Need-cast-address
 cast-address c = search needs
 
-part-at-requires : tie.Need-part-at-requires
-part-at-requires c κs = search needs
+key-by-requires : tie.Need-key-by-requires
+key-by-requires c κs = search needs
 
-all-zero-requires : tie.Need-all-zero-requires
-all-zero-requires c κs = search needs
+returns-3 : tie.Need-returns-3
+returns-3 c =
+    let e = at (c .before) in
+    e ∙ other-key _ (cut (c .before .before .before .before .before)) (λ f. c .if3 .taken (e ∙ f))
 
-is-sound-requires : tie.Need-is-sound-requires
-is-sound-requires c κs = search needs
+zero-tail-requires : tie.Need-zero-tail-requires
+zero-tail-requires c κs = search needs
 
-key-for-requires : tie.Need-key-for-requires
-key-for-requires c κs = search needs
+-- what the test of the tail says of the bytes
+tail-of : (d : tie.After-zero-tail) → let a = d .before .before .before .before .before .before .before .before .before .before .before .args in
+    d .zero-tail .result ≡ zeros (tailAt (drop (a .at) (a .s .now)))
+tail-of d =
+    d .zero-tail .ensures ∙ ap (λ l. zeros (tailAt l)) (rest (d .before .before .before .before .before .before .before .before .before .tail .ensures))
 
-returns : tie.Need-returns
-returns c =
-    let r = at (c .before .before) in
-    c .key-for .ensures ∙ r .1 ∙ sym (sound-key _ (sym (r .0) ∙ c .before .if1 .taken))
+returns-4 : tie.Need-returns-4
+returns-4 c =
+    let z = c .before in
+    let k = z .before .before in
+    let e = at k in
+    e ∙ zero-key _ (cut (k .before .before .before .before)) (sym e ∙ z .before .if3 .left) (sym (tail-of z) ∙ c .if4 .taken)
 
-returns-2 : tie.Need-returns-2
-returns-2 c = sym (no-key _ (sym (at (c .before) .0) ∙ c .if1 .left))
+returns-5 : tie.Need-returns-5
+returns-5 c =
+    let z = c .before in
+    let k = z .before .before in
+    tail-none _ (cut (k .before .before .before .before)) (sym (at k) ∙ z .before .if3 .left) (sym (tail-of z) ∙ c .if4 .left)
 
 pub key-at-spec : {M : Type 1} → statement M
 key-at-spec =
     tie.close
     (tie.spec
     tail-requires
+    returns
     le16-requires
+    returns-2
     le16-requires-2
     byte-requires
     cast-entries
     byte-requires-2
     cast-address
-    part-at-requires
-    all-zero-requires
-    is-sound-requires
-    key-for-requires
-    returns
-    returns-2)
+    key-by-requires
+    returns-3
+    zero-tail-requires
+    returns-4
+    returns-5)

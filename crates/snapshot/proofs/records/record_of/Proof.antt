@@ -1,12 +1,25 @@
-use mathlib.Core.Path.{sym, ap, subst, _∙_}
+use Prim.Native.Nat.{ℕ, _<_}
+use mathlib.Core.Path.{_≡_, sym, ap, subst, _∙_}
 use borrow.Author.Needs.{needs}
+use denote.Ref.{RefT, now}
+use mathlib.Core.List.{List}
 use lib.ListN.{take, drop}
 use Rattle.wire.specs.Parts.{PartOf}
-use Rattle.snapshot.specs.Records.{decode, bytes}
+use Rattle.snapshot.specs.Form.{keys}
+use Rattle.snapshot.specs.Records.{passed, decode, bytes, recordPlace}
+use Rattle.snapshot.specs.Steps.{Cursor}
 use Rattle.snapshot.proofs.Laws.Maps.{decode-good, none-above}
-use Rattle.snapshot.proofs.Laws.Cursor.{cursor-record, cursor-place, no-place}
+use Rattle.snapshot.proofs.Laws.Cursor.{is-passed, not-passed, cursor-record, cursor-place, no-place}
 use Rattle.snapshot.proofs.records.record_of.Statement.{statement}
 use Rattle.snapshot.proofs.records.record_of.Tie as tie
+
+-- as many bytes as are passed at the cursor are the record, where it stands
+found : (s r : RefT (List ℕ)) (at key n : ℕ) → Cursor (now s) at key → key < keys → n ≡ passed key (drop at (now s))
+    → PartOf s record { at = at; len = n } r → (now r ≡ bytes (decode (now s) key)) × PartOf s (recordPlace (now s) key) r
+found s r at key n c h e p = (
+  p .bytes ∙ ap (λ n. take n (drop at (now s))) e ∙ cursor-record (now s) at key c,
+  subst (λ q. PartOf s q r) (cursor-place (now s) at key c h e) p,
+)
 
 part-at-requires : tie.Need-part-at-requires
 part-at-requires c κs = search needs
@@ -23,25 +36,43 @@ returns c =
 start-of-requires : tie.Need-start-of-requires
 start-of-requires c κs = search needs
 
-passed-at-requires : tie.Need-passed-at-requires
-passed-at-requires c κs = search needs
+key-at-requires : tie.Need-key-at-requires
+key-at-requires c κs = search needs
+
+size-of-requires : tie.Need-size-of-requires
+size-of-requires c κs = search needs
 
 part-at-requires-2 : tie.Need-part-at-requires-2
 part-at-requires-2 c κs = search needs
 
 returns-2 : tie.Need-returns-2
 returns-2 c =
-    let d = c .before .before in
-    let a = d .before .before .before .args in
-    let at = d .start-of in
-    let n = c .before .passed-at .ensures in
-    let e = cursor-place (a .s .now) (at .result) (a .key) (at .ensures) (d .before .if1 .left) n in
-    let p = c .part-at2 .ensures in (
-      p .bytes ∙ ap (λ n. take n (drop (at .result) (a .s .now))) n ∙ cursor-record (a .s .now) (at .result) (a .key) (at .ensures),
-      subst (λ q. PartOf (a .s) q (c .part-at2 .result)) e p,
-    )
+    let n = c .before in
+    let k = n .before .before in
+    let d = k .before in
+    let e = n .size-of .ensures ∙ is-passed _ _ (sym (k .key-at .ensures) ∙ n .before .if2 .taken) in
+    found _ _ _ _ _ (d .start-of .ensures) (d .before .if1 .left) e (c .part-at2 .ensures)
+
+part-at-requires-3 : tie.Need-part-at-requires-3
+part-at-requires-3 c κs = search needs
+
+returns-3 : tie.Need-returns-3
+returns-3 c =
+    let k = c .before .before in
+    let d = k .before in
+    let e = not-passed _ _ (λ q. c .before .if2 .left (k .key-at .ensures ∙ q)) in
+    found _ _ _ _ _ (d .start-of .ensures) (d .before .if1 .left) e (c .part-at3 .ensures)
 
 pub record-of-spec : {M : Type 1} → statement M
 record-of-spec =
     tie.close
-    (tie.spec part-at-requires returns start-of-requires passed-at-requires part-at-requires-2 returns-2)
+    (tie.spec
+    part-at-requires
+    returns
+    start-of-requires
+    key-at-requires
+    size-of-requires
+    part-at-requires-2
+    returns-2
+    part-at-requires-3
+    returns-3)

@@ -1,41 +1,55 @@
-use Prim.Native.Nat.{_≤_, _-_}
+use Prim.Native.Nat.{_+_, _-_, _≤_, _<_}
 use mathlib.Core.Path.{_≡_}
 use native.Mathlib.Omega.{arith}
+use lib.ListN.{drop}
 use borrow.Author.Needs.{needs}
-use Rattle.snapshot.proofs.Laws.Cursor.{start, cursor-within, next}
+use Rattle.snapshot.specs.Form.{sizeOf}
+use Rattle.snapshot.specs.Records.{keyOf}
 use Rattle.snapshot.specs.Steps.{Cursor}
+use Rattle.snapshot.proofs.Laws.Cursor.{start, cursor-on, cursor-done}
 use Rattle.snapshot.proofs.records.start_of.Statement.{statement}
 use Rattle.snapshot.proofs.records.start_of.Tie as tie
 
 abbrev Inv-loop : tie.InvT-loop
-Inv-loop s key at₀ k₀ at k = (k ≤ key) × Cursor s at k
+Inv-loop s key at₀ low₀ k₀ at low k = (low ≤ key) × (Cursor s at low × (k ≡ keyOf (drop at s)))
 
 abbrev μ-loop : tie.MeasureT-loop
-μ-loop s key at₀ k₀ at k = key - k
+μ-loop s key at₀ low₀ k₀ at low k = key - low
+
+-- a turn
+on : (d : tie.In-loop Inv-loop μ-loop) → let l = d .before .loop in
+    let a = d .before .before .before .before .args in
+    (l .low ≤ l .k) × ((l .k < a .key) × Cursor (a .s .now) (l .at + sizeOf (l .k)) (l .k + 1))
+on d = let i = d .before .loop .inv .1 in cursor-on _ _ _ _ _ (i .0) (i .1) (d .loop-test .taken)
+
+key-at-requires : tie.Need-key-at-requires Inv-loop μ-loop
+key-at-requires c κs = search needs
 
 loop-holds : tie.Need-loop-holds Inv-loop μ-loop
-loop-holds c = (omega arith, start _)
+loop-holds c = (omega arith, (start _, c .key-at .ensures))
 
-passed-at-requires : tie.Need-passed-at-requires Inv-loop μ-loop
-passed-at-requires c κs = search needs
+size-of-requires : tie.Need-size-of-requires Inv-loop μ-loop
+size-of-requires c κs = search needs
 
 add-at : tie.Need-add-at Inv-loop μ-loop
-add-at c = omega (arith, c .passed-at .ensures, cursor-within _ _ _ (c .before .before .loop .inv .1))
+add-at c = omega (arith, c .size-of .ensures, on (c .before) .1 .1 .within)
 
-add-k : tie.Need-add-k Inv-loop μ-loop
-add-k c = omega arith
+add-low : tie.Need-add-low Inv-loop μ-loop
+add-low c = omega (arith, on (c .before))
+
+key-at-requires-2 : tie.Need-key-at-requires-2 Inv-loop μ-loop
+key-at-requires-2 c κs = search needs
 
 loop-less : tie.Need-loop-less Inv-loop μ-loop
-loop-less c = omega arith
+loop-less c = omega (arith, on (c .before .before))
 
 loop-again : tie.Need-loop-again Inv-loop μ-loop
-loop-again c = (omega arith, rw (c .passed-at .ensures) (next _ _ _ (c .before .before .loop .inv .1)))
+loop-again c =
+    let o = on (c .before .before) in
+    (omega (arith, o .1 .0), (rw (c .before .size-of .ensures) (o .1 .1), c .key-at2 .ensures))
 
 returns : tie.Need-returns Inv-loop μ-loop
-returns c =
-    let l = c .before .loop in
-    let e : l .k ≡ c .before .before .before .args .key = omega arith in
-    rw e at (l .inv .1)
+returns c = let i = c .before .loop .inv in cursor-done _ _ _ _ _ (i .1 .0) (i .1 .1) (c .loop-test .left) (i .0)
 
 pub start-of-spec : {M : Type 1} → statement M
 start-of-spec =
@@ -43,10 +57,12 @@ start-of-spec =
     (tie.spec
     Inv-loop
     μ-loop
+    key-at-requires
     loop-holds
-    passed-at-requires
+    size-of-requires
     add-at
-    add-k
+    add-low
+    key-at-requires-2
     loop-less
     loop-again
     returns)

@@ -1,0 +1,124 @@
+-- Where an address stands: among the endpoints listed, and among the settings held. Assumes nothing.
+use mathlib.Core.Path.{_≡_, refl, ap, _∙_}
+use mathlib.Core.List.{List}
+use mathlib.Core.Bool.{Bool, true, false, cond}
+use Prim.Native.Nat.{ℕ, zero, suc, _+_, _-_, _≤_, _<_}
+use native.Mathlib.Numerals.{add-one}
+use native.Mathlib.Omega.{arith}
+use lib.Dec.{leb, ltb, eqb}
+use lib.ListN.{length, getD, set, length-set}
+use lib.Seq.{getD-set-same, getD-set-other}
+use borrow.Author.Tests.{eq-eqb, ne-eqb, eqb-true, eqb-false, lt-ltb, le-ltb, leb-true, leb-false}
+use Rattle.wire.specs.Endpoints.{firstAddress, places, endpointLimit}
+use Rattle.face.specs.declared.limits.FaceLimits.{FaceLimits}
+use Rattle.face.specs.Face.{endpoints, addressAt, offersAt, offersFrom, offersOf, placeFrom, placeOf, flagsKept, settingRefusal, faceKept, facesKept, putFace}
+use Rattle.face.proofs.Laws.Face.{all-at, all-of}
+
+-- looking an address up: at its place, and past another's
+module _ (l : FaceLimits) (address n i : ℕ) (h : i < n) where
+  abbrev left : n - i ≡ suc (n - (i + 1))
+  left = omega arith
+
+  pub place-here : addressAt l i ≡ address → placeFrom l address (n - i) i ≡ i
+  unfolding placeFrom
+  place-here e = rw (left, eq-eqb (addressAt l i) address e)
+
+  pub place-next : (addressAt l i ≡ address → ⊥) → placeFrom l address (n - i) i ≡ placeFrom l address (n - (i + 1)) (i + 1)
+  unfolding placeFrom
+  place-next p = rw (left, ne-eqb (addressAt l i) address p, add-one i)
+
+-- what stands at its place
+module _ (l : FaceLimits) (address : ℕ) where
+  abbrev at-place : ℕ → ℕ
+  at-place p = cond (ltb p endpointLimit) (offersAt l p) 0
+
+  offers-from : (n i : ℕ) → i + n ≤ endpointLimit → offersFrom l address n i ≡ at-place (placeFrom l address n i)
+  unfolding offersFrom placeFrom
+  offers-from zero i h = refl
+  offers-from (suc n) i h = go (eqb (addressAt l i) address) (offers-from n (suc i) (omega arith))
+    where
+      go : (b : Bool) → offersFrom l address n (suc i) ≡ at-place (placeFrom l address n (suc i))
+          → cond b (offersAt l i) (offersFrom l address n (suc i)) ≡ at-place (cond b i (placeFrom l address n (suc i)))
+      go true e = rw (lt-ltb i endpointLimit (omega arith))
+      go false e = e
+
+  address-from : (n i : ℕ) → placeFrom l address n i < endpointLimit → addressAt l (placeFrom l address n i) ≡ address
+  unfolding placeFrom
+  address-from zero i h = absurd (omega arith)
+  address-from (suc n) i h = go (eqb (addressAt l i) address) refl h (address-from n (suc i))
+    where
+      go : (b : Bool) → eqb (addressAt l i) address ≡ b → cond b i (placeFrom l address n (suc i)) < endpointLimit
+          → (placeFrom l address n (suc i) < endpointLimit → addressAt l (placeFrom l address n (suc i)) ≡ address)
+          → addressAt l (cond b i (placeFrom l address n (suc i))) ≡ address
+      go true e g rest = eqb-true (addressAt l i) address e
+      go false e g rest = rest g
+
+  offers-place : offersOf l address ≡ at-place (placeOf l address)
+  unfolding offersOf placeOf
+  offers-place = offers-from (endpoints l) 0 (omega arith)
+
+  -- p is the place that the code found
+  module _ (p : ℕ) (e : p ≡ placeOf l address) where
+    pub offers-none : endpointLimit ≤ p → offersOf l address ≡ 0
+    offers-none h = offers-place ∙ rw (← e, le-ltb p endpointLimit h)
+
+    module _ (h : p < endpointLimit) where
+      pub offers-placed : offersOf l address ≡ offersAt l p
+      offers-placed = offers-place ∙ rw (← e, lt-ltb p endpointLimit h)
+
+      pub address-placed : addressAt l p ≡ address
+      unfolding placeOf
+      address-placed = rw e (address-from (endpoints l) 0 (rw (← e) h))
+
+-- settings with one more
+pub length-put : (held : List ℕ) (address flags : ℕ) → length (putFace held address flags) ≡ length held
+unfolding putFace
+length-put held address flags = go (leb firstAddress address)
+  where
+    go : (b : Bool) → length (cond b (set held (address - firstAddress) flags) held) ≡ length held
+    go true = simp length-set
+    go false = refl
+
+pub put-at : (held : List ℕ) (address flags k : ℕ) → k < length held
+    → getD (putFace held address flags) k 0 ≡ cond (eqb address (firstAddress + k)) flags (getD held k 0)
+unfolding putFace
+put-at held address flags k h = go (leb firstAddress address) (eqb address (firstAddress + k)) refl refl
+  where
+    go : (a b : Bool) → leb firstAddress address ≡ a → eqb address (firstAddress + k) ≡ b
+        → getD (cond a (set held (address - firstAddress) flags) held) k 0 ≡ cond b flags (getD held k 0)
+    go true true p q =
+        let e : address - firstAddress ≡ k = omega (arith, eqb-true address (firstAddress + k) q) in
+        rw e (getD-set-same held k flags 0 h)
+    go true false p q =
+        let f = eqb-false address (firstAddress + k) q in
+        getD-set-other held (address - firstAddress) k flags 0 (λ e. f (omega (arith, leb-true firstAddress address p)))
+    go false true p q = absurd (omega (arith, leb-false firstAddress address p, eqb-true address (firstAddress + k) q))
+    go false false p q = refl
+
+-- offers laid by address, from the last place listed to the first: place i - 1 after place i
+pub table-next : (l : FaceLimits) (n i : ℕ) (t : List ℕ) (k : ℕ) → 0 < i → i ≤ n → k < length t
+    → getD t k 0 ≡ offersFrom l (firstAddress + k) (n - i) i
+    → getD (putFace t (addressAt l (i - 1)) (offersAt l (i - 1))) k 0 ≡ offersFrom l (firstAddress + k) (n - (i - 1)) (i - 1)
+unfolding offersFrom
+table-next l n i t k h g r e =
+    let m : n - (i - 1) ≡ suc (n - i) = omega arith in
+    let s : suc (i - 1) ≡ i = omega arith in
+    let o : getD t k 0 ≡ offersFrom l (firstAddress + k) (n - i) (suc (i - 1)) = rw s e in
+    rw m (put-at t (addressAt l (i - 1)) (offersAt l (i - 1)) k r ∙ ap (cond (eqb (addressAt l (i - 1)) (firstAddress + k)) (offersAt l (i - 1))) o)
+
+-- a setting held, by what the table has at its place
+pub kept-place : (present : Bool) (l : FaceLimits) (held : List ℕ) (i offers : ℕ) → offers ≡ cond present (offersOf l (firstAddress + i)) 0
+    → flagsKept offers (getD held i 0) ≡ faceKept present l held i
+unfolding faceKept settingRefusal
+kept-place true l held i offers e = rw e
+kept-place false l held i offers e = rw e
+
+-- settings that keep their rules, place by place
+module _ (present : Bool) (l : FaceLimits) (held : List ℕ) where
+  pub kept-at : facesKept present l held ≡ true → (i : ℕ) → i < places → faceKept present l held i ≡ true
+  unfolding facesKept
+  kept-at = all-at places (faceKept present l held)
+
+  pub kept-all : ((i : ℕ) → i < places → faceKept present l held i ≡ true) → facesKept present l held ≡ true
+  unfolding facesKept
+  kept-all = all-of places (faceKept present l held)

@@ -1,0 +1,53 @@
+use mathlib.Core.Path.{ap₂, _∙_}
+use mathlib.Core.List.{List}
+use Prim.Native.Nat.{ℕ, _+_, _*_}
+use borrow.Author.Needs.{needs}
+use Rattle.request.specs.Answers.{answerBy, packed}
+use Rattle.face.specs.Face.{faceAnswer, faceValue}
+use Rattle.request.proofs.Laws.Packed.{unpack-room, unpack, unpack-length}
+use Rattle.face.proofs.Laws.Face.{value-length}
+use Rattle.face.proofs.answers.answer.Statement.{statement}
+use Rattle.face.proofs.answers.answer.Tie as tie
+
+value-requires : tie.Need-value-requires
+value-requires c κs = search needs
+
+endpoints-of-requires : tie.Need-endpoints-of-requires
+endpoints-of-requires c κs = search needs
+
+mul-answer-by : tie.Need-mul-answer-by
+mul-answer-by c = search needs
+
+add-answer-by : tie.Need-add-answer-by
+add-answer-by c = search needs
+
+array-share-prefix-b : tie.Need-array-share-prefix-b
+array-share-prefix-b c = unpack-room _ (value-length _ _ _) _ (c .before .before .value .ensures)
+
+slice-aggregate-answer-by : tie.Need-slice-aggregate-answer-by
+slice-aggregate-answer-by c = unpack-length _ (value-length _ _ _) _ (c .before .before .before .value .ensures)
+
+answer-by-requires : tie.Need-answer-by-requires
+answer-by-requires c κs = search needs
+
+returns : tie.Need-returns
+unfolding faceAnswer
+returns c =
+    let f = c .before .before in
+    let v = f .before .before in
+    let a = v .before .args in
+    c .answer-by .ensures
+    ∙ ap₂ (λ (n : ℕ) (s : List ℕ). packed (answerBy (a .code) (1 + 8 * n) 0x03 s)) (f .endpoints-of .ensures .0) (unpack (faceValue (a .l) (a .held) (a .code)) (value-length _ _ _) (v .value .result) (v .value .ensures))
+
+pub answer-spec : {M : Type 1} → statement M
+answer-spec =
+    tie.close
+    (tie.spec
+    value-requires
+    endpoints-of-requires
+    mul-answer-by
+    add-answer-by
+    array-share-prefix-b
+    slice-aggregate-answer-by
+    answer-by-requires
+    returns)

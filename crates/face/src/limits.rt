@@ -1,0 +1,88 @@
+// The endpoints that a profile lists, and the place of an address among them.
+use wire::endpoints::FIRST;
+use wire::endpoints::LIMIT;
+use wire::endpoints::PLACES;
+ghost use mathlib.Core.Path.{_≡_};
+ghost use Prim.Native.Nat.{_<_, _≤_};
+ghost use Rattle.wire.specs.Endpoints.{endpointLimit};
+ghost use Rattle.face.specs.Face.{endpoints, addressBefore, endpointValid, faceValid, placeOf, offersOf};
+
+const LAST: u8 = FIRST + (PLACES as u8) - 1;
+
+// Endpoints in ascending order of their addresses, each with the flags that it offers; places behind the count are zero.
+pub struct FaceLimits {
+    pub count: u8,
+    pub addresses: [u8; LIMIT],
+    pub offers: [u8; LIMIT],
+}
+
+pub(crate) fn endpoints_of(l: FaceLimits) -> usize
+    ensures { λ r. ⌜ (r ≡ endpoints l) × (r ≤ endpointLimit) ⌝ }
+{
+    wire::least(l.count as usize, LIMIT)
+}
+
+// The address that place i's has to be above.
+fn address_before(l: FaceLimits, i: usize) -> u8
+    requires { ⌜ i < endpointLimit ⌝ }
+    ensures { λ r. ⌜ r ≡ addressBefore l i ⌝ }
+{
+    if i == 0 {
+        return FIRST - 1;
+    }
+    let j = i - 1;
+    l.addresses[j]
+}
+
+fn endpoint_valid(l: FaceLimits, i: usize) -> bool
+    requires { ⌜ i < endpointLimit ⌝ }
+    ensures { λ r. ⌜ r ≡ endpointValid l i ⌝ }
+{
+    let address = l.addresses[i];
+    let offers = l.offers[i];
+    if i < (l.count as usize) {
+        (address_before(l, i) < address)
+            & (address <= LAST)
+            & ((offers / 2 == 1) | (offers / 2 == 2))
+    } else {
+        (address == 0) & (offers == 0)
+    }
+}
+
+pub fn valid(l: FaceLimits) -> bool
+    ensures { λ r. ⌜ r ≡ faceValid l ⌝ }
+{
+    let mut ok = true;
+    let mut i = 0;
+    while i < LIMIT {
+        ok = ok & endpoint_valid(l, i);
+        i += 1;
+    }
+    (1 <= l.count) & ((l.count as usize) <= LIMIT) & ok
+}
+
+// The first place that lists an address, or LIMIT.
+pub(crate) fn place_of(l: FaceLimits, address: u8) -> usize
+    ensures { λ r. ⌜ r ≡ placeOf l address ⌝ }
+{
+    let n = endpoints_of(l);
+    let mut i = 0;
+    while i < n {
+        if l.addresses[i] == address {
+            return i;
+        }
+        i += 1;
+    }
+    LIMIT
+}
+
+// The flags that the endpoint at an address offers; 0 where it isn't listed.
+pub(crate) fn offers_of(l: FaceLimits, address: u8) -> u8
+    ensures { λ r. ⌜ r ≡ offersOf l address ⌝ }
+{
+    let i = place_of(l, address);
+    if i < LIMIT {
+        return l.offers[i];
+    }
+    0
+}

@@ -1,0 +1,84 @@
+-- Settings that keep their rules, as the code tests them: control by control. Assumes nothing.
+use mathlib.Core.Path.{_≡_, refl, ap, sym, _∙_}
+use mathlib.Core.List.{[], _∷_}
+use mathlib.Core.Option.{none, some}
+use mathlib.Core.Bool.{Bool, true, false, cond, not, _&&_, _||_, and-true, and-assoc}
+use Prim.Native.Nat.{ℕ, zero, suc, _+_, _<_}
+use native.Mathlib.Numerals.{sub-one}
+use native.Mathlib.Omega.{arith}
+use lib.Dec.{eqb}
+use lib.ListN.{getD}
+use borrow.Author.Tests.{ne-eqb, le-leb}
+use Rattle.wire.specs.Endpoints.{firstAddress, places}
+use Rattle.wire.specs.Rows.{_⇒_, firstOf}
+use Rattle.wire.specs.Selectors.{face, metadata}
+use Rattle.controls.specs.declared.settings.Setting.{Setting}
+use Rattle.controls.specs.declared.settings.Setting.the-variants as S
+use Rattle.controls.specs.Metadata.{metadataRefusal}
+use Rattle.face.specs.Face.{allBelow, settingRefusal, faceKept, facesKept}
+use Rattle.face.proofs.Laws.Face.{all-same}
+use Rattle.settings.specs.declared.profile.Profile.{Profile}
+use Rattle.settings.specs.declared.settings.Settings.{Settings}
+use Rattle.settings.specs.Profile.{has, settable, profileValid, controlRefusal}
+use Rattle.settings.specs.Settings.{selectorOf, evHeld, metadataHeld, hdrHeld, throttleHeld, held, valueRefusal, kept, wellFormed}
+
+module _ (p : Profile) where
+  -- a control that no SET is refused for is there and takes one
+  pub control-kept : (selector : ℕ) → eqb (controlRefusal p selector) 0 ≡ has p selector && settable p selector
+  unfolding controlRefusal
+  control-kept selector = go (has p selector) (settable p selector)
+    where
+      go : (h t : Bool) → eqb (firstOf ((not h ⇒ 0x06) ∷ (not t ⇒ 0x07) ∷ [])) 0 ≡ h && t
+      go true true = refl
+      go true false = refl
+      go false t = refl
+
+  -- all but metadata take one
+  pub kept-settable : (s : Setting) → settable p (selectorOf s) ≡ true → has p (selectorOf s) && eqb (valueRefusal p s) 0 ≡ kept p (some s)
+  unfolding kept
+  kept-settable s t = rw (control-kept (selectorOf s), t, and-true (has p (selectorOf s)))
+
+  pub kept-metadata : (n : ℕ) → has p metadata && p .metadata .writable && eqb (metadataRefusal (p .metadata) n) 0 ≡ kept p (some (S.Metadata n))
+  unfolding kept valueRefusal
+  kept-metadata n = rw (control-kept metadata)
+
+-- the record test: the five controls in turn
+abbrev keeps : Profile → Settings → ℕ → Bool
+keeps p s k = kept p (held s k)
+
+below-front : (n : ℕ) (f : ℕ → Bool) → allBelow (suc n) f ≡ f 0 && allBelow n (λ i. f (suc i))
+unfolding allBelow
+below-front zero f = sym (and-true (f 0))
+below-front (suc n) f = ap (λ b. b && f (suc n)) (below-front n f) ∙ and-assoc (f 0) (allBelow n (λ i. f (suc i))) (f (suc n))
+
+-- the keys from 1 on are the places
+keeps-place : (p : Profile) (s : Settings) (i : ℕ) → i < places → keeps p s (suc i) ≡ faceKept (has p face) (p .face) (s .face) i
+unfolding held faceKept valueRefusal kept
+keeps-place p s i h = rw (ne-eqb (suc i) 0 (omega arith), le-leb (suc i) places (omega arith), sub-one) (go (eqb (getD (s .face) i 0) 0))
+  where
+    address : ℕ
+    address = firstAddress + i
+
+    flags : ℕ
+    flags = getD (s .face) i 0
+
+    of : has p face && eqb (settingRefusal (p .face) address flags) 0 ≡ kept p (some (S.Face address flags))
+    of = kept-settable p (S.Face address flags) refl
+
+    go : (b : Bool) → kept p (cond b none (some (S.Face address flags))) ≡ b || (has p face && eqb (settingRefusal (p .face) address flags) 0)
+    go true = refl
+    go false = sym of
+
+in-turn : (v e f m h t : Bool) → v && e && f && m && h && t ≡ v && (e && f && m && h && t)
+in-turn true e f m h t = refl
+in-turn false e f m h t = refl
+
+pub formed-controls : (p : Profile) (s : Settings)
+    → profileValid p && kept p (evHeld (s .ev)) && facesKept (has p face) (p .face) (s .face) && kept p (metadataHeld (s .metadata))
+    && kept p (hdrHeld (s .hdr)) && kept p (throttleHeld (s .throttle))
+    ≡ wellFormed p s
+unfolding wellFormed facesKept allBelow held
+formed-controls p s =
+    in-turn (profileValid p) _ _ _ _ _
+    ∙ ap (λ b. profileValid p && (b && keeps p s 16 && keeps p s 17 && keeps p s 18))
+    (ap (λ b. keeps p s 0 && b) (sym (all-same places _ _ (keeps-place p s))) ∙ sym (below-front places (keeps p s)))
