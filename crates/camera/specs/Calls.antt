@@ -25,7 +25,7 @@ streamed c on = outcomeBy (recordCode c) c (record { code = 0; count = 0; camera
 unfoldable pub sensed : Camera → Sensed
 sensed c = record {
   code = recordCode c;
-  value = cond (wellFormed c) (compensation (c .profile .ev) (c .ev)) (pos 0);
+  value = cond (wellFormed c) (compensation (c .profile .ev) (c .settings .ev)) (pos 0);
   camera = c;
 }
 

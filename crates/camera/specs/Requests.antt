@@ -1,66 +1,63 @@
--- Document 01, "Requests and the order of tests", on a camera.
+-- Document 01, "Requests and the order of tests", on a camera: `request` has the tests, over the camera's table.
 use Prim.Native.Nat.{ℕ}
-use mathlib.Core.List.{List, [], _∷_, _++_}
+use mathlib.Core.List.{List}
 use mathlib.Core.Bool.{Bool, cond, not, _&&_}
-use lib.Dec.{ltb, eqb}
-use lib.ListN.{length, take, drop}
-use Rattle.wire.specs.Rows.{Row, _⇒_, firstOf}
-use Rattle.wire.specs.Uvc.{malformedRecord, noRoom, wrongState}
-use Rattle.request.specs.Setup.{isSetRequest, wLengthOf}
-use Rattle.request.specs.Setup as setup
-use Rattle.request.specs.Tests.{requestTests}
-use Rattle.request.specs.Reply.{countOf}
-use Rattle.exposure.specs.Ev.{evAnswer}
-use Rattle.face.specs.Face.{faceAnswer}
-use Rattle.controls.specs.Metadata.{metadataAnswer}
-use Rattle.controls.specs.Hdr.{hdrAnswer}
-use Rattle.controls.specs.Throttle.{throttleAnswer}
-use Rattle.camera.specs.declared.profile.Profile.{Profile}
+use lib.Dec.{eqb}
+use Rattle.wire.specs.Selectors.{throttle}
+use Rattle.wire.specs.Uvc.{setCur, wrongState}
+use Rattle.request.specs.Setup.{isSetRequest, selectorOf}
+use Rattle.request.specs.Table.{Table}
+use Rattle.request.specs.Tests as request
+use Rattle.request.specs.Requests as request-leaves
+use Rattle.settings.specs.declared.profile.Profile.{Profile}
+use Rattle.settings.specs.declared.settings.Settings.{Settings}
+use Rattle.settings.specs.Profile.{has, settable, takes, lengthOf}
+use Rattle.settings.specs.Settings.{noSettings}
+use Rattle.settings.specs.Settings as settings
+use Rattle.settings.specs.Items.{setRefusal, setGives}
+use Rattle.settings.specs.Answers.{infoOf, valueOf}
 use Rattle.camera.specs.declared.record.Camera.{Camera}
 use Rattle.camera.specs.declared.calls.Outcome.{Outcome}
-use Rattle.camera.specs.Profile.{table}
-use Rattle.camera.specs.Record.{wellFormed}
-use Rattle.camera.specs.Items.{puts, setRefusal, setGives}
+use Rattle.camera.specs.Record.{puts}
+
+-- test 7: a SET of the throttle while the stream is stopped
+abbrev pub stateOf : (streaming : Bool) → (selector code : ℕ) → ℕ
+stateOf streaming selector code = cond (eqb selector throttle && eqb code setCur && not streaming) wrongState 0
+
+-- the table of a camera's controls
+abbrev pub tableWith : Profile → Bool → Settings → Table
+tableWith p streaming s = record {
+  formed = settings.wellFormed p s;
+  unit = p .unit;
+  interface = p .interface;
+  present = has p;
+  settable = settable p;
+  takes = takes p;
+  state = stateOf streaming;
+  values = setRefusal p;
+  len = lengthOf p;
+  info = infoOf p;
+  value = valueOf p s;
+}
+
+abbrev pub table : Camera → Table
+table c = tableWith (c .profile) (c .streaming) (c .settings)
+
+-- as far as tests 2 to 8 go, which look at no setting that is held
+abbrev pub rules : Profile → Bool → Table
+rules p streaming = tableWith p streaming noSettings
 
 -- the full answer to a GET
-unfoldable pub answerOf : Camera → ℕ → ℕ → List ℕ
-answerOf c selector code =
-    let p = c .profile in
-    cond (eqb selector 0x03) (evAnswer (p .ev) (c .ev) code)
-    (cond (eqb selector 0x06) (faceAnswer (p .face) (c .face) code)
-    (cond (eqb selector 0x09) (metadataAnswer (p .metadata) (c .metadata) code)
-    (cond (eqb selector 0x0D) (hdrAnswer (p .auto) (c .hdr) code)
-    (throttleAnswer (p .throttle) (c .throttle) code))))
+abbrev pub answerOf : Camera → ℕ → ℕ → List ℕ
+answerOf c = request.answerOf (table c)
 
--- the answer that a setup asks for, and how much of it is sent
-abbrev pub asked : Camera → List ℕ → List ℕ
-asked c s = answerOf c (setup.selectorOf s) (setup.codeOf s)
+-- the number of a SET before its payload is looked at: the control is there, takes a SET, and streams if it is the throttle
+abbrev pub controlRefusal : Profile → Bool → ℕ → ℕ
+controlRefusal p streaming = request.controlRefusal (rules p streaming)
 
-abbrev pub sentCount : Camera → List ℕ → ℕ
-sentCount c s = countOf (asked c s) (wLengthOf s)
-
--- tests 7 and 8, of a SET of a selector: a throttle streams, and the value tests hold
-abbrev pub setTests : Profile → Bool → ℕ → List ℕ → List Row
-setTests p streaming selector payload =
-    let code = setRefusal p selector payload in
-    (eqb selector 0x0E && not streaming ⇒ wrongState)
-    ∷ (not (eqb code 0) ⇒ code)
-    ∷ []
-
--- a GET has none of them
-unfoldable pub valueTests : Profile → Bool → List ℕ → List ℕ → List Row
-valueTests p streaming s payload = cond (isSetRequest s) (setTests p streaming (setup.selectorOf s) payload) []
-
--- the nine tests, in order; `room` is the length of the reply buffer
-unfoldable pub requestRows : Camera → List ℕ → List ℕ → ℕ → List Row
-requestRows c s payload room =
-    ((not (wellFormed c) ⇒ malformedRecord) ∷ [])
-    ++ requestTests (table (c .profile)) s payload
-    ++ valueTests (c .profile) (c .streaming) s payload
-    ++ ((not (isSetRequest s) && ltb room (sentCount c s) ⇒ noRoom) ∷ [])
-
-unfoldable pub requestCode : Camera → List ℕ → List ℕ → ℕ → ℕ
-requestCode c s payload room = firstOf (requestRows c s payload room)
+-- the number of a request; `room` is the length of the reply buffer
+abbrev pub requestCode : Camera → List ℕ → List ℕ → ℕ → ℕ
+requestCode c = request.requestCode (table c)
 
 -- a refusal: its number, no count, and the record as it came in
 abbrev pub refused : ℕ → Camera → Outcome
@@ -74,15 +71,12 @@ outcomeBy code c done = cond (eqb code 0) done (refused code c)
 unfoldable pub requestDone : Camera → List ℕ → List ℕ → Outcome
 requestDone c s payload =
     cond (isSetRequest s)
-    (record { code = 0; count = 0; camera = puts c (setGives (c .profile) (setup.selectorOf s) payload) })
-    (record { code = 0; count = sentCount c s; camera = c })
+    (record { code = 0; count = 0; camera = puts c (setGives (c .profile) (selectorOf s) payload) })
+    (record { code = 0; count = request.sentCount (table c) s; camera = c })
 
 unfoldable pub requested : Camera → List ℕ → List ℕ → ℕ → Outcome
 requested c s payload room = outcomeBy (requestCode c s payload room) c (requestDone c s payload)
 
--- the reply buffer afterwards: a GET writes the bytes that it reports, and nothing else is written
-unfoldable pub replied : Camera → List ℕ → List ℕ → List ℕ → List ℕ
-replied c s payload reply =
-    cond (eqb (requestCode c s payload (length reply)) 0 && not (isSetRequest s))
-    (take (sentCount c s) (asked c s) ++ drop (sentCount c s) reply)
-    reply
+-- the reply buffer afterwards
+abbrev pub replied : Camera → List ℕ → List ℕ → List ℕ → List ℕ
+replied c = request-leaves.replied (table c)

@@ -6,7 +6,9 @@ use mathlib.Core.Bool.{Bool, cond, not}
 use lib.Dec.{leb, ltb, eqb}
 use lib.ListN.{length, drop}
 use Rattle.wire.specs.Number.{bytesOf}
-use Rattle.wire.specs.Rows.{Row, _⇒_, firstOf}
+use Rattle.wire.specs.Rows.{Row, _⇒_, answers, firstOf}
+use Rattle.wire.specs.Endpoints.{places}
+use Rattle.wire.specs.Selectors as selector
 use Rattle.wire.specs.Uvc.{malformedRecord, malformedSnapshot, noRoom}
 use Rattle.snapshot.specs.Form as form
 use Rattle.snapshot.specs.Records.{decode}
@@ -19,16 +21,22 @@ use Rattle.controls.specs.declared.throttle.ThrottleLimits.{ThrottleLimits}
 use Rattle.exposure.specs.Ev.{evBytes}
 use Rattle.face.specs.Face.{entryOf}
 use Rattle.controls.specs.Throttle.{throttleBytes}
-use Rattle.camera.specs.declared.profile.Profile.{Profile}
+use Rattle.controls.specs.Settings.{firstRefusal}
+use Rattle.settings.specs.declared.profile.Profile.{Profile}
+use Rattle.settings.specs.Items.{allGiven, itemAt}
 use Rattle.camera.specs.declared.record.Camera.{Camera}
 use Rattle.camera.specs.declared.calls.Outcome.{Outcome}
-use Rattle.camera.specs.Record.{held, controlRefusal, wellFormed}
-use Rattle.camera.specs.Items.{firstRefusal, allGiven, puts, itemAt}
-use Rattle.camera.specs.Requests.{outcomeBy}
+use Rattle.camera.specs.Record.{held, puts, wellFormed}
+use Rattle.camera.specs.Requests.{controlRefusal, outcomeBy}
 
 -- the selector of a key, which is the kind of its records
 abbrev pub selectorAt : ℕ → ℕ
-selectorAt k = cond (eqb k 0) 0x03 (cond (leb k 15) 0x06 (cond (eqb k 16) 0x09 (cond (eqb k 17) 0x0D 0x0E)))
+selectorAt k =
+    cond (eqb k 0) selector.ev
+    (cond (leb k places) selector.face
+    (cond (eqb k (places + 1)) selector.metadata
+    (cond (eqb k (places + 2)) selector.hdr
+    selector.throttle)))
 
 -- a record of a key as a SET: the control's tests, then the value tests of its payload
 unfoldable pub recordItem : Profile → Bool → ℕ → List ℕ → Item
@@ -47,9 +55,8 @@ loadItem p streaming s k = itemFor p streaming k (decode s k)
 -- the form of the whole snapshot, then record by record; first fault answering
 unfoldable pub loadTests : Profile → Bool → List ℕ → List Row
 loadTests p streaming s =
-    let code = firstRefusal 19 0 (loadItem p streaming s) in
     (not (form.wellFormed s) ⇒ malformedSnapshot)
-    ∷ (not (eqb code 0) ⇒ code)
+    ∷ answers (firstRefusal form.keys 0 (loadItem p streaming s))
     ∷ []
 
 unfoldable pub loadCode : Camera → List ℕ → ℕ
@@ -57,7 +64,7 @@ loadCode c s = firstOf (((not (wellFormed c) ⇒ malformedRecord) ∷ []) ++ loa
 
 -- the settings that an accepted load gives: its records', in order
 unfoldable pub loadGives : Profile → Bool → List ℕ → List (ℕ × Setting)
-loadGives p streaming s = allGiven 19 0 (loadItem p streaming s)
+loadGives p streaming s = allGiven form.keys 0 (loadItem p streaming s)
 
 unfoldable pub loaded : Camera → List ℕ → Outcome
 loaded c s =
@@ -73,11 +80,11 @@ abbrev pub noLimits : ThrottleLimits
 noLimits = record { minimum = 0; maximum = 0; step = 0 }
 
 unfoldable pub row : ℕ → Setting → List ℕ
-row k (S.Ev s) = framed 0x03 (evBytes s)
-row k (S.Face address flags) = framed 0x06 (1 ∷ entryOf address flags)
-row k (S.Metadata n) = framed 0x09 (bytesOf 4 n)
-row k (S.Hdr n) = framed 0x0D (bytesOf 4 n)
-row k (S.Throttle s) = framed 0x0E (throttleBytes s noLimits)
+row k (S.Ev s) = framed selector.ev (evBytes s)
+row k (S.Face address flags) = framed selector.face (1 ∷ entryOf address flags)
+row k (S.Metadata n) = framed selector.metadata (bytesOf 4 n)
+row k (S.Hdr n) = framed selector.hdr (bytesOf 4 n)
+row k (S.Throttle s) = framed selector.throttle (throttleBytes s noLimits)
 
 -- a camera's snapshot: a record for each setting held and no other, in ascending order of the keys
 unfoldable pub snapshot : Camera → List ℕ

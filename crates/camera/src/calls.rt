@@ -35,7 +35,7 @@ impl Camera {
     pub fn set_streaming(self, on: bool) -> Outcome
         ensures { λ r. ⌜ r ≡ streamed self on ⌝ }
     {
-        if !self.well_formed() {
+        if !self.settings.well_formed(self.profile) {
             return self.refuse(MALFORMED_RECORD);
         }
         let camera = self.with_streaming(on);
@@ -50,7 +50,7 @@ impl Camera {
     pub fn sensor(self) -> Sensed
         ensures { λ r. ⌜ r ≡ sensed self ⌝ }
     {
-        if !self.well_formed() {
+        if !self.settings.well_formed(self.profile) {
             return Sensed {
                 code: MALFORMED_RECORD,
                 value: 0,
@@ -58,7 +58,8 @@ impl Camera {
             };
         }
         let limits = self.profile.ev;
-        let held = self.ev;
+        let settings = self.settings;
+        let held = settings.ev;
         let value = exposure::sensor_value(limits, held);
         Sensed {
             code: 0,

@@ -1,17 +1,13 @@
 // The camera: its record, and the calls that take it, each a method that hands the next record back.
 // Document 01, "Profile and camera record", "Requests and the order of tests", "Settings sheet" and "The list of demand 3".
-// `controls`, `exposure` and `face` know the five controls, `request` the tests that any unit shares, `snapshot` the form of a settings sheet;
-// here they meet on one record. `demands` has the owner's demands on these calls as theorems.
+// `settings` knows the profile and the settings of the five controls, `request` the tests that any unit shares, `snapshot` the form of a
+// settings sheet; here they meet on one record with the streaming flag. `demands` has the owner's demands on these calls as theorems.
 mod calls;
-mod held;
 mod loading;
-mod profile;
 mod record;
 mod requests;
-mod setting;
 mod writing;
 
 pub use calls::Outcome;
 pub use calls::Sensed;
-pub use profile::Profile;
 pub use record::Camera;

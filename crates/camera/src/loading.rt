@@ -1,23 +1,27 @@
 // Loading a snapshot: its form, then each record as a SET; all or nothing.
 use crate::calls::Outcome;
-use crate::profile::EV;
-use crate::profile::FACE;
-use crate::profile::HDR;
-use crate::profile::METADATA;
-use crate::profile::Profile;
-use crate::profile::THROTTLE;
 use crate::record::Camera;
-use crate::setting::code_of;
-use crate::setting::control_refusal;
-use crate::setting::item_at;
+use crate::requests::control_refusal;
 use controls::Item;
+use settings::Profile;
 use snapshot::KEYS;
 use wire::Part;
+use wire::endpoints::PLACES;
+use wire::selectors::EV;
+use wire::selectors::FACE;
+use wire::selectors::HDR;
+use wire::selectors::METADATA;
+use wire::selectors::THROTTLE;
 use wire::uvc::MALFORMED_RECORD;
 ghost use mathlib.Core.Path.{_≡_};
-ghost use Rattle.camera.specs.Items.{firstRefusal, puts};
-ghost use Rattle.camera.specs.Snapshots.{selectorAt, recordItem, loadItem, loadGives, loaded};
-ghost use Rattle.camera.specs.Steps.{itemIn};
+ghost use mathlib.Core.Bool.{true};
+ghost use Rattle.snapshot.specs.Form.{wellFormed};
+ghost use Rattle.camera.specs.Snapshots.{selectorAt, recordItem, loaded};
+ghost use Rattle.camera.specs.Steps.{loadDone};
+
+const METADATA_KEY: usize = PLACES + 1;
+
+const HDR_KEY: usize = PLACES + 2;
 
 fn selector_at(key: usize) -> u8
     ensures { λ r. ⌜ r ≡ selectorAt key ⌝ }
@@ -25,13 +29,13 @@ fn selector_at(key: usize) -> u8
     if key == 0 {
         return EV;
     }
-    if key <= 15 {
+    if key <= PLACES {
         return FACE;
     }
-    if key == 16 {
+    if key == METADATA_KEY {
         return METADATA;
     }
-    if key == 17 {
+    if key == HDR_KEY {
         return HDR;
     }
     THROTTLE
@@ -46,74 +50,47 @@ fn record_item(p: Profile, streaming: bool, key: usize, r: &[u8]) -> Item
     if code != 0 {
         return Item::Refused(code);
     }
-    item_at(p, selector, wire::tail(r, 4), 0)
-}
-
-// The record at `at`, of n bytes, as a SET; none where n is 0.
-fn item_of(p: Profile, streaming: bool, key: usize, s: &[u8], at: usize, n: usize) -> Item
-    ensures { λ r. ⌜ r ≡ itemIn p streaming key (now (s .entry)) at n ⌝ }
-{
-    if n == 0 {
-        return Item::Absent;
-    }
-    record_item(p, streaming, key, wire::part_at(s, Part { at, len: n }))
-}
-
-// The number of the first record that is refused, or 0.
-fn load_refusal(p: Profile, streaming: bool, s: &[u8]) -> u8
-    ensures { λ r. ⌜ r ≡ firstRefusal 19 0 (loadItem p streaming (now (s .entry))) ⌝ }
-{
-    let mut at = 0;
-    let mut key = 0;
-    while key < KEYS {
-        let n = snapshot::passed_at(s, at, key);
-        let code = code_of(item_of(p, streaming, key, s, at, n));
-        if code != 0 {
-            return code;
-        }
-        at += n;
-        key += 1;
-    }
-    0
+    settings::item(p, selector, wire::tail(r, 4))
 }
 
 impl Camera {
-    // The record with every setting of a snapshot.
-    fn load_all(self, s: &[u8]) -> Camera
-        ensures { λ r. ⌜ r ≡ puts self (loadGives (self .profile) (self .streaming) (now (s .entry))) ⌝ }
+    // Every record of a well-formed snapshot as a SET, in order: the first refusal, or the record with all of them.
+    fn load_records(self, s: &[u8]) -> Outcome
+        requires { ⌜ wellFormed (now s) ≡ true ⌝ }
+        ensures { λ r. ⌜ r ≡ loadDone self (now (s .entry)) ⌝ }
     {
-        let mut next = self;
+        let mut settings = self.settings;
         let mut at = 0;
-        let mut key = 0;
+        let mut key = snapshot::key_at(s, 0);
         while key < KEYS {
-            let n = snapshot::passed_at(s, at, key);
-            next = next.put_item(item_of(self.profile, self.streaming, key, s, at, n));
-            at += n;
-            key += 1;
+            let size = snapshot::size_of(key);
+            let r = wire::part_at(s, Part { at, len: size });
+            let taken = settings.take(record_item(self.profile, self.streaming, key, r));
+            if taken.code != 0 {
+                return self.refuse(taken.code);
+            }
+            settings = taken.settings;
+            at += size;
+            key = snapshot::key_at(s, at);
         }
-        next
+        Outcome {
+            code: 0,
+            count: 0,
+            camera: self.with_settings(settings),
+        }
     }
 
     // Loads a snapshot, 01's settings sheet: it counts as its records' SETs, in order.
     pub fn load(self, s: &[u8]) -> Outcome
         ensures { λ r. ⌜ r ≡ loaded self (now (s .entry)) ⌝ }
     {
-        if !self.well_formed() {
+        if !self.settings.well_formed(self.profile) {
             return self.refuse(MALFORMED_RECORD);
         }
         let form = snapshot::check(s);
         if form != 0 {
             return self.refuse(form);
         }
-        let refusal = load_refusal(self.profile, self.streaming, s);
-        if refusal != 0 {
-            return self.refuse(refusal);
-        }
-        let camera = self.load_all(s);
-        Outcome {
-            code: 0,
-            count: 0,
-            camera,
-        }
+        self.load_records(s)
     }
 }

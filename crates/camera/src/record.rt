@@ -1,21 +1,13 @@
-// The camera record: the profile, the streaming flag, and for each control, of face authentication for each endpoint, the
-// last accepted setting or none.
-use crate::profile::Profile;
-use controls::Number;
-use controls::throttle::Throttle;
-use exposure::Ev;
+// The camera record: the profile, the streaming flag, and the settings.
+use settings::Profile;
+use settings::Settings;
 ghost use mathlib.Core.Path.{_≡_};
-ghost use Rattle.camera.specs.Record.{fresh};
+ghost use Rattle.camera.specs.Record.{fresh, withStreaming, withSettings};
 
-// Face settings stand by address, that of 0x81 first: the flag chosen, or 0 for none.
 pub struct Camera {
     pub profile: Profile,
     pub streaming: bool,
-    pub ev: Ev,
-    pub face: [u8; 15],
-    pub metadata: Number,
-    pub hdr: Number,
-    pub throttle: Throttle,
+    pub settings: Settings,
 }
 
 impl Camera {
@@ -23,14 +15,30 @@ impl Camera {
     pub fn fresh(profile: Profile, streaming: bool) -> Camera
         ensures { λ r. ⌜ r ≡ fresh profile streaming ⌝ }
     {
+        let settings = Settings::none();
         Camera {
             profile,
             streaming,
-            ev: Ev::Unset,
-            face: [0; 15],
-            metadata: Number::Unset,
-            hdr: Number::Unset,
-            throttle: Throttle::Unset,
+            settings,
+        }
+    }
+
+    pub(crate) fn with_streaming(self, on: bool) -> Camera
+        ensures { λ r. ⌜ r ≡ withStreaming self on ⌝ }
+    {
+        let mut next = self;
+        next.streaming = on;
+        next
+    }
+
+    pub(crate) fn with_settings(self, settings: Settings) -> Camera
+        ensures { λ r. ⌜ r ≡ withSettings self settings ⌝ }
+    {
+        let profile = self.profile;
+        Camera {
+            profile,
+            streaming: self.streaming,
+            settings,
         }
     }
 }

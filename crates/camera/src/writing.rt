@@ -99,7 +99,7 @@ impl Camera {
         let mut n = 0;
         let mut key = 0;
         while key < KEYS {
-            let r = record_held(self.held(key));
+            let r = record_held(self.settings.held(key));
             let len = r.len;
             let bytes = r.bytes;
             wire::copy(out, n, wire::head(&bytes, len));
@@ -114,7 +114,7 @@ impl Camera {
         ensures { λ r. ⌜ r ≡ written self (length (now (out .entry))) ⌝ }
         ensures { λ _. ⌜ now (out .exit) ≡ writtenOut self (now (out .entry)) ⌝ }
     {
-        if !self.well_formed() {
+        if !self.settings.well_formed(self.profile) {
             return self.refuse(MALFORMED_RECORD);
         }
         // Into no room nothing is written: this only measures.

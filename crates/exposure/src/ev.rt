@@ -1,8 +1,8 @@
 // Exposure compensation (EV): seven bytes of flags, of which one says the step, then a signed 32-bit value in such steps.
-use request::Answer;
 use controls::EvSetting;
 use controls::Item;
 use controls::Setting;
+use request::Answer;
 use request::answer_by;
 use wire::Choice;
 use wire::uvc::GET_CUR;

@@ -1,15 +1,12 @@
 -- What holds of every unit's requests. Assumes nothing.
-use mathlib.Core.Path.{_≡_, refl, subst, sym, ap, _∙_}
+use mathlib.Core.Path.{_≡_, refl, subst}
 use mathlib.Core.List.{List}
-use mathlib.Core.Option.{some}
-use mathlib.Core.Bool.{true, false}
-use Prim.Native.Nat.{ℕ, suc, _+_}
+use Prim.Native.Nat.{ℕ, suc}
 use native.Mathlib.Omega.{arith}
 use lib.ListN.{length}
 use borrow.Author.Tests.{eq-eqb, ne-eqb}
 use Rattle.wire.specs.Rows.{Row, AnswersAt, Quiet}
 use Rattle.wire.proofs.Laws.Rows.{Coded, quiet-own, own-coded, answers-at, answers-none}
-use Rattle.request.specs.Setup.{isSetRequest}
 use Rattle.request.specs.Table.{Table}
 use Rattle.request.specs.Answers.{answerBy}
 use Rattle.request.specs.Tests.{requestTests, valueTests, answerOf, requestRows, requestCode, testNumber}

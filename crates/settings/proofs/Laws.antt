@@ -1,3 +1,5 @@
 pub mod Profile
+pub mod Selectors
 pub mod Kept
 pub mod Items
+pub mod Answers

@@ -18,8 +18,7 @@ fn ev_kept(p: Profile, held: Ev) -> bool
 {
     match held {
         Ev::Unset => true,
-        Ev::Held(s) => has_control(p, EV)
-            & (exposure::refusal(p.ev, s.flags as u64, s.value) == 0),
+        Ev::Held(s) => has_control(p, EV) & (exposure::refusal(p.ev, s.flags as u64, s.value) == 0),
     }
 }
 

@@ -1,31 +1,35 @@
--- Loading a snapshot key by key, as code goes through its records, and what a load answers. Assumes nothing.
+-- Loading a snapshot record by record, and what a load answers. Assumes nothing.
 use mathlib.Core.Path.{_≡_, refl, ap, ap₂, sym, _∙_}
-use mathlib.Core.List.{List}
+use mathlib.Core.List.{List, [], _++_, append-nil}
 use mathlib.Core.Option.{none, some}
-use mathlib.Core.Bool.{Bool, true, false, cond}
-use Prim.Native.Nat.{ℕ, _+_, _≤_, _<_}
-use native.Mathlib.Nat.{add-zero}
+use mathlib.Core.Bool.{Bool, true, false, cond, not}
+use Prim.Native.Nat.{ℕ, zero, suc, _+_, _-_, _≤_, _<_}
+use native.Mathlib.Nat.{zero-add, add-zero}
 use native.Mathlib.Omega.{arith}
-use lib.Dec.{eqb}
-use lib.ListN.{take, drop}
-use borrow.Author.Tests.{eq-eqb, ne-eqb}
+use lib.Dec.{eqb, leb}
+use lib.ListN.{length, take, drop}
+use borrow.Author.Tests.{eq-eqb, ne-eqb, leb-true, leb-false}
 use borrow.Author.Count.{below-more}
+use Rattle.wire.specs.Uvc.{malformedRecord, malformedSnapshot}
+use Rattle.snapshot.specs.Form.{keys, sizeOf}
 use Rattle.snapshot.specs.Form as form
-use Rattle.snapshot.specs.Records.{stands, passed, recordAt, decode}
-use Rattle.snapshot.specs.Steps.{Cursor}
-use Rattle.snapshot.proofs.Laws.Sound.{stands-some}
-use Rattle.snapshot.proofs.Laws.Cursor.{start, next}
+use Rattle.snapshot.specs.Records.{keyOf, decode}
+use Rattle.snapshot.proofs.Laws.Walk.{At, first-at, none-before, record-at, next-at, next-above, next-within, none-between}
 use Rattle.controls.specs.declared.settings.Item.{Item}
 use Rattle.controls.specs.declared.settings.Item.the-variants.{Absent, Refused}
-use Rattle.controls.specs.Settings.{codeOf}
-use Rattle.camera.specs.declared.profile.Profile.{Profile}
+use Rattle.controls.specs.Settings.{codeOf, firstRefusal}
+use Rattle.controls.proofs.Laws.Items.{stops, passes}
+use Rattle.settings.specs.declared.profile.Profile.{Profile}
+use Rattle.settings.specs.declared.settings.Settings.{Settings}
+use Rattle.settings.specs.declared.items.Taken as set
+use Rattle.settings.specs.Items.{givenOf, allGiven, puts, itemAt, itemTaken}
+use Rattle.settings.proofs.Laws.Items.{given-next, puts-next}
 use Rattle.camera.specs.declared.record.Camera.{Camera}
-use Rattle.camera.specs.Record.{controlRefusal, wellFormed}
-use Rattle.camera.specs.Requests.{refused}
-use Rattle.camera.specs.Items.{givenOf, firstRefusal, allGiven, puts, itemAt}
+use Rattle.camera.specs.declared.calls.Outcome.{Outcome}
+use Rattle.camera.specs.Record.{withSettings, wellFormed}
+use Rattle.camera.specs.Requests.{controlRefusal, refused, outcomeBy}
 use Rattle.camera.specs.Snapshots.{selectorAt, recordItem, itemFor, loadItem, loadTests, loadCode, loadGives, loaded}
-use Rattle.camera.specs.Steps.{itemIn}
-use Rattle.camera.proofs.Laws.Items.{refusal-at, refusal-none, puts-next}
+use Rattle.camera.specs.Steps.{loadDone}
 
 -- a record of key k as a SET, by what the calls ensure
 module _ (p : Profile) (streaming : Bool) (k : ℕ) (r : List ℕ) {selector code : ℕ} (is-selector : selector ≡ selectorAt k)
@@ -44,122 +48,145 @@ module _ (p : Profile) (streaming : Bool) (k : ℕ) (r : List ℕ) {selector cod
       ∙ ap₂ (λ (j : ℕ) (m : List ℕ). itemAt p j m 0) is-selector e
       ∙ rw (eq-eqb (controlRefusal p streaming (selectorAt k)) 0 (sym code-is ∙ z))
 
--- the record that is passed
-item-passed : (p : Profile) (streaming : Bool) (s : List ℕ) (at k : ℕ) → Cursor s at k
-    → itemIn p streaming k s at (passed k (drop at s)) ≡ loadItem p streaming s k
-unfolding itemFor decode recordAt passed
-item-passed p streaming s at k c =
-    go (drop at s) (stands k (drop at s)) refl ∙ ap (λ l. itemFor p streaming k (recordAt k l)) (c .here)
-  where
-    go : (l : List ℕ) (b : Bool) → stands k l ≡ b
-        → cond (eqb (cond b (form.sizeOf k) 0) 0) Absent (recordItem p streaming k (take (cond b (form.sizeOf k) 0) l))
-        ≡ itemFor p streaming k (cond b (some (take (form.sizeOf k) l)) none)
-    go l true e = let h = stands-some k l e in simp (ne-eqb (form.sizeOf k) 0 (omega arith))
-    go l false e = refl
+-- keys without a record give nothing
+module _ (item : ℕ → Item) where
+  given-skip : (d n : ℕ) → ((j : ℕ) → n ≤ j → j < d + n → item j ≡ Absent) → allGiven (d + n) 0 item ≡ allGiven n 0 item
+  unfolding givenOf
+  given-skip zero n h = rw zero-add
+  given-skip (suc d) n h =
+      let e : suc d + n ≡ suc (d + n) = omega arith in
+      let q : item (d + n + 0) ≡ Absent = h (d + n + 0) (omega arith) (omega arith) in
+      ap (λ (m : ℕ). allGiven m 0 item) e
+      ∙ given-next (d + n) 0 item
+      ∙ ap (λ i. allGiven (d + n) 0 item ++ givenOf i) q
+      ∙ append-nil (allGiven (d + n) 0 item)
+      ∙ given-skip d n (λ j l u. h j l (omega arith))
 
--- what stands before key k: the cursor, and of the keys below it no record is refused
-module _ (p : Profile) (streaming : Bool) (s : List ℕ) where
-  abbrev code-at : ℕ → ℕ
-  code-at k = codeOf (loadItem p streaming s k)
+  given-between : (n m : ℕ) → n ≤ m → ((j : ℕ) → n ≤ j → j < m → item j ≡ Absent) → allGiven m 0 item ≡ allGiven n 0 item
+  given-between n m l h =
+      let e : m - n + n ≡ m = omega arith in
+      ap (λ (k : ℕ). allGiven k 0 item) (sym e) ∙ given-skip (m - n) n (λ j a b. h j a (omega arith))
 
-  from-zero : (k : ℕ) → code-at (k + 0) ≡ code-at k
-  from-zero k = ap code-at (add-zero k)
-
-  pub record Passed (at k : ℕ) : Type 0 where
-    pub few : k ≤ 19
-    pub here : Cursor s at k
-    pub taken : (j : ℕ) → j < k → code-at j ≡ 0
-
-  pub none-passed : Passed 0 0
-  none-passed = record { few = omega arith; here = start s; taken = λ j h. absurd (omega arith) }
-
-  -- the record of key k, by what the calls ensure
-  module _ {at k n code : ℕ} {item : Item} (w : Passed at k) (h : k < 19) (is-passed : n ≡ passed k (drop at s))
-      (is-item : item ≡ itemIn p streaming k s at n) (is-code : code ≡ codeOf item) where
-    code-here : code ≡ code-at k
-    code-here = is-code ∙ ap codeOf (is-item ∙ ap (itemIn p streaming k s at) is-passed ∙ item-passed p streaming s at k (w .here))
-
-    pub pass-next : code ≡ 0 → Passed (at + n) (k + 1)
-    pass-next e = record {
-      few = omega arith;
-      here = rw is-passed (next s at k (w .here));
-      taken = below-more (λ j. code-at j ≡ 0) k (w .taken) (sym code-here ∙ e);
-    }
-
-    pub pass-refused : (code ≡ 0 → ⊥) → code ≡ firstRefusal 19 0 (loadItem p streaming s)
-    pass-refused bad =
-        let e = code-here ∙ sym (from-zero k) in
-        e ∙ sym (refusal-at 19 0 k (loadItem p streaming s) (λ j l. from-zero j ∙ w .taken j l) h (λ z. bad (e ∙ z)))
-
-  pub pass-end : {at k : ℕ} → Passed at k → 19 ≤ k → 0 ≡ firstRefusal 19 0 (loadItem p streaming s)
-  pass-end w h = sym (refusal-none 19 0 (loadItem p streaming s) (λ j l. from-zero j ∙ w .taken j (omega arith)))
-
--- the same for taking them: the cursor, and the record with the settings of the keys below k
 module _ (c : Camera) (s : List ℕ) where
   abbrev item : ℕ → Item
   item = loadItem (c .profile) (c .streaming) s
 
-  pub record Taken (camera : Camera) (at k : ℕ) : Type 0 where
-    pub few : k ≤ 19
-    pub here : Cursor s at k
-    pub is : camera ≡ puts c (allGiven k 0 item)
+  absent : (j : ℕ) → decode s j ≡ none → item j ≡ Absent
+  unfolding itemFor
+  absent j e = ap (itemFor (c .profile) (c .streaming) j) e
 
-  pub none-taken : Taken c 0 0
+  absent-code : (j : ℕ) → item j ≡ Absent → codeOf (item j) ≡ 0
+  unfolding codeOf
+  absent-code j e = ap codeOf e
+
+  -- what stands before the record of key k: those below it are taken
+  pub record Loads (h : Settings) (at k : ℕ) : Type 0 where
+    pub here : At s at k
+    pub is : h ≡ puts (c .settings) (allGiven k 0 item)
+    pub taken : (j : ℕ) → j < k → codeOf (item j) ≡ 0
+
+  pub nothing-loaded : form.wellFormed s ≡ true → {k : ℕ} → k ≡ keyOf (drop 0 s) → Loads (c .settings) 0 k
   unfolding puts allGiven
-  none-taken = record { few = omega arith; here = start s; is = refl }
+  nothing-loaded w e = rw e (record {
+    here = first-at s w;
+    is = sym (ap (puts (c .settings)) (given-between item 0 (keyOf (drop 0 s)) (omega arith) (λ j l u. absent j (none-before s w j u))));
+    taken = λ j l. absent-code j (absent j (none-before s w j l));
+  })
 
-  pub take-next : {camera after : Camera} {at k n : ℕ} {i : Item} → Taken camera at k → k < 19 → n ≡ passed k (drop at s)
-      → i ≡ itemIn (c .profile) (c .streaming) k s at n → after ≡ puts camera (givenOf i) → Taken after (at + n) (k + 1)
-  take-next {camera} {after} {at} {k} {n} {i} w h is-passed is-item is-put =
-      let e : i ≡ item k =
-      is-item ∙ ap (itemIn (c .profile) (c .streaming) k s at) is-passed ∙ item-passed (c .profile) (c .streaming) s at k (w .here) in
-      record {
-        few = omega arith;
-        here = rw is-passed (next s at k (w .here));
-        is = is-put ∙ ap (λ j. puts camera (givenOf j)) e ∙ ap (λ d. puts d (givenOf (item k))) (w .is) ∙ sym (puts-next c k item);
-      }
+  -- a turn, by what the calls ensure
+  module _ {h : Settings} {at k n : ℕ} {r : List ℕ} {i : Item} {t : set.Taken} (w : Loads h at k) (l : k < keys) (is-size : n ≡ sizeOf k)
+      (is-part : r ≡ take n (drop at s)) (is-item : i ≡ recordItem (c .profile) (c .streaming) k r) (is-taken : t ≡ itemTaken h i) where
+    item-here : i ≡ item k
+    unfolding itemFor
+    item-here =
+        is-item
+        ∙ ap (recordItem (c .profile) (c .streaming) k) (is-part ∙ ap (λ (m : ℕ). take m (drop at s)) is-size)
+        ∙ sym (ap (itemFor (c .profile) (c .streaming) k) (record-at (w .here) l))
 
-  pub take-end : {camera : Camera} {at k : ℕ} → Taken camera at k → 19 ≤ k → camera ≡ puts c (loadGives (c .profile) (c .streaming) s)
-  unfolding loadGives
-  take-end {k = k} w h = let e : k ≡ 19 = omega (arith, w .few) in w .is ∙ ap (λ (n : ℕ). puts c (allGiven n 0 item)) e
+    code-here : t .code ≡ codeOf (item k)
+    unfolding itemTaken
+    code-here = ap (λ x. x .code) is-taken ∙ ap codeOf item-here
 
--- the number of the form: 0, or 0x22
+    pub load-within : at + n ≤ length s
+    load-within = omega (arith, is-size, next-within (w .here) l)
+
+    pub load-above : {j : ℕ} → j ≡ keyOf (drop (at + n) s) → k < j
+    load-above e = omega (arith, e, ap (λ (x : ℕ). keyOf (drop (at + x) s)) is-size, next-above (w .here) l)
+
+    pub load-stops : (t .code ≡ 0 → ⊥) → refused (t .code) c ≡ loadDone c s
+    unfolding loadDone
+    load-stops bad =
+        let e = code-here ∙ sym (stops item keys k (w .taken) l (λ z. bad (code-here ∙ z))) in
+        rw (← e, ne-eqb (t .code) 0 bad)
+
+    pub load-next : t .code ≡ 0 → {j : ℕ} → j ≡ keyOf (drop (at + n) s) → Loads (t .settings) (at + n) j
+    unfolding itemTaken
+    load-next z {j} e =
+        let m : at + n ≡ at + sizeOf k = ap (λ (x : ℕ). at + x) is-size in
+        let q : j ≡ keyOf (drop (at + sizeOf k) s) = e ∙ ap (λ (x : ℕ). keyOf (drop x s)) m in
+        let above : k < j = omega (arith, q, next-above (w .here) l) in
+        let gap : (i : ℕ) → k + 1 ≤ i → i < j → item i ≡ Absent = λ i a b. absent i (none-between (w .here) l i (omega arith) (omega (arith, q))) in
+        rw (m, q) (record {
+          here = next-at (w .here) l;
+          is = ap (λ x. x .settings) is-taken
+              ∙ ap₂ (λ x y. puts x (givenOf y)) (w .is) item-here
+              ∙ sym (puts-next (c .settings) k item)
+              ∙ ap (puts (c .settings)) (sym (given-between item (k + 1) (keyOf (drop (at + sizeOf k) s)) (omega (arith, q, above)) (λ i a b. gap i a (omega (arith, q)))));
+          taken = λ i b. go i (leb (k + 1) i) refl (λ a. gap i a (omega (arith, q)));
+        })
+      where
+        go : (i : ℕ) (b : Bool) → leb (k + 1) i ≡ b → (k + 1 ≤ i → item i ≡ Absent) → codeOf (item i) ≡ 0
+        go i true p gap = absent-code i (gap (leb-true (k + 1) i p))
+        go i false p gap = let u = leb-false (k + 1) i p in below-more (λ j. codeOf (item j) ≡ 0) k (w .taken) (sym code-here ∙ z) i (omega arith)
+
+  pub load-end : {h : Settings} {at k : ℕ} → Loads h at k → keys ≤ k → {camera : Camera} → camera ≡ withSettings c h
+      → _≡_ {A = Outcome} (record { code = 0; count = 0; camera = camera }) (loadDone c s)
+  unfolding loadDone loadGives
+  load-end {k = k} w l e =
+      let q : k ≡ keys = omega (arith, w .here .few) in
+      let z = passes item keys (λ j u. w .taken j (omega arith)) in
+      rw (e, w .is, q, z)
+
+-- what a load answers, by its form
 form-good : (s : List ℕ) → form.formCode s ≡ 0 → form.wellFormed s ≡ true
 unfolding form.formCode
 form-good s e = go (form.wellFormed s) e
   where
-    go : (b : Bool) → cond {A = ℕ} b 0 0x22 ≡ 0 → b ≡ true
+    go : (b : Bool) → cond {A = ℕ} b 0 malformedSnapshot ≡ 0 → b ≡ true
     go true q = refl
     go false q = absurd (omega arith)
 
-form-bad : (s : List ℕ) → (form.formCode s ≡ 0 → ⊥) → (form.wellFormed s ≡ false) × (form.formCode s ≡ 0x22)
+form-bad : (s : List ℕ) → (form.formCode s ≡ 0 → ⊥) → (form.wellFormed s ≡ false) × (form.formCode s ≡ malformedSnapshot)
 unfolding form.formCode
 form-bad s bad = go (form.wellFormed s) bad
   where
-    go : (b : Bool) → (cond {A = ℕ} b 0 0x22 ≡ 0 → ⊥) → (b ≡ false) × (cond {A = ℕ} b 0 0x22 ≡ 0x22)
+    go : (b : Bool) → (cond {A = ℕ} b 0 malformedSnapshot ≡ 0 → ⊥) → (b ≡ false) × (cond {A = ℕ} b 0 malformedSnapshot ≡ malformedSnapshot)
     go true z = absurd (z refl)
     go false z = (refl, refl)
 
--- what a load answers: each of its faults, by what the calls ensure, and none
 module _ (c : Camera) (s : List ℕ) where
-  pub load-unformed : wellFormed c ≡ false → refused 0x21 c ≡ loaded c s
+  pub load-unformed : wellFormed c ≡ false → refused malformedRecord c ≡ loaded c s
   unfolding loaded loadCode
   load-unformed e = rw e
 
-  module _ (formed : wellFormed c ≡ true) {n : ℕ} (is-form : n ≡ form.formCode s) where
-    pub load-malformed : (n ≡ 0 → ⊥) → refused n c ≡ loaded c s
+  module _ {n : ℕ} (is-form : n ≡ form.formCode s) where
+    pub load-malformed : wellFormed c ≡ true → (n ≡ 0 → ⊥) → refused n c ≡ loaded c s
     unfolding loaded loadCode loadTests
-    load-malformed bad = let f = form-bad s (λ z. bad (is-form ∙ z)) in rw (is-form ∙ f .1, formed, f .0)
+    load-malformed formed bad = let f = form-bad s (λ z. bad (is-form ∙ z)) in rw (is-form ∙ f .1, formed, f .0)
 
-    module _ (whole : n ≡ 0) {code : ℕ} (is-code : code ≡ firstRefusal 19 0 (loadItem (c .profile) (c .streaming) s)) where
-      is-formed : form.wellFormed s ≡ true
-      is-formed = form-good s (sym is-form ∙ whole)
+    pub load-formed : n ≡ 0 → form.wellFormed s ≡ true
+    load-formed z = form-good s (sym is-form ∙ z)
 
-      pub load-refused : (code ≡ 0 → ⊥) → refused code c ≡ loaded c s
-      unfolding loaded loadCode loadTests
-      load-refused bad = let z = ne-eqb code 0 bad in rw (formed, is-formed, ← is-code, z, z)
+  pub load-records : wellFormed c ≡ true → form.wellFormed s ≡ true → loadDone c s ≡ loaded c s
+  unfolding loaded loadCode loadTests loadDone
+  load-records formed f = rw (formed, f) (go (eqb code 0) refl)
+    where
+      code : ℕ
+      code = firstRefusal keys 0 (loadItem (c .profile) (c .streaming) s)
 
-      pub load-accepted : {camera : Camera} → code ≡ 0 → camera ≡ puts c (loadGives (c .profile) (c .streaming) s)
-          → record { code = 0; count = 0; camera = camera } ≡ loaded c s
-      unfolding loaded loadCode loadTests
-      load-accepted e f = rw (formed, is-formed, sym is-code ∙ e, f)
+      done : Outcome
+      done = record { code = 0; count = 0; camera = withSettings c (puts (c .settings) (loadGives (c .profile) (c .streaming) s)) }
+
+      go : (b : Bool) → eqb code 0 ≡ b → cond b done (refused code c) ≡ outcomeBy (cond (not b) code 0) c done
+      go true e = refl
+      go false e = rw e

@@ -25,7 +25,8 @@ use Rattle.camera.specs.declared.writing.Record.{Record}
 use Rattle.camera.specs.Record.{held, wellFormed}
 use Rattle.camera.specs.Requests.{refused}
 use Rattle.camera.specs.Snapshots.{framed, row, snapshot, writeCode, written, writtenOut}
-use Rattle.camera.specs.Steps.{itemHeld, rowHeld, recordOf}
+use Rattle.settings.specs.Settings.{itemHeld}
+use Rattle.camera.specs.Steps.{rowHeld, recordOf}
 
 -- the empty record that a record is laid over
 abbrev pub blank : List ℕ

@@ -1,13 +1,27 @@
--- The nine tests: tables that agree, and tests behind others. Assumes nothing.
-use mathlib.Core.Path.{_≡_, refl}
-use mathlib.Core.List.{List, _++_}
-use mathlib.Core.Bool.{cond}
+-- The number that answers a request, by how far its tests go. Assumes nothing.
+use mathlib.Core.Path.{_≡_, refl, ap, sym, _∙_}
+use mathlib.Core.List.{List, [], _∷_, _++_}
+use mathlib.Core.Bool.{Bool, true, false, cond, not, _&&_}
 use Prim.Native.Nat.{ℕ}
-use lib.Dec.{eqb}
-use Rattle.wire.specs.Rows.{Row, firstOf}
-use Rattle.request.specs.Table.{Table}
-use Rattle.request.specs.Tests.{requestTests}
+use lib.Dec.{eqb, ltb, leb}
+use lib.ListN.{length}
+use borrow.Author.Tests.{eq-eqb, ne-eqb, eqb-true, le-ltb, lt-ltb, leb-true, leb-false}
+use Rattle.wire.specs.Rows.{Row, _⇒_, answers, firstOf}
+use Rattle.wire.specs.Uvc.{malformedRecord, noRoom}
 use Rattle.wire.proofs.Laws.Rows.{first-append}
+use Rattle.request.specs.Setup.{selectorOf, codeOf, wLengthOf, isSetRequest}
+use Rattle.request.specs.Table.{Table}
+use Rattle.request.specs.Tests.{requestTests, valueTests, asked, sentCount, requestRows, requestCode}
+use Rattle.request.specs.Reply.{sentOf, replyOf}
+use Rattle.request.specs.Requests.{replied}
+
+-- a row that comes to its own number
+own : (n : ℕ) (rows : List Row) → firstOf (answers n ∷ rows) ≡ cond (eqb n 0) (firstOf rows) n
+own n rows = go (eqb n 0)
+  where
+    go : (b : Bool) → cond (not b) n (firstOf rows) ≡ cond b (firstOf rows) n
+    go true = refl
+    go false = refl
 
 module _ (t : Table) (setup payload : List ℕ) where
   -- tests 7 and on are asked where tests 2 to 6 have nothing to say
@@ -15,3 +29,76 @@ module _ (t : Table) (setup payload : List ℕ) where
       → firstOf (requestTests t setup payload ++ rows) ≡ cond (eqb (firstOf (requestTests t setup payload)) 0) (firstOf rows) (firstOf (requestTests t setup payload))
   unfolding requestTests
   then-rows rows = first-append (requestTests t setup payload) rows refl
+
+  abbrev first : ℕ
+  first = firstOf (requestTests t setup payload)
+
+  abbrev state : ℕ
+  state = t .state (selectorOf setup) (codeOf setup)
+
+  module _ (room : ℕ) where
+    abbrev last : Row
+    last = not (isSetRequest setup) && ltb room (sentCount t setup) ⇒ noRoom
+
+    pub at-unformed : t .formed ≡ false → requestCode t setup payload room ≡ malformedRecord
+    unfolding requestCode requestRows
+    at-unformed w = rw w
+
+    module _ (w : t .formed ≡ true) where
+      by-tests : requestCode t setup payload room ≡ cond (eqb first 0) (firstOf (valueTests t setup payload ++ (last ∷ []))) first
+      unfolding requestCode requestRows requestTests valueTests
+      by-tests =
+          ap (λ b. cond (not b) malformedRecord (firstOf (requestTests t setup payload ++ (valueTests t setup payload ++ (last ∷ []))))) w
+          ∙ then-rows (valueTests t setup payload ++ (last ∷ []))
+
+      pub at-tests : (first ≡ 0 → ⊥) → requestCode t setup payload room ≡ first
+      at-tests n = by-tests ∙ rw (ne-eqb first 0 n)
+
+      module _ (z : first ≡ 0) where
+        by-state : requestCode t setup payload room ≡ cond (eqb state 0) (firstOf (answers (cond (isSetRequest setup) (t .values (selectorOf setup) payload) 0) ∷ last ∷ [])) state
+        unfolding valueTests
+        by-state = by-tests ∙ rw (eq-eqb first 0 z) (own state (answers (cond (isSetRequest setup) (t .values (selectorOf setup) payload) 0) ∷ last ∷ []))
+
+        pub at-state : (state ≡ 0 → ⊥) → requestCode t setup payload room ≡ state
+        at-state n = by-state ∙ rw (ne-eqb state 0 n)
+
+        module _ (y : state ≡ 0) where
+          pub at-set : isSetRequest setup ≡ true → requestCode t setup payload room ≡ t .values (selectorOf setup) payload
+          at-set e = by-state ∙ rw (eq-eqb state 0 y, e) (own (t .values (selectorOf setup) payload) ((false ⇒ noRoom) ∷ []) ∙ zero-or (t .values (selectorOf setup) payload))
+            where
+              zero-or : (n : ℕ) → cond (eqb n 0) 0 n ≡ n
+              zero-or n = go (eqb n 0) refl
+                where
+                  go : (b : Bool) → eqb n 0 ≡ b → cond b 0 n ≡ n
+                  go true q = sym (eqb-true n 0 q)
+                  go false q = refl
+
+          pub at-get : isSetRequest setup ≡ false → requestCode t setup payload room ≡ cond (ltb room (sentCount t setup)) noRoom 0
+          at-get e = by-state ∙ rw (eq-eqb state 0 y, e)
+
+  -- what a SET leaves in the reply buffer, and what a GET that is past test 8 reports and leaves there
+  pub set-replied : (reply : List ℕ) → isSetRequest setup ≡ true → reply ≡ replied t setup payload reply
+  unfolding replied
+  set-replied reply e = rw e (go (eqb (requestCode t setup payload (length reply)) 0) _)
+    where
+      go : (b : Bool) (written : List ℕ) → reply ≡ cond (b && false) written reply
+      go true written = refl
+      go false written = refl
+
+  pub get-sent : (reply : List ℕ) → isSetRequest setup ≡ false → requestCode t setup payload (length reply) ≡ cond (ltb (length reply) (sentCount t setup)) noRoom 0
+      → (replyOf (asked t setup) (wLengthOf setup) reply ≡ replied t setup payload reply)
+      × (cond (eqb (requestCode t setup payload (length reply)) 0) (record { code = 0; count = sentCount t setup }) (record { code = requestCode t setup payload (length reply); count = 0 })
+      ≡ sentOf (asked t setup) (wLengthOf setup) (length reply))
+  unfolding replied sentOf replyOf
+  get-sent reply e n = go (leb (sentCount t setup) (length reply)) refl
+    where
+      code : ℕ
+      code = requestCode t setup payload (length reply)
+
+      Sends : Type 0
+      Sends = (replyOf (asked t setup) (wLengthOf setup) reply ≡ replied t setup payload reply)
+          × (cond (eqb code 0) (record { code = 0; count = sentCount t setup }) (record { code = code; count = 0 }) ≡ sentOf (asked t setup) (wLengthOf setup) (length reply))
+
+      go : (b : Bool) → leb (sentCount t setup) (length reply) ≡ b → Sends
+      go true h = let z : code ≡ 0 = n ∙ rw (le-ltb (length reply) (sentCount t setup) (leb-true _ _ h)) in (rw (h, z, e), rw (h, z))
+      go false h = let z : code ≡ noRoom = n ∙ rw (lt-ltb (length reply) (sentCount t setup) (leb-false _ _ h)) in (rw (h, z), rw (h, z))

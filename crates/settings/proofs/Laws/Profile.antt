@@ -1,7 +1,7 @@
 -- The profile: its tests as the code takes them, and what a valid one says of a control that is there. Assumes nothing.
 use mathlib.Core.Path.{_≡_, refl, sym}
 use mathlib.Core.List.{[], _∷_}
-use mathlib.Core.Bool.{Bool, true, false, not, _&&_, _||_, and-true, and-eq-true-iff}
+use mathlib.Core.Bool.{Bool, true, false, _&&_, and-true, and-eq-true-iff}
 use Rattle.wire.specs.Rows.{allOf}
 use Rattle.wire.specs.Selectors.{ev, face}
 use Rattle.exposure.specs.Ev.{evValid}

@@ -108,24 +108,24 @@ step-above w h e i = rw (i, e) (next-above w h)
 
 -- the first's record where its key is the lesser
 module _ {s t old out : List ℕ} {a x b y n : ℕ} (w : Written s t old out a x b y n) (h : x < y) where
-  l : x < keys
-  l = omega (arith, w .second .few)
+  first-key : x < keys
+  first-key = omega (arith, w .second .few)
 
   pub write-first : {p x′ : ℕ} {u out′ : List ℕ} → p ≡ sizeOf x → u ≡ take p (drop a s) → out′ ≡ overlay out n u → x′ ≡ keyOf (drop (a + p) s)
       → Written s t old out′ (a + p) x′ b y (n + p)
   write-first e f g i =
       let r = take (sizeOf x) (drop a s) in
-      let z : length r ≡ sizeOf x = length-take-le (sizeOf x) (drop a s) (omega (arith, next-within (w .first) l, length-drop a s)) in
+      let z : length r ≡ sizeOf x = length-take-le (sizeOf x) (drop a s) (omega (arith, next-within (w .first) first-key, length-drop a s)) in
       let x₁ = keyOf (drop (a + sizeOf x) s) in
-      let up = next-above (w .first) l in
+      let up = next-above (w .first) first-key in
       let same = front-same s t (suc x) (min x₁ y) (omega arith)
-      (λ i lo hi. (none-between (w .first) l i lo (omega arith), w .second-none i (omega arith) (omega arith))) in
-      let q = put w x (min x₁ y) r (omega arith) (ap₂ (λ c d. bytes (over c d)) (record-at (w .first) l) (w .second-none x (omega arith) h)) same in
+      (λ i lo hi. (none-between (w .first) first-key i lo (omega arith), w .second-none i (omega arith) (omega arith))) in
+      let q = put w x (min x₁ y) r (omega arith) (ap₂ (λ c d. bytes (over c d)) (record-at (w .first) first-key) (w .second-none x (omega arith) h)) same in
       rw (g, i, f, e)
       record {
-        first = next-at (w .first) l;
+        first = next-at (w .first) first-key;
         second = w .second;
-        first-none = λ j lo hi. none-between (w .first) l j (omega arith) hi;
+        first-none = λ j lo hi. none-between (w .first) first-key j (omega arith) hi;
         second-none = λ j lo hi. w .second-none j (omega arith) hi;
         long = ap (λ m. n + m) (sym z) ∙ q .0;
         is = q .1;
@@ -149,25 +149,25 @@ pass-first {s} {t} {old} {a = a} {x} {y = y} w q l e i =
 
 -- the second's record where its key is the lesser
 module _ {s t old out : List ℕ} {a x b y n : ℕ} (w : Written s t old out a x b y n) (h : y < x) where
-  l′ : y < keys
-  l′ = omega (arith, w .first .few)
+  second-key : y < keys
+  second-key = omega (arith, w .first .few)
 
   pub write-second : {p y′ : ℕ} {u out′ : List ℕ} → p ≡ sizeOf y → u ≡ take p (drop b t) → out′ ≡ overlay out n u → y′ ≡ keyOf (drop (b + p) t)
       → Written s t old out′ a x (b + p) y′ (n + p)
   write-second e f g i =
       let r = take (sizeOf y) (drop b t) in
-      let z : length r ≡ sizeOf y = length-take-le (sizeOf y) (drop b t) (omega (arith, next-within (w .second) l′, length-drop b t)) in
+      let z : length r ≡ sizeOf y = length-take-le (sizeOf y) (drop b t) (omega (arith, next-within (w .second) second-key, length-drop b t)) in
       let y₁ = keyOf (drop (b + sizeOf y) t) in
-      let up = next-above (w .second) l′ in
+      let up = next-above (w .second) second-key in
       let same = front-same s t (suc y) (min x y₁) (omega arith)
-      (λ i lo hi. (w .first-none i (omega arith) (omega arith), none-between (w .second) l′ i lo (omega arith))) in
-      let q = put w y (min x y₁) r (omega arith) (ap (λ d. bytes (over (decode s y) d)) (record-at (w .second) l′)) same in
+      (λ i lo hi. (w .first-none i (omega arith) (omega arith), none-between (w .second) second-key i lo (omega arith))) in
+      let q = put w y (min x y₁) r (omega arith) (ap (λ d. bytes (over (decode s y) d)) (record-at (w .second) second-key)) same in
       rw (g, i, f, e)
       record {
         first = w .first;
-        second = next-at (w .second) l′;
+        second = next-at (w .second) second-key;
         first-none = λ j lo hi. w .first-none j (omega arith) hi;
-        second-none = λ j lo hi. none-between (w .second) l′ j (omega arith) hi;
+        second-none = λ j lo hi. none-between (w .second) second-key j (omega arith) hi;
         long = ap (λ m. n + m) (sym z) ∙ q .0;
         is = q .1;
       }

@@ -64,16 +64,21 @@ answers-at k ((true ⇒ code) ∷ rows) n e =
     (0, (omega arith, record { before = []; code = code; behind = rows; split = refl; place = refl; passed = tt; number = refl }))
 answers-at k ((false ⇒ code) ∷ rows) n e =
     let r = answers-at (suc k) rows n e in
-    let a = r .1 .1 in
-    (suc (r .0), (omega (arith, r .1 .0), record {
-      before = (false ⇒ code) ∷ a .before;
-      code = a .code;
-      behind = a .behind;
-      split = ap (λ l. (false ⇒ code) ∷ l) (a .split);
-      place = ap suc (a .place);
-      passed = (refl, a .passed);
-      number = a .number;
-    }))
+    let a = r .1 .1 in (
+      suc (r .0),
+      (
+        omega (arith, r .1 .0),
+        record {
+          before = (false ⇒ code) ∷ a .before;
+          code = a .code;
+          behind = a .behind;
+          split = ap (λ l. (false ⇒ code) ∷ l) (a .split);
+          place = ap suc (a .place);
+          passed = (refl, a .passed);
+          number = a .number;
+        },
+      ),
+    )
 
 -- none fails where the number is 0
 pub answers-none : (k : ℕ) (rows : List Row) → Quiet rows → firstFrom k rows ≡ none

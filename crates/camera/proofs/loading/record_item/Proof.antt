@@ -16,14 +16,14 @@ returns c = record-refused _ _ _ _ (c .before .before .selector-at .ensures) (c 
 tail-requires : tie.Need-tail-requires
 tail-requires c κs = search needs
 
-item-at-requires : tie.Need-item-at-requires
-item-at-requires c κs = search needs
+item-requires : tie.Need-item-requires
+item-requires c κs = search needs
 
 returns-2 : tie.Need-returns-2
 returns-2 c =
     let d = c .before .before in
     record-tested _ _ _ _ (d .before .before .selector-at .ensures) (d .before .control-refusal .ensures) (d .if1 .left)
-    (rest (c .before .tail .ensures)) (c .item-at .ensures)
+    (rest (c .before .tail .ensures)) (c .item .ensures)
 
 pub record-item-spec : {M : Type 1} → statement M
 record-item-spec =
@@ -33,5 +33,5 @@ record-item-spec =
     control-refusal-requires
     returns
     tail-requires
-    item-at-requires
+    item-requires
     returns-2)

@@ -1,11 +1,16 @@
-use mathlib.Core.Path.{refl}
-use Rattle.camera.specs.Record.{fresh}
+use mathlib.Core.Path.{ap}
+use borrow.Author.Needs.{needs}
+use Rattle.settings.specs.declared.settings.Settings.{Settings}
 use Rattle.camera.proofs.record.Camera.fresh.Statement.{statement}
 use Rattle.camera.proofs.record.Camera.fresh.Tie as tie
 
+none-requires : tie.Need-none-requires
+none-requires c κs = search needs
+
 returns : tie.Need-returns
-unfolding fresh
-returns c = refl
+returns c =
+    let a = c .before .args in
+    ap (λ (s : Settings). record { profile = a .profile; streaming = a .streaming; settings = s }) (c .none .ensures)
 
 pub fresh-spec : {M : Type 1} → statement M
-fresh-spec = tie.close (tie.spec returns)
+fresh-spec = tie.close (tie.spec none-requires returns)

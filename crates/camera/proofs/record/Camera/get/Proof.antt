@@ -5,21 +5,29 @@ use lib.ListN.{length, take}
 use Rattle.request.specs.declared.reply.Sent.{Sent}
 use Rattle.request.specs.Reply.{sentOf, replyOf}
 use Rattle.request.proofs.Laws.Packed.{unpack, unpack-room, unpack-length}
-use Rattle.camera.specs.Requests.{answerOf, asked}
+use Rattle.request.specs.Tests.{asked}
+use Rattle.request.specs.Tests as request
+use Rattle.request.specs.Answers.{longest}
+use Rattle.settings.specs.Answers.{answerOf}
+use Rattle.settings.proofs.Laws.Answers.{answer-fits}
+use Rattle.camera.specs.Requests.{table}
 use Rattle.camera.specs.Steps.{getDone}
-use Rattle.camera.proofs.Laws.Requests.{answer-fits}
 use borrow.Author.Needs.{needs}
 use Rattle.camera.proofs.record.Camera.get.Statement.{statement}
 use Rattle.camera.proofs.record.Camera.get.Tie as tie
 
 -- the answer is as long as it may be
-fits : (c : tie.After-answer) → length (answerOf (c .before .before .before .before .before .args .self) (c .before .before .selector .result) (c .before .code .result)) ≤ 65
-fits c = answer-fits _ _ _
+fits : (c : tie.After-answer) → let a = c .before .before .before .before .before .args in
+    length (answerOf (a .self .profile) (a .self .settings) (c .before .before .selector .result) (c .before .code .result)) ≤ longest
+fits c = answer-fits _ _ _ _
 
 -- and is the one that the setup asks for
-is-asked : (c : tie.After-answer)
-    → answerOf (c .before .before .before .before .before .args .self) (c .before .before .selector .result) (c .before .code .result) ≡ asked (c .before .before .before .before .before .args .self) (c .before .before .before .before .before .args .setup .now)
-is-asked c = ap₂ (answerOf (c .before .before .before .before .before .args .self)) (c .before .before .selector .ensures) (c .before .code .ensures)
+is-asked : (c : tie.After-answer) → let a = c .before .before .before .before .before .args in
+    answerOf (a .self .profile) (a .self .settings) (c .before .before .selector .result) (c .before .code .result) ≡ asked (table (a .self)) (a .setup .now)
+unfolding answerOf request.answerOf
+is-asked c =
+    let a = c .before .before .before .before .before .args in
+    ap₂ (answerOf (a .self .profile) (a .self .settings)) (c .before .before .selector .ensures) (c .before .code .ensures)
 
 selector-requires : tie.Need-selector-requires
 selector-requires c κs = search needs
@@ -51,7 +59,7 @@ returns c =
     let w = c .before .before .before .before in
     let k = w .before .before .before in
     let a = k .before .before .before .before .before .args in
-    let e : take (k .answer .result .len) (k .answer .result .bytes) ≡ asked (a .self) (a .setup .now) = unpack _ (fits k) _ (k .answer .ensures) ∙ is-asked k in
+    let e : take (k .answer .result .len) (k .answer .result .bytes) ≡ asked (table (a .self)) (a .setup .now) = unpack _ (fits k) _ (k .answer .ensures) ∙ is-asked k in
     let u = ap₂ (λ (l : List ℕ) (n : ℕ). sentOf l n (length (a .reply .now))) e (w .wlength .ensures .0) in
     let v = ap₂ (λ (l : List ℕ) (n : ℕ). replyOf l n (a .reply .now)) e (w .wlength .ensures .0) in
     (ap (λ (s : Sent). record { code = s .code; count = s .count; camera = a .self }) (c .before .before .send .ensures .0 ∙ u), c .before .before .send .ensures .1 ∙ v)

@@ -1,9 +1,9 @@
 use mathlib.Core.Path.{_≡_, sym, _∙_}
 use mathlib.Core.Bool.{true}
 use borrow.Author.Tests.{not-true, not-false}
-use borrow.Author.Needs.{needs}
 use Rattle.camera.specs.Record.{wellFormed}
-use Rattle.camera.proofs.Laws.Loading.{load-unformed, load-malformed, load-refused, load-accepted}
+use Rattle.camera.proofs.Laws.Loading.{load-unformed, load-malformed, load-formed, load-records}
+use borrow.Author.Needs.{needs}
 use Rattle.camera.proofs.record.Camera.load.Statement.{statement}
 use Rattle.camera.proofs.record.Camera.load.Tie as tie
 
@@ -30,30 +30,16 @@ refuse-requires-2 c κs = search needs
 returns-2 : tie.Need-returns-2
 returns-2 c =
     let d = c .before in
-    c .refuse2 .ensures ∙ load-malformed _ _ (formed (d .before .before)) (d .before .check .ensures) (d .if2 .taken)
+    c .refuse2 .ensures ∙ load-malformed _ _ (d .before .check .ensures) (formed (d .before .before)) (d .if2 .taken)
 
-load-refusal-requires : tie.Need-load-refusal-requires
-load-refusal-requires c κs = search needs
-
-refuse-requires-3 : tie.Need-refuse-requires-3
-refuse-requires-3 c κs = search needs
+load-records-requires : tie.Need-load-records-requires
+load-records-requires c κs = load-formed (c .before .before .before .before .before .args .self) _ (c .before .check .ensures) (c .if2 .left)
 
 returns-3 : tie.Need-returns-3
 returns-3 c =
     let d = c .before in
-    let f = d .before .before in
-    c .refuse3 .ensures
-    ∙ load-refused _ _ (formed (f .before .before)) (f .before .check .ensures) (f .if2 .left) (d .before .load-refusal .ensures) (d .if3 .taken)
-
-load-all-requires : tie.Need-load-all-requires
-load-all-requires c κs = search needs
-
-returns-4 : tie.Need-returns-4
-returns-4 c =
-    let d = c .before in
-    let f = d .before .before in
-    load-accepted _ _ (formed (f .before .before)) (f .before .check .ensures) (f .if2 .left) (d .before .load-refusal .ensures)
-    (d .if3 .left) (c .load-all .ensures)
+    let k = d .before in
+    c .load-records .ensures ∙ load-records _ _ (formed (k .before)) (load-formed (k .before .before .before .before .args .self) _ (k .check .ensures) (d .if2 .left))
 
 pub load-spec : {M : Type 1} → statement M
 load-spec =
@@ -65,8 +51,5 @@ load-spec =
     check-requires
     refuse-requires-2
     returns-2
-    load-refusal-requires
-    refuse-requires-3
-    returns-3
-    load-all-requires
-    returns-4)
+    load-records-requires
+    returns-3)

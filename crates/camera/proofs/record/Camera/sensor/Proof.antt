@@ -19,7 +19,7 @@ sensor-value-requires c κs = search needs
 
 returns-2 : tie.Need-returns-2
 returns-2 c =
-    let e = c .before .before in
+    let e = c .before .before .before in
     let f : SFits w32 (c .sensor-value .result) = search needs in
     rw (toZ-ofZ f, c .sensor-value .ensures) (sym (sensed-done _ (sym (e .before .well-formed .ensures) ∙ not-false _ (e .if1 .left))))
 

@@ -37,7 +37,7 @@ returns-2 c =
     let d = c .before in
     let m = d .before .before in
     let e = m .before .before in
-    let r = write-no-room _ (e .before .before .before .args .out .now) (formed e) (omega (arith, d .if2 .taken, m .write-all .ensures .0)) in
+    let r = write-no-room (e .before .before .before .args .self) (e .before .before .before .args .out .now) (formed e) (omega (arith, d .if2 .taken, m .write-all .ensures .0)) in
     (c .refuse2 .ensures ∙ r .0, r .1)
 
 write-all-requires-2 : tie.Need-write-all-requires-2
@@ -51,7 +51,7 @@ returns-3 c =
     let v = c .before .before in
     let f = v .before .before in
     let m = f .before .before in
-    write-done _ _ (formed (m .before .before)) (omega (arith, f .if2 .left, m .write-all .ensures .0)) (v .write-all2 .ensures .0) (v .write-all2 .ensures .1)
+    write-done (m .before .before .before .before .before .args .self) _ (formed (m .before .before)) (omega (arith, f .if2 .left, m .write-all .ensures .0)) (v .write-all2 .ensures .0) (v .write-all2 .ensures .1)
 
 pub write-spec : {M : Type 1} → statement M
 write-spec =

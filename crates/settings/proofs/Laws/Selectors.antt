@@ -10,8 +10,8 @@ use Rattle.wire.proofs.Laws.Bits.{high-clear}
 use Rattle.request.specs.Table.{hasControl}
 use Rattle.face.specs.Face.{allBelow}
 use Rattle.face.proofs.Laws.Face.{all-at}
-use Rattle.camera.specs.Selectors.{Control, ev, face, metadata, hdr, throttle}
-use Rattle.camera.specs.Profile.{presenceValid}
+use Rattle.settings.specs.Selectors.{Control, ev, face, metadata, hdr, throttle}
+use Rattle.settings.specs.Profile.{presenceValid}
 
 -- what holds of each number below n holds of all
 pub below-all : (n : ℕ) (f : ℕ → Bool) → ((k : ℕ) → k < n → f k ≡ true) → allBelow n f ≡ true

@@ -1,0 +1,39 @@
+-- Every answer fits the place that the code has for it. Assumes nothing.
+use mathlib.Core.List.{List}
+use mathlib.Core.Bool.{Bool, true, false, cond}
+use Prim.Native.Nat.{ℕ, _≤_}
+use native.Mathlib.Omega.{arith}
+use lib.Dec.{eqb, lit≤}
+use lib.ListN.{length}
+use Rattle.wire.specs.Number.{bytesOf}
+use Rattle.wire.specs.Selectors.{ev, face, metadata, hdr}
+use Rattle.wire.proofs.Laws.Bytes.{length-bytes}
+use Rattle.request.specs.Answers.{longest}
+use Rattle.request.proofs.Laws.Answers.{answer-length}
+use Rattle.exposure.specs.Ev.{evAt, evBytes}
+use Rattle.face.specs.Face.{faceValue}
+use Rattle.face.proofs.Laws.Face.{value-length}
+use Rattle.controls.specs.Metadata.{metadataAt}
+use Rattle.controls.specs.Hdr.{hdrAt}
+use Rattle.controls.specs.Throttle.{throttleAt, throttleBytes}
+use Rattle.controls.proofs.Laws.Plain.{throttle-length}
+use Rattle.settings.specs.declared.profile.Profile.{Profile}
+use Rattle.settings.specs.declared.settings.Settings.{Settings}
+use Rattle.settings.specs.Answers.{valueOf, answerOf}
+
+module _ (p : Profile) (s : Settings) (selector code : ℕ) where
+  value-fits : length (valueOf p s selector code) ≤ longest
+  unfolding valueOf evBytes bytesOf
+  value-fits = go (eqb selector ev) (eqb selector face) (eqb selector metadata) (eqb selector hdr)
+    where
+      go : (a b d e : Bool)
+          → length (cond a (evBytes (evAt (p .ev) (s .ev) code)) (cond b (faceValue (p .face) (s .face) code) (cond d (bytesOf 4 (metadataAt (p .metadata) (s .metadata) code)) (cond e (bytesOf 4 (hdrAt (p .auto) (s .hdr) code)) (throttleBytes (throttleAt (p .throttle) (s .throttle) code) (p .throttle)))))) ≤ longest
+      go true b d e = lit≤ tt
+      go false true d e = value-length (p .face) (s .face) code
+      go false false true e = lit≤ tt
+      go false false false true = lit≤ tt
+      go false false false false = omega (arith, throttle-length (throttleAt (p .throttle) (s .throttle) code) (p .throttle))
+
+  pub answer-fits : length (answerOf p s selector code) ≤ longest
+  unfolding answerOf
+  answer-fits = answer-length code _ _ (valueOf p s selector code) longest (lit≤ tt) value-fits
