@@ -1,32 +1,55 @@
 #!/bin/sh
-# Proves and archives the descriptor reader with a small crate that loops over the property look-up, links both with the C peer, and prints how long
-# each takes and, where valgrind is there, how many instructions. It is no part of the gate, and the loop's crate no part of the project: its files
-# have names that `rt` passes over, and it is proved in a copy below target/.
-# CC names the C compiler; the peer is built with -O2.
+# Compares every public call with the same rules in C: proves and archives the crate of loops (perf/probe), links it with the peer, holds the two
+# to each other on random inputs, and prints how many instructions a call takes on each side; the times instead where valgrind is missing.
+# `run.sh --unproved` proves nothing and takes a minute: for trying a shape.
+# It is no part of the gate, and the loops are no crate of the project: their files have names that `rt` passes over, and they are proved in a copy
+# below target/. What `rt` has proved before is not proved again. CC names the C compiler; the peer is built with -O2.
 cd "$(dirname "$0")/.." || exit 2
 out=target/perf
 tree=$out/tree
-rm -rf "$tree/crates" && mkdir -p "$tree/crates/probe/src" "$tree/crates/probe/proofs/probe_properties" || exit 2
-cp -r crates/wire crates/descriptors "$tree/crates/" &&
-    cp perf/probe/lib.rt.txt "$tree/crates/probe/src/lib.rt" &&
-    cp perf/probe/Proof.antt.txt "$tree/crates/probe/proofs/probe_properties/Proof.antt" &&
-    printf 'wire:\ndescriptors: wire\nprobe: wire descriptors\n' >"$tree/crates.txt" || exit 2
-for name in descriptors probe; do
-    (cd "$tree" && rt staticlib $name) >"$out/$name.out" 2>&1 || { echo "the archive was not built: $out/$name.out"; exit 1; }
-done
-a=$tree/target/staticlib
-${CC:-gcc} -std=c11 -O2 -Wall -Wextra -Werror -Iinclude -Ic perf/bench.c perf/peer.c "$a/libdescriptors.a" "$a/libprobe.a" -o "$out/bench" || exit 1
-"$out/bench" || exit 1
+rm -rf "$tree/crates" && mkdir -p "$tree/crates" "$tree/target/rlib" "$tree/target/stamp" || exit 2
+# The libraries: all crates but the theorems and the programs.
+sed '/^#/d; /^demands:/d; / io /d' crates.txt >"$tree/crates.txt"
+names=$(sed 's/:.*//' "$tree/crates.txt" | tr '\n' ' ')
+echo "probe: $names" >>"$tree/crates.txt"
+for name in $names; do cp -r "crates/$name" "$tree/crates/" || exit 2; done
+(cd perf/probe && find . -name '*.txt') | while read -r file; do
+    to=$tree/crates/probe/${file%.txt}
+    mkdir -p "$(dirname "$to")" && cp "perf/probe/$file" "$to" || exit 2
+done || exit 2
+if [ "$1" = --unproved ]; then
+    archive=$out/unproved/libprobe.a
+    perf/unproved.sh "$tree" "$out/unproved" || exit 1
+    echo "unproved"
+else
+    archive=$tree/target/staticlib/libprobe.a
+    for name in $names; do
+        [ -f "target/stamp/$name" ] || continue
+        rm -rf "$tree/target/rlib/$name.rlib"
+        cp -r "target/rlib/$name.rlib" "$tree/target/rlib/" && cp "target/stamp/$name" "$tree/target/stamp/" || exit 2
+    done
+    (cd "$tree" && rt staticlib probe) >"$out/probe.out" 2>&1 || { tail -20 "$out/probe.out"; exit 1; }
+fi
 
-command -v valgrind >/dev/null || exit 0
+for part in camera snapshot frame descriptors loops cases bench fuzz; do
+    ${CC:-gcc} -std=c11 -O2 -Wall -Wextra -Werror -Ic -c "perf/$part.c" -o "$out/$part.o" || exit 1
+done
+link() { # MAIN OBJECT...
+    main=$1
+    shift
+    ${CC:-gcc} "$out/$main.o" "$@" "$out/camera.o" "$out/snapshot.o" "$out/frame.o" "$out/descriptors.o" "$out/loops.o" "$archive" -o "$out/$main"
+}
+link fuzz && link bench "$out/cases.o" && "$out/fuzz" && "$out/bench" list >"$out/cases" || exit 1
+
+command -v valgrind >/dev/null || { echo "valgrind is missing: times only" && exec "$out/bench"; }
 total() { # CASE SIDE N
     valgrind --tool=callgrind --callgrind-out-file=/dev/null "$out/bench" "$@" 2>&1 | sed -n 's/.*Collected : //p'
 }
-for i in 0 1 2 3 4 5 6; do
-    for side in ours peers; do
-        few=$(total $i $side 2)
-        many=$(total $i $side 12)
-        eval "$side=\$(((many - few) / 10))"
-    done
-    awk -v i=$i -v r="$ours" -v c="$peers" 'BEGIN { printf "case %d: %d instructions, C %d, ratio %.2f\n", i, r, c, r / c }'
-done
+each() { # CASE SIDE N
+    echo $((($(total "$1" "$2" $((2 * $3))) - $(total "$1" "$2" "$3")) / $3))
+}
+printf '| %-42s | %9s | %9s | ratio |\n|---|---|---|---|\n' 'instructions a call' ours C
+while read -r i n name; do
+    awk -v name="$name" -v r="$(each "$i" ours "$n")" -v c="$(each "$i" peers "$n")" \
+        'BEGIN { printf "| %-42s | %9d | %9d | %5.2f |\n", name, r, c, r / c }'
+done <"$out/cases"
