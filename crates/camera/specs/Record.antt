@@ -3,7 +3,7 @@ use Prim.Native.Nat.{ℕ}
 use mathlib.Core.List.{List}
 use mathlib.Core.Option.{Option}
 use mathlib.Core.Bool.{Bool}
-use Rattle.controls.specs.declared.settings.Setting.{Setting}
+use Rattle.controls.specs.declared.setting.Setting.{Setting}
 use Rattle.settings.specs.declared.profile.Profile.{Profile}
 use Rattle.settings.specs.declared.settings.Settings.{Settings}
 use Rattle.settings.specs.Settings.{noSettings}

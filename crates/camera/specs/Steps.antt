@@ -1,19 +1,18 @@
 -- What the code's steps go by, which its private functions' promises cite. No statement and no public promise depends on this file.
-use Prim.Native.Nat.{ℕ, min}
+use Prim.Native.Nat.{ℕ}
 use mathlib.Core.List.{List, []}
-use mathlib.Core.Option.{Option, none, some}
-use lib.ListN.{length, replicate}
-use Rattle.wire.specs.Overlay.{overlay}
+use mathlib.Core.Option.{Option, none, some, Option·map}
 use Rattle.request.specs.Setup.{wLengthOf}
 use Rattle.request.specs.Reply.{sentOf}
 use Rattle.request.specs.Tests.{asked}
-use Rattle.controls.specs.declared.settings.Setting.{Setting}
+use Rattle.controls.specs.declared.setting.Setting.{Setting}
 use Rattle.controls.specs.Settings.{firstRefusal}
 use Rattle.snapshot.specs.Form.{keys}
+use Rattle.settings.specs.declared.settings.Settings.{Settings}
+use Rattle.settings.specs.Settings.{held}
 use Rattle.settings.specs.Items.{setRefusal, setGives}
 use Rattle.camera.specs.declared.record.Camera.{Camera}
 use Rattle.camera.specs.declared.calls.Outcome.{Outcome}
-use Rattle.camera.specs.declared.writing.Record.{Record}
 use Rattle.camera.specs.Record.{puts}
 use Rattle.camera.specs.Requests.{table, outcomeBy}
 use Rattle.camera.specs.Snapshots.{loadItem, loadGives, row}
@@ -40,6 +39,6 @@ abbrev pub rowHeld : ℕ → Option Setting → List ℕ
 rowHeld k none = []
 rowHeld k (some s) = row k s
 
--- a record as the code hands it on: its bytes with zeros behind them, and its length
-unfoldable pub recordOf : List ℕ → Record
-recordOf l = record { bytes = overlay (replicate 24 0) 0 l; len = min (length l) 24 }
+-- the records of settings by their keys
+abbrev pub rowsOf : Settings → ℕ → Option (List ℕ)
+rowsOf s k = Option·map (row k) (held s k)

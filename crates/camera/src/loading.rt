@@ -3,6 +3,7 @@ use crate::calls::Outcome;
 use crate::record::Camera;
 use crate::requests::control_refusal;
 use controls::Item;
+use controls::code_of;
 use settings::Profile;
 use snapshot::KEYS;
 use wire::Part;
@@ -65,11 +66,12 @@ impl Camera {
         while key < KEYS {
             let size = snapshot::size_of(key);
             let r = wire::part_at(s, Part { at, len: size });
-            let taken = settings.take(record_item(self.profile, self.streaming, key, r));
-            if taken.code != 0 {
-                return self.refuse(taken.code);
+            let item = record_item(self.profile, self.streaming, key, r);
+            let code = code_of(item);
+            if code != 0 {
+                return self.refuse(code);
             }
-            settings = taken.settings;
+            settings = settings.put_item(item);
             at += size;
             key = snapshot::key_at(s, at);
         }

@@ -6,9 +6,9 @@ use lib.Dec.{ltb, eqb}
 use Rattle.wire.specs.Number.{leAt, bytesOf}
 use Rattle.wire.specs.Rows.{_⇒_, firstOf}
 use Rattle.wire.specs.Uvc.{getCur, getMax, invalidValue, outOfRange}
-use Rattle.controls.specs.declared.settings.Number.{Number}
-use Rattle.controls.specs.declared.settings.Item.{Item}
-use Rattle.controls.specs.declared.settings.Setting.the-variants as S
+use Rattle.controls.specs.declared.setting.Number.{Number}
+use Rattle.controls.specs.declared.setting.Item.{Item}
+use Rattle.controls.specs.declared.setting.Setting.the-variants as S
 use Rattle.request.specs.Answers.{answerBy}
 use Rattle.controls.specs.Settings.{itemOf, numberOr}
 

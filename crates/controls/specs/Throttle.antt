@@ -10,8 +10,8 @@ use Rattle.controls.specs.declared.throttle.ThrottleLimits.{ThrottleLimi
 use Rattle.controls.specs.declared.throttle.ThrottleSetting.{ThrottleSetting}
 use Rattle.controls.specs.declared.throttle.Throttle.{Throttle}
 use Rattle.controls.specs.declared.throttle.Throttle.the-variants as T
-use Rattle.controls.specs.declared.settings.Item.{Item}
-use Rattle.controls.specs.declared.settings.Setting.the-variants as S
+use Rattle.controls.specs.declared.setting.Item.{Item}
+use Rattle.controls.specs.declared.setting.Setting.the-variants as S
 use Rattle.request.specs.Answers.{answerBy}
 use Rattle.controls.specs.Settings.{itemOf}
 

@@ -1,9 +1,9 @@
 // HDR: four bytes, 0 off, 1 on and 2 auto. The maximum is a mask of modes and no largest mode.
-use crate::settings::Item;
-use crate::settings::Number;
-use crate::settings::Setting;
-use crate::settings::item_of;
-use crate::settings::number_or;
+use crate::setting::Item;
+use crate::setting::Number;
+use crate::setting::Setting;
+use crate::setting::item_of;
+use crate::setting::number_or;
 use request::Answer;
 use request::answer_by;
 use wire::uvc::GET_CUR;

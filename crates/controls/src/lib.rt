@@ -4,10 +4,11 @@
 // Nothing here knows of a camera: each function goes by its control's limits, the setting held and the payload.
 pub mod hdr;
 pub mod metadata;
-mod settings;
+mod setting;
 pub mod throttle;
 
-pub use settings::EvSetting;
-pub use settings::Item;
-pub use settings::Number;
-pub use settings::Setting;
+pub use setting::EvSetting;
+pub use setting::Item;
+pub use setting::Number;
+pub use setting::Setting;
+pub use setting::code_of;

@@ -1,9 +1,9 @@
 // Metadata: four bytes, the size of the buffer that frame metadata goes to; 0 turns it off and the maximum on.
-use crate::settings::Item;
-use crate::settings::Number;
-use crate::settings::Setting;
-use crate::settings::item_of;
-use crate::settings::number_or;
+use crate::setting::Item;
+use crate::setting::Number;
+use crate::setting::Setting;
+use crate::setting::item_of;
+use crate::setting::number_or;
 use request::Answer;
 use request::answer_by;
 use wire::uvc::GET_CUR;

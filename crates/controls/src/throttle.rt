@@ -1,7 +1,7 @@
 // Throttle: five numbers of four bytes, mode, percent, minimum, maximum and step; a SET's last three are not looked at.
-use crate::settings::Item;
-use crate::settings::Setting;
-use crate::settings::item_of;
+use crate::setting::Item;
+use crate::setting::Setting;
+use crate::setting::item_of;
 use request::Answer;
 use request::answer_by;
 use wire::uvc::GET_CUR;

@@ -14,15 +14,15 @@ use Rattle.wire.proofs.Laws.Numbers.{Bytes}
 use Rattle.wire.proofs.Laws.Bits.{chosen-is}
 use Rattle.request.specs.Setup.{typeOf, codeOf, valueLow, selectorOf, wLengthOf, isSetRequest, isGetRequest}
 use Rattle.request.specs.Tests.{requestTests}
-use Rattle.controls.specs.declared.settings.EvSetting.{EvSetting}
+use Rattle.controls.specs.declared.setting.EvSetting.{EvSetting}
 use Rattle.exposure.specs.declared.ev.Ev.{Ev}
 use Rattle.exposure.specs.declared.ev.Ev.the-variants as E
 use Rattle.face.specs.declared.face.FaceLimits.{FaceLimits}
 use Rattle.controls.specs.declared.throttle.Throttle.{Throttle}
 use Rattle.controls.specs.declared.throttle.Throttle.the-variants as T
-use Rattle.controls.specs.declared.settings.Number.{Number}
-use Rattle.controls.specs.declared.settings.Number.the-variants as N
-use Rattle.controls.specs.declared.settings.Setting.the-variants as S
+use Rattle.controls.specs.declared.setting.Number.{Number}
+use Rattle.controls.specs.declared.setting.Number.the-variants as N
+use Rattle.controls.specs.declared.setting.Setting.the-variants as S
 use Rattle.request.specs.Answers.{answerBy}
 use Rattle.controls.specs.Settings.{numberOr, settingOf}
 use Rattle.exposure.specs.Ev as ev

@@ -19,7 +19,7 @@ use Rattle.snapshot.proofs.Laws.Merging.{over-assoc, over-none}
 use Rattle.snapshot.proofs.Laws.Answers.{Answer}
 use Rattle.snapshot.proofs.Laws.Answers as answers
 use Rattle.snapshot.proofs.Laws.Settings.{Rows, rows-append, snapshot-append}
-use Rattle.controls.specs.declared.settings.Setting.{Setting}
+use Rattle.controls.specs.declared.setting.Setting.{Setting}
 use Rattle.controls.specs.Settings.{settingOf, codeOf}
 use Rattle.camera.specs.declared.profile.Profile.{Profile}
 use Rattle.camera.specs.declared.record.Camera.{Camera}

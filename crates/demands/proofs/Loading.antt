@@ -13,7 +13,7 @@ use Rattle.snapshot.specs.Records.{decode, GoodAt, Record, Entry, recordsOf}
 use Rattle.snapshot.specs.Records as records
 use Rattle.snapshot.proofs.Laws.Maps.{decode-good}
 use Rattle.snapshot.proofs.Laws.Entries.{entryAt, entries, records-entries}
-use Rattle.controls.specs.declared.settings.Setting.{Setting}
+use Rattle.controls.specs.declared.setting.Setting.{Setting}
 use Rattle.controls.specs.Settings.{codeOf}
 use Rattle.camera.specs.declared.profile.Profile.{Profile}
 use Rattle.camera.specs.declared.record.Camera.{Camera}

@@ -16,10 +16,10 @@ use Rattle.snapshot.specs.Form as form
 use Rattle.snapshot.specs.Records.{decode}
 use Rattle.snapshot.specs.Merge.{over}
 use Rattle.snapshot.specs.Settings.{lastOf}
-use Rattle.controls.specs.declared.settings.EvSetting.{EvSetting}
+use Rattle.controls.specs.declared.setting.EvSetting.{EvSetting}
 use Rattle.exposure.specs.declared.ev.Ev.the-variants as E
 use Rattle.controls.specs.declared.throttle.ThrottleSetting.{ThrottleSetting}
-use Rattle.controls.specs.declared.settings.Setting.the-variants as S
+use Rattle.controls.specs.declared.setting.Setting.the-variants as S
 use Rattle.exposure.specs.Ev.{divisor, evBytes}
 use Rattle.face.specs.Face.{endpoints, addressAt, entryAddress, entryFlags, entryOf, heldAt, flagsAt}
 use Rattle.controls.specs.Throttle.{throttleBytes}

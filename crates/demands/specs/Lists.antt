@@ -8,7 +8,7 @@ use Rattle.wire.specs.Rows.{firstOf}
 use Rattle.request.specs.Setup.{isSetRequest, selectorOf}
 use Rattle.request.specs.Tests.{requestTests}
 use Rattle.snapshot.specs.Settings.{lastOf, snapshotOf}
-use Rattle.controls.specs.declared.settings.Setting.{Setting}
+use Rattle.controls.specs.declared.setting.Setting.{Setting}
 use Rattle.camera.specs.declared.profile.Profile.{Profile}
 use Rattle.camera.specs.declared.record.Camera.{Camera}
 use Rattle.camera.specs.Profile.{table}

@@ -11,7 +11,7 @@ use Rattle.wire.specs.Rows.{firstOf}
 use Rattle.wire.specs.Uvc.{setCur}
 use Rattle.request.specs.Tests.{requestTests}
 use Rattle.snapshot.specs.Records.{Entry, recordsOf, Each}
-use Rattle.controls.specs.declared.settings.Setting.{Setting}
+use Rattle.controls.specs.declared.setting.Setting.{Setting}
 use Rattle.controls.specs.Settings.{codeOf}
 use Rattle.camera.specs.declared.profile.Profile.{Profile}
 use Rattle.camera.specs.declared.record.Camera.{Camera}

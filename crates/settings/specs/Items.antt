@@ -5,10 +5,10 @@ use mathlib.Core.Bool.{cond}
 use lib.Dec.{eqb}
 use lib.ListN.{getD}
 use Rattle.wire.specs.Selectors.{ev, face, metadata, hdr}
-use Rattle.controls.specs.declared.settings.Item.{Item}
-use Rattle.controls.specs.declared.settings.Item.the-variants.{Absent, Refused, Given}
-use Rattle.controls.specs.declared.settings.Setting.{Setting}
-use Rattle.controls.specs.Settings.{codeOf, firstRefusal}
+use Rattle.controls.specs.declared.setting.Item.{Item}
+use Rattle.controls.specs.declared.setting.Item.the-variants.{Absent, Refused, Given}
+use Rattle.controls.specs.declared.setting.Setting.{Setting}
+use Rattle.controls.specs.Settings.{firstRefusal}
 use Rattle.exposure.specs.Ev.{evItem}
 use Rattle.face.specs.Face.{faceItem}
 use Rattle.controls.specs.Metadata.{metadataItem}
@@ -34,10 +34,6 @@ allGiven (suc n) k item = givenOf (item k) ++ allGiven n (suc k) item
 unfoldable pub puts : Settings → List (ℕ × Setting) → Settings
 puts h [] = h
 puts h (s ∷ rest) = puts (put h (s .1)) rest
-
--- an item's number, and the settings with what it gives
-unfoldable pub itemTaken : Settings → Item → Taken
-itemTaken h item = record { code = codeOf item; settings = puts h (givenOf item) }
 
 -- how many items a SET's payload has: face authentication's entries, else one
 abbrev pub itemCount : ℕ → List ℕ → ℕ

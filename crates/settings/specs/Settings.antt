@@ -1,6 +1,5 @@
 -- Document 01, "Profile and camera record": the settings that a camera holds, and which of them keep their rules.
 use Prim.Native.Nat.{ℕ, _+_, _-_}
-use mathlib.Core.List.{List, [], _∷_}
 use mathlib.Core.Option.{Option, none, some}
 use mathlib.Core.Bool.{Bool, true, cond, _&&_}
 use lib.Dec.{leb, eqb}
@@ -12,12 +11,12 @@ use Rattle.exposure.specs.declared.ev.Ev.{Ev}
 use Rattle.exposure.specs.declared.ev.Ev.the-variants as E
 use Rattle.controls.specs.declared.throttle.Throttle.{Throttle}
 use Rattle.controls.specs.declared.throttle.Throttle.the-variants as T
-use Rattle.controls.specs.declared.settings.Number.{Number}
-use Rattle.controls.specs.declared.settings.Number.the-variants as N
-use Rattle.controls.specs.declared.settings.Item.{Item}
-use Rattle.controls.specs.declared.settings.Item.the-variants.{Absent, Given}
-use Rattle.controls.specs.declared.settings.Setting.{Setting}
-use Rattle.controls.specs.declared.settings.Setting.the-variants as S
+use Rattle.controls.specs.declared.setting.Number.{Number}
+use Rattle.controls.specs.declared.setting.Number.the-variants as N
+use Rattle.controls.specs.declared.setting.Item.{Item}
+use Rattle.controls.specs.declared.setting.Item.the-variants.{Absent, Given}
+use Rattle.controls.specs.declared.setting.Setting.{Setting}
+use Rattle.controls.specs.declared.setting.Setting.the-variants as S
 use Rattle.exposure.specs.Ev.{evRefusal}
 use Rattle.face.specs.Face.{allBelow, settingRefusal, putFace}
 use Rattle.controls.specs.Metadata.{metadataRefusal}

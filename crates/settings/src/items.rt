@@ -2,12 +2,13 @@
 use crate::profile::Profile;
 use crate::settings::Settings;
 use controls::Item;
+use controls::code_of;
 use wire::selectors::EV;
 use wire::selectors::FACE;
 use wire::selectors::HDR;
 use wire::selectors::METADATA;
 ghost use mathlib.Core.Path.{_≡_};
-ghost use Rattle.settings.specs.Items.{itemAt, itemTaken, setTaken};
+ghost use Rattle.settings.specs.Items.{givenOf, puts, itemAt, setTaken};
 
 // Document 01's number, and the settings; on a refusal they are as they came in.
 pub struct Taken {
@@ -35,23 +36,14 @@ pub fn item(p: Profile, selector: u8, payload: &[u8]) -> Item
 }
 
 impl Settings {
-    // Takes an item in.
-    pub fn take(self, item: Item) -> Taken
-        ensures { λ r. ⌜ r ≡ itemTaken self item ⌝ }
+    // The settings with what an item gives.
+    pub fn put_item(self, item: Item) -> Settings
+        ensures { λ r. ⌜ r ≡ puts self (givenOf item) ⌝ }
     {
         match item {
-            Item::Absent => Taken {
-                code: 0,
-                settings: self,
-            },
-            Item::Refused(code) => Taken {
-                code,
-                settings: self,
-            },
-            Item::Given(s) => Taken {
-                code: 0,
-                settings: self.put(s),
-            },
+            Item::Absent => self,
+            Item::Refused(_) => self,
+            Item::Given(s) => self.put(s),
         }
     }
 
@@ -70,6 +62,10 @@ impl Settings {
                 settings,
             };
         }
-        self.take(item(p, selector, payload))
+        let one = item(p, selector, payload);
+        Taken {
+            code: code_of(one),
+            settings: self.put_item(one),
+        }
     }
 }

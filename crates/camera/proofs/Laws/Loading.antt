@@ -1,10 +1,10 @@
 -- Loading a snapshot record by record, and what a load answers. Assumes nothing.
 use mathlib.Core.Path.{_≡_, refl, ap, ap₂, sym, _∙_}
-use mathlib.Core.List.{List, [], _++_, append-nil}
-use mathlib.Core.Option.{none, some}
+use mathlib.Core.List.{List, _++_, append-nil}
+use mathlib.Core.Option.{none}
 use mathlib.Core.Bool.{Bool, true, false, cond, not}
 use Prim.Native.Nat.{ℕ, zero, suc, _+_, _-_, _≤_, _<_}
-use native.Mathlib.Nat.{zero-add, add-zero}
+use native.Mathlib.Nat.{zero-add}
 use native.Mathlib.Omega.{arith}
 use lib.Dec.{eqb, leb}
 use lib.ListN.{length, take, drop}
@@ -15,14 +15,13 @@ use Rattle.snapshot.specs.Form.{keys, sizeOf}
 use Rattle.snapshot.specs.Form as form
 use Rattle.snapshot.specs.Records.{keyOf, decode}
 use Rattle.snapshot.proofs.Laws.Walk.{At, first-at, none-before, record-at, next-at, next-above, next-within, none-between}
-use Rattle.controls.specs.declared.settings.Item.{Item}
-use Rattle.controls.specs.declared.settings.Item.the-variants.{Absent, Refused}
+use Rattle.controls.specs.declared.setting.Item.{Item}
+use Rattle.controls.specs.declared.setting.Item.the-variants.{Absent, Refused}
 use Rattle.controls.specs.Settings.{codeOf, firstRefusal}
 use Rattle.controls.proofs.Laws.Items.{stops, passes}
 use Rattle.settings.specs.declared.profile.Profile.{Profile}
 use Rattle.settings.specs.declared.settings.Settings.{Settings}
-use Rattle.settings.specs.declared.items.Taken as set
-use Rattle.settings.specs.Items.{givenOf, allGiven, puts, itemAt, itemTaken}
+use Rattle.settings.specs.Items.{givenOf, allGiven, puts, itemAt}
 use Rattle.settings.proofs.Laws.Items.{given-next, puts-next}
 use Rattle.camera.specs.declared.record.Camera.{Camera}
 use Rattle.camera.specs.declared.calls.Outcome.{Outcome}
@@ -94,8 +93,8 @@ module _ (c : Camera) (s : List ℕ) where
   })
 
   -- a turn, by what the calls ensure
-  module _ {h : Settings} {at k n : ℕ} {r : List ℕ} {i : Item} {t : set.Taken} (w : Loads h at k) (l : k < keys) (is-size : n ≡ sizeOf k)
-      (is-part : r ≡ take n (drop at s)) (is-item : i ≡ recordItem (c .profile) (c .streaming) k r) (is-taken : t ≡ itemTaken h i) where
+  module _ {h : Settings} {at k n : ℕ} {r : List ℕ} {i : Item} {code : ℕ} (w : Loads h at k) (l : k < keys) (is-size : n ≡ sizeOf k)
+      (is-part : r ≡ take n (drop at s)) (is-item : i ≡ recordItem (c .profile) (c .streaming) k r) (is-code : code ≡ codeOf i) where
     item-here : i ≡ item k
     unfolding itemFor
     item-here =
@@ -103,9 +102,8 @@ module _ (c : Camera) (s : List ℕ) where
         ∙ ap (recordItem (c .profile) (c .streaming) k) (is-part ∙ ap (λ (m : ℕ). take m (drop at s)) is-size)
         ∙ sym (ap (itemFor (c .profile) (c .streaming) k) (record-at (w .here) l))
 
-    code-here : t .code ≡ codeOf (item k)
-    unfolding itemTaken
-    code-here = ap (λ x. x .code) is-taken ∙ ap codeOf item-here
+    code-here : code ≡ codeOf (item k)
+    code-here = is-code ∙ ap codeOf item-here
 
     pub load-within : at + n ≤ length s
     load-within = omega (arith, is-size, next-within (w .here) l)
@@ -113,22 +111,21 @@ module _ (c : Camera) (s : List ℕ) where
     pub load-above : {j : ℕ} → j ≡ keyOf (drop (at + n) s) → k < j
     load-above e = omega (arith, e, ap (λ (x : ℕ). keyOf (drop (at + x) s)) is-size, next-above (w .here) l)
 
-    pub load-stops : (t .code ≡ 0 → ⊥) → refused (t .code) c ≡ loadDone c s
+    pub load-stops : (code ≡ 0 → ⊥) → refused code c ≡ loadDone c s
     unfolding loadDone
     load-stops bad =
         let e = code-here ∙ sym (stops item keys k (w .taken) l (λ z. bad (code-here ∙ z))) in
-        rw (← e, ne-eqb (t .code) 0 bad)
+        rw (← e, ne-eqb code 0 bad)
 
-    pub load-next : t .code ≡ 0 → {j : ℕ} → j ≡ keyOf (drop (at + n) s) → Loads (t .settings) (at + n) j
-    unfolding itemTaken
-    load-next z {j} e =
+    pub load-next : code ≡ 0 → {next : Settings} → next ≡ puts h (givenOf i) → {j : ℕ} → j ≡ keyOf (drop (at + n) s) → Loads next (at + n) j
+    load-next z is-put {j} e =
         let m : at + n ≡ at + sizeOf k = ap (λ (x : ℕ). at + x) is-size in
         let q : j ≡ keyOf (drop (at + sizeOf k) s) = e ∙ ap (λ (x : ℕ). keyOf (drop x s)) m in
         let above : k < j = omega (arith, q, next-above (w .here) l) in
         let gap : (i : ℕ) → k + 1 ≤ i → i < j → item i ≡ Absent = λ i a b. absent i (none-between (w .here) l i (omega arith) (omega (arith, q))) in
         rw (m, q) (record {
           here = next-at (w .here) l;
-          is = ap (λ x. x .settings) is-taken
+          is = is-put
               ∙ ap₂ (λ x y. puts x (givenOf y)) (w .is) item-here
               ∙ sym (puts-next (c .settings) k item)
               ∙ ap (puts (c .settings)) (sym (given-between item (k + 1) (keyOf (drop (at + sizeOf k) s)) (omega (arith, q, above)) (λ i a b. gap i a (omega (arith, q)))));

@@ -1,10 +1,10 @@
 -- What a request comes to, by the first of its tests that fails. Assumes nothing.
-use mathlib.Core.Path.{_≡_, refl, ap, sym, _∙_}
+use mathlib.Core.Path.{_≡_, refl, sym, _∙_}
 use mathlib.Core.List.{List, [], _∷_}
-use mathlib.Core.Bool.{Bool, true, false, cond, not, _&&_}
-use Prim.Native.Nat.{ℕ, _≤_}
+use mathlib.Core.Bool.{Bool, true, false, cond, not}
+use Prim.Native.Nat.{ℕ}
 use native.Mathlib.Omega.{arith}
-use lib.Dec.{eqb, ltb}
+use lib.Dec.{eqb}
 use lib.ListN.{length}
 use borrow.Author.Tests.{eq-eqb, ne-eqb, eqb-true}
 use Rattle.wire.specs.Rows.{_⇒_, answers, firstOf}
@@ -13,7 +13,7 @@ use Rattle.request.specs.declared.reply.Sent.{Sent}
 use Rattle.request.specs.Setup.{selectorOf, codeOf, wLengthOf, isSetRequest}
 use Rattle.request.specs.Tests.{requestTests, asked, sentCount}
 use Rattle.request.specs.Tests as request
-use Rattle.request.specs.Reply.{sentOf, replyOf}
+use Rattle.request.specs.Reply.{replyOf}
 use Rattle.request.specs.Requests as leaves
 use Rattle.request.proofs.Laws.Tests.{at-unformed, at-tests, at-state, at-set, at-get, set-replied, get-sent}
 use Rattle.settings.specs.declared.profile.Profile.{Profile}

@@ -1,63 +1,37 @@
 -- Writing a snapshot key by key, as far as the lent buffer reaches, and what writing answers. Assumes nothing.
 use mathlib.Core.Path.{_≡_, refl, ap, ap₂, sym, _∙_}
-use mathlib.Core.List.{List, _++_, append-nil}
+use mathlib.Core.List.{List, [], _++_, append-nil}
 use mathlib.Core.Option.{Option, none, some, Option·map}
-use mathlib.Core.Bool.{true, false}
-use Prim.Native.Nat.{ℕ, min, _+_, _*_, _≤_, _<_}
-use native.Mathlib.Nat.{add-zero}
+use mathlib.Core.Bool.{Bool, true, false, cond}
+use Prim.Native.Nat.{ℕ, suc, _+_, _-_, _*_, _≤_, _<_}
+use native.Mathlib.Nat.{zero-add, add-zero}
+use native.Mathlib.Numerals.{add-one, sub-one}
 use native.Mathlib.Omega.{arith}
-use lib.Dec.{lit≤}
-use lib.ListN.{length, take, replicate, length-append}
-use borrow.Author.Tests.{lt-ltb, le-ltb}
+use lib.Dec.{eqb, lit≤}
+use lib.ListN.{length, getD, take, drop, length-append, take-append-drop}
+use lib.Seq.{take-all}
+use borrow.Author.Tests.{ne-eqb, le-leb, lt-ltb, le-ltb}
 use Rattle.wire.specs.Number.{bytesOf}
 use Rattle.wire.specs.Overlay.{overlay}
-use Rattle.wire.proofs.Laws.Overlay.{no-bytes, front, append, same-length, fits-start}
+use Rattle.wire.specs.Endpoints.{firstAddress, places}
+use Rattle.wire.specs.Uvc.{malformedRecord, noRoom}
+use Rattle.wire.proofs.Laws.Overlay.{no-bytes, append, same-length, fits-start}
+use Rattle.snapshot.specs.Form.{keys}
 use Rattle.snapshot.specs.Records.{bytes, records, encode}
 use Rattle.snapshot.proofs.Laws.Maps.{records-split}
-use Rattle.controls.specs.declared.settings.Setting.{Setting}
-use Rattle.controls.specs.declared.settings.Setting.the-variants as S
-use Rattle.controls.specs.declared.settings.Item.{Item}
+use Rattle.controls.specs.declared.setting.Setting.{Setting}
+use Rattle.controls.specs.declared.setting.Setting.the-variants as S
+use Rattle.controls.specs.declared.setting.Item.{Item}
 use Rattle.exposure.specs.Ev.{evBytes}
 use Rattle.controls.specs.Throttle.{throttleBytes}
 use Rattle.controls.specs.Settings.{settingOf}
+use Rattle.settings.specs.declared.settings.Settings.{Settings}
+use Rattle.settings.specs.Settings.{held, itemHeld, faceHeld}
 use Rattle.camera.specs.declared.record.Camera.{Camera}
-use Rattle.camera.specs.declared.writing.Record.{Record}
-use Rattle.camera.specs.Record.{held, wellFormed}
+use Rattle.camera.specs.Record.{wellFormed}
 use Rattle.camera.specs.Requests.{refused}
-use Rattle.camera.specs.Snapshots.{framed, row, snapshot, writeCode, written, writtenOut}
-use Rattle.settings.specs.Settings.{itemHeld}
-use Rattle.camera.specs.Steps.{rowHeld, recordOf}
-
--- the empty record that a record is laid over
-abbrev pub blank : List ℕ
-blank = replicate 24 0
-
--- a record's length and kind, and its payload behind them, laid over it one after the other
-abbrev laid : ℕ → List ℕ → List ℕ
-laid kind payload = overlay (overlay (overlay blank 0 (bytesOf 2 (4 + length payload))) 2 (bytesOf 2 kind)) 4 payload
-
-laid-bytes : (kind : ℕ) (payload : List ℕ) → laid kind payload ≡ overlay blank 0 (framed kind payload)
-unfolding bytesOf
-laid-bytes kind payload =
-    let head = bytesOf 2 (4 + length payload) in
-    ap (λ d. overlay d 4 payload) (append blank head (bytesOf 2 kind)) ∙ append blank (head ++ bytesOf 2 kind) payload
-
-pub laid-record : (kind : ℕ) (payload b : List ℕ) → length payload ≤ 20 → b ≡ laid kind payload
-    → _≡_ {A = Record} (record { bytes = b; len = 4 + length payload }) (recordOf (framed kind payload))
-unfolding recordOf bytesOf
-laid-record kind payload b h e =
-    let n : 4 + length payload ≡ min (length (framed kind payload)) 24 = omega arith in
-    ap₂ (λ (x : List ℕ) (y : ℕ). record { bytes = x; len = y }) (e ∙ laid-bytes kind payload) n
-
--- the bytes of a record as it is handed on
-module _ (l : List ℕ) (h : length l ≤ 24) where
-  pub record-len : recordOf l .len ≡ length l
-  unfolding recordOf
-  record-len = omega arith
-
-  pub record-bytes : take (recordOf l .len) (recordOf l .bytes) ≡ l
-  unfolding recordOf
-  record-bytes = let e : min (length l) 24 ≡ length l = omega arith in rw e (front blank l (omega arith))
+use Rattle.camera.specs.Snapshots.{row, snapshot, writeCode, written, writtenOut}
+use Rattle.camera.specs.Steps.{rowHeld, rowsOf}
 
 -- a setting's record does not go by the key
 row-key : (j k : ℕ) (s : Setting) → row j s ≡ row k s
@@ -76,99 +50,162 @@ row-short k (S.Metadata n) = lit≤ tt
 row-short k (S.Hdr n) = lit≤ tt
 row-short k (S.Throttle s) = lit≤ tt
 
+lit-nil : (n : ℕ) → length {A = ℕ} [] ≤ n
+lit-nil n = omega arith
+
+-- nothing laid over a buffer leaves it
+pub nothing-laid : (d : List ℕ) (i : ℕ) → overlay d i [] ≡ d
+unfolding overlay
+nothing-laid d i = rw (take-all {A = ℕ} (length d - i) [] (lit-nil (length d - i)), add-zero i) (ap (λ l. l ++ drop i d) (append-nil (take i d)) ∙ take-append-drop i d)
+
+-- what a place of face authentication holds
+held-place : (s : Settings) (i : ℕ) → i < places → held s (i + 1) ≡ faceHeld (firstAddress + i) (getD (s .face) i 0)
+unfolding held
+held-place s i h = rw (add-one i, ne-eqb (suc i) 0 (omega arith), le-leb (suc i) places (omega arith), sub-one)
+
+place-length : (address flags : ℕ) → cond (eqb flags 0) 0 13 ≡ length (rowHeld 0 (faceHeld address flags))
+unfolding row bytesOf
+place-length address flags = go (eqb flags 0)
+  where
+    go : (b : Bool) → cond {A = ℕ} b 0 13 ≡ length (rowHeld 0 (cond b none (some (S.Face address flags))))
+    go true = refl
+    go false = refl
+
 -- the records of the keys below k, and that of key k
-abbrev rowsOf : Camera → ℕ → Option (List ℕ)
-rowsOf c k = Option·map (row k) (held c k)
+abbrev pub below : Settings → ℕ → List ℕ
+below s k = records k 0 (rowsOf s)
 
-abbrev pub below : Camera → ℕ → List ℕ
-below c k = records k 0 (rowsOf c)
+piece : Settings → ℕ → List ℕ
+piece s k = bytes (rowsOf s k)
 
-piece : Camera → ℕ → List ℕ
-piece c k = bytes (rowsOf c k)
+pub below-all : (s : Settings) → below s keys ≡ encode (rowsOf s)
+unfolding encode
+below-all s = refl
 
-below-all : (c : Camera) → below c 19 ≡ snapshot c
-unfolding snapshot encode
-below-all c = refl
-
-below-next : (c : Camera) (k : ℕ) → below c (k + 1) ≡ below c k ++ piece c k
+below-next : (s : Settings) (k : ℕ) → below s (k + 1) ≡ below s k ++ piece s k
 unfolding records piece
-below-next c k = records-split (rowsOf c) k 1 0 ∙ ap (λ l. below c k ++ l) (append-nil _ ∙ ap (λ j. bytes (rowsOf c j)) (add-zero k))
+below-next s k = records-split (rowsOf s) k 1 0 ∙ ap (λ l. below s k ++ l) (append-nil _ ∙ ap (λ j. bytes (rowsOf s j)) (add-zero k))
 
-piece-short : (c : Camera) (k : ℕ) → length (piece c k) ≤ 24
+piece-short : (s : Settings) (k : ℕ) → length (piece s k) ≤ 24
 unfolding piece
-piece-short c k = go (held c k)
+piece-short s k = go (held s k)
   where
     go : (o : Option Setting) → length (bytes (Option·map (row k) o)) ≤ 24
     go none = lit≤ tt
-    go (some s) = row-short k s
+    go (some t) = row-short k t
 
-piece-held : (c : Camera) (k : ℕ) → rowHeld 0 (settingOf (itemHeld (held c k))) ≡ piece c k
+piece-held : (s : Settings) (k : ℕ) → rowHeld 0 (held s k) ≡ piece s k
 unfolding piece
-piece-held c k = go (held c k)
+piece-held s k = go (held s k)
   where
-    go : (o : Option Setting) → rowHeld 0 (settingOf (itemHeld o)) ≡ bytes (Option·map (row k) o)
+    go : (o : Option Setting) → rowHeld 0 o ≡ bytes (Option·map (row k) o)
     go none = refl
-    go (some s) = row-key 0 k s
+    go (some t) = row-key 0 k t
 
--- what stands before key k: the records of the keys below it are written, and how long they are
-pub record Progress (c : Camera) (old out : List ℕ) (n k : ℕ) : Type 0 where
-  pub few : k ≤ 19
+setting-held : (o : Option Setting) → settingOf (itemHeld o) ≡ o
+setting-held none = refl
+setting-held (some s) = refl
+
+-- what stands before key k: how long the records of the keys below it are, and in a buffer, that they are written
+pub record Measured (s : Settings) (n k : ℕ) : Type 0 where
   pub short : n ≤ 24 * k
-  pub long : n ≡ length (below c k)
-  pub is : out ≡ overlay old 0 (below c k)
+  pub long : n ≡ length (below s k)
 
-pub nothing-written : (c : Camera) (old : List ℕ) → Progress c old old 0 0
-unfolding records
-nothing-written c old = record { few = omega arith; short = omega arith; long = refl; is = sym (no-bytes old) }
+pub record Progress (s : Settings) (old out : List ℕ) (n k : ℕ) : Type 0 where
+  pub measured : Measured s n k
+  pub is : out ≡ overlay old 0 (below s k)
 
 -- a turn, by what the calls ensure
-module _ (c : Camera) (old : List ℕ) {out : List ℕ} {n k : ℕ} {i : Item} {r : Record} (w : Progress c old out n k) (h : k < 19)
-    (is-held : i ≡ itemHeld (held c k)) (is-record : r ≡ recordOf (rowHeld 0 (settingOf i))) where
-  record-here : r ≡ recordOf (piece c k)
-  record-here = is-record ∙ ap (λ j. recordOf (rowHeld 0 (settingOf j))) is-held ∙ ap recordOf (piece-held c k)
+module _ (s : Settings) {n k len : ℕ} (w : Measured s n k) (is-len : len ≡ length (piece s k)) where
+  measure-next : Measured s (n + len) (k + 1)
+  measure-next = record {
+    short = omega (arith, is-len, piece-short s k, w .short);
+    long = omega (arith, is-len, w .long, ap length (below-next s k), length-append (below s k) (piece s k));
+  }
 
-  len-here : r .len ≡ length (piece c k)
-  len-here = ap (λ q. q .len) record-here ∙ record-len (piece c k) (piece-short c k)
+module _ (s : Settings) (old : List ℕ) {out after l : List ℕ} {n k : ℕ} (w : Progress s old out n k) (is-row : l ≡ piece s k)
+    (is-written : after ≡ overlay out n l) where
+  write-turn : after ≡ overlay old 0 (below s (k + 1))
+  write-turn =
+      is-written
+      ∙ ap (overlay out n) is-row
+      ∙ ap₂ (λ o m. overlay o m (piece s k)) (w .is) (w .measured .long)
+      ∙ append old (below s k) (piece s k)
+      ∙ ap (overlay old 0) (sym (below-next s k))
 
-  pub write-short : n + r .len ≤ 24 * (k + 1)
-  write-short = omega (arith, len-here, piece-short c k, w .short)
+  write-next : {len : ℕ} → len ≡ length (piece s k) → Progress s old after (n + len) (k + 1)
+  write-next e = record { measured = measure-next s (w .measured) e; is = write-turn }
 
-  pub write-next : {after l : List ℕ} → l ≡ take (r .len) (r .bytes) → after ≡ overlay out n l → Progress c old after (n + r .len) (k + 1)
-  write-next {after} {l} is-part is-written =
-      let e : l ≡ piece c k = is-part ∙ ap (λ q. take (q .len) (q .bytes)) record-here ∙ record-bytes (piece c k) (piece-short c k) in
-      record {
-        few = omega arith;
-        short = write-short;
-        long = omega (arith, len-here, w .long, ap length (below-next c k), length-append (below c k) (piece c k));
-        is = is-written
-            ∙ ap (overlay out n) e
-            ∙ ap₂ (λ o m. overlay o m (piece c k)) (w .is) (w .long)
-            ∙ append old (below c k) (piece c k)
-            ∙ ap (overlay old 0) (sym (below-next c k));
-      }
+-- a key's own record: by its item, or of a place by its address and flags
+module _ (s : Settings) (k : ℕ) {i : Item} (is-item : i ≡ itemHeld (held s k)) where
+  item-row : rowHeld 0 (settingOf i) ≡ piece s k
+  item-row = ap (λ j. rowHeld 0 (settingOf j)) is-item ∙ ap (rowHeld 0) (setting-held (held s k)) ∙ piece-held s k
 
-module _ {c : Camera} {old out : List ℕ} {n k : ℕ} (w : Progress c old out n k) where
-  pub write-length : length out ≡ length old
-  write-length = ap length (w .is) ∙ same-length old 0 (below c k)
+  module _ {n len : ℕ} (is-len : len ≡ length (rowHeld 0 (settingOf i))) where
+    pub item-measured : Measured s n k → Measured s (n + len) (k + 1)
+    item-measured w = measure-next s w (is-len ∙ ap length item-row)
 
-  pub write-end : 19 ≤ k → (n ≡ length (snapshot c)) × (out ≡ overlay old 0 (snapshot c))
-  write-end h =
-      let q : k ≡ 19 = omega (arith, w .few) in
-      let e = ap (below c) q ∙ below-all c in
-      (w .long ∙ ap length e, w .is ∙ ap (overlay old 0) e)
+    pub item-written : {old out after : List ℕ} → Progress s old out n k → after ≡ overlay out n (rowHeld 0 (settingOf i)) → Progress s old after (n + len) (k + 1)
+    item-written w e = write-next s _ w item-row e (is-len ∙ ap length item-row)
+
+  pub item-last : {n : ℕ} {old out after : List ℕ} → Progress s old out n k → after ≡ overlay out n (rowHeld 0 (settingOf i)) → after ≡ overlay old 0 (below s (k + 1))
+  item-last w e = write-turn s _ w item-row e
+
+module _ (s : Settings) (i : ℕ) (h : i < places) {face : List ℕ} (is-face : face ≡ s .face) {len : ℕ} (is-len : len ≡ cond (eqb (getD face i 0) 0) 0 13) where
+  place-row : rowHeld 0 (faceHeld (firstAddress + i) (getD face i 0)) ≡ piece s (i + 1)
+  place-row = ap (λ (l : List ℕ). rowHeld 0 (faceHeld (firstAddress + i) (getD l i 0))) is-face ∙ ap (rowHeld 0) (sym (held-place s i h)) ∙ piece-held s (i + 1)
+
+  place-length-is : len ≡ length (piece s (i + 1))
+  place-length-is = is-len ∙ place-length (firstAddress + i) (getD face i 0) ∙ ap length place-row
+
+  pub place-measured : {n : ℕ} → Measured s n (i + 1) → Measured s (n + len) (i + 1 + 1)
+  place-measured w = measure-next s w place-length-is
+
+  pub place-written : {n : ℕ} {old out after : List ℕ} → Progress s old out n (i + 1) → after ≡ overlay out n (rowHeld 0 (faceHeld (firstAddress + i) (getD face i 0))) → Progress s old after (n + len) (i + 1 + 1)
+  place-written w e = write-next s _ w place-row e place-length-is
+
+none-measured : (s : Settings) → Measured s 0 0
+unfolding records
+none-measured s = record { short = omega arith; long = refl }
+
+none-written : (s : Settings) (old : List ℕ) → Progress s old old 0 0
+unfolding records
+none-written s old = record { measured = none-measured s; is = sym (no-bytes old) }
+
+-- the first key's
+module _ (s : Settings) {i : Item} (is-item : i ≡ itemHeld (held s 0)) {len : ℕ} (is-len : len ≡ length (rowHeld 0 (settingOf i))) where
+  pub first-measured : Measured s len 1
+  first-measured = rw zero-add at (item-measured s 0 is-item {n = 0} is-len (none-measured s))
+
+  pub first-written : {old after : List ℕ} → after ≡ overlay old 0 (rowHeld 0 (settingOf i)) → Progress s old after len 1
+  first-written {old} e = rw zero-add at (item-written s 0 is-item {n = 0} is-len (none-written s old) e)
+
+-- and the last
+pub all-measured : (s : Settings) {n : ℕ} → Measured s n keys → n ≡ length (encode (rowsOf s))
+all-measured s w = w .long ∙ ap length (below-all s)
+
+pub write-length : {s : Settings} {old out : List ℕ} {n k : ℕ} → Progress s old out n k → length out ≡ length old
+write-length {s} {old} {k = k} w = ap length (w .is) ∙ same-length old 0 (below s k)
 
 -- what writing answers and leaves: each of its refusals, and none
 module _ (c : Camera) (out : List ℕ) where
-  pub write-unformed : wellFormed c ≡ false → (refused 0x21 c ≡ written c (length out)) × (out ≡ writtenOut c out)
+  pub write-unformed : wellFormed c ≡ false → (refused malformedRecord c ≡ written c (length out)) × (out ≡ writtenOut c out)
   unfolding written writtenOut writeCode
   write-unformed e = (rw e, rw e)
 
-  module _ (formed : wellFormed c ≡ true) where
-    pub write-no-room : length out < length (snapshot c) → (refused 0x20 c ≡ written c (length out)) × (out ≡ writtenOut c out)
-    unfolding written writtenOut writeCode
-    write-no-room h = let e = lt-ltb (length out) (length (snapshot c)) h in (rw (formed, e), rw (formed, e))
+  module _ (formed : wellFormed c ≡ true) {n : ℕ} (is-long : n ≡ length (encode (rowsOf (c .settings)))) where
+    long : n ≡ length (snapshot c)
+    unfolding snapshot
+    long = is-long
 
-    pub write-done : {n : ℕ} {after : List ℕ} → length (snapshot c) ≤ length out → n ≡ length (snapshot c) → after ≡ overlay out 0 (snapshot c)
-        → (record { code = 0; count = n; camera = c } ≡ written c (length out)) × (after ≡ writtenOut c out)
+    pub write-no-room : length out < n → (refused noRoom c ≡ written c (length out)) × (out ≡ writtenOut c out)
     unfolding written writtenOut writeCode
-    write-done h e f = let z = le-ltb (length out) (length (snapshot c)) h in (rw (formed, z, e), f ∙ rw (formed, z) (fits-start out (snapshot c) h))
+    write-no-room h = let e = lt-ltb (length out) (length (snapshot c)) (omega (arith, long)) in (rw (formed, e), rw (formed, e))
+
+    pub write-done : {after : List ℕ} → n ≤ length out → after ≡ overlay out 0 (encode (rowsOf (c .settings)))
+        → (record { code = 0; count = n; camera = c } ≡ written c (length out)) × (after ≡ writtenOut c out)
+    unfolding written writtenOut writeCode snapshot
+    write-done h f =
+        let l : length (snapshot c) ≤ length out = omega (arith, long) in
+        let z = le-ltb (length out) (length (snapshot c)) l in
+        (rw (formed, z, long), f ∙ rw (formed, z) (fits-start out (snapshot c) l))

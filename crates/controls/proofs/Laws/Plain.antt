@@ -17,14 +17,14 @@ use Rattle.controls.specs.declared.metadata.MetadataLimits.{MetadataLimi
 use Rattle.controls.specs.declared.throttle.ThrottleLimits.{ThrottleLimits}
 use Rattle.controls.specs.declared.throttle.ThrottleSetting.{ThrottleSetting}
 use Rattle.controls.specs.declared.throttle.Throttle.{Throttle}
-use Rattle.controls.specs.declared.settings.Number.{Number}
+use Rattle.controls.specs.declared.setting.Number.{Number}
 use Rattle.controls.specs.Settings.{itemOf}
 use Rattle.controls.specs.Metadata.{metadataRefusal, metadataItem, metadataAt, metadataInfo, metadataAnswer}
 use Rattle.controls.specs.Hdr.{hdrRefusal, hdrItem, hdrAt, hdrAnswer}
-use Rattle.controls.specs.Throttle.{divides, throttleRefusal, throttleItem, throttleAt, throttleBytes, throttleAnswer}
+use Rattle.controls.specs.Throttle.{throttleRefusal, throttleItem, throttleAt, throttleBytes, throttleAnswer}
 use Rattle.wire.proofs.Laws.Bytes.{number-bytes, bytes-at, length-bytes}
 use Rattle.request.proofs.Laws.Answers.{answer-length}
-use Rattle.controls.specs.declared.settings.Setting.the-variants as S
+use Rattle.controls.specs.declared.setting.Setting.the-variants as S
 
 -- a payload of one number reads back as it
 pub word-read : (n : ℕ) → n < 2 ^ 32 → leAt 4 (bytesOf 4 n) 0 ≡ n

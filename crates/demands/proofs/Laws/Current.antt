@@ -7,10 +7,10 @@ use native.Mathlib.Omega.{arith}
 use lib.ListN.{getD}
 use borrow.Author.Tests.{ne-eqb}
 use Rattle.wire.specs.Number.{bytesOf}
-use Rattle.controls.specs.declared.settings.Setting.the-variants as S
+use Rattle.controls.specs.declared.setting.Setting.the-variants as S
 use Rattle.exposure.specs.declared.ev.Ev.the-variants as E
-use Rattle.controls.specs.declared.settings.EvSetting.{EvSetting}
-use Rattle.controls.specs.declared.settings.Number.the-variants as N
+use Rattle.controls.specs.declared.setting.EvSetting.{EvSetting}
+use Rattle.controls.specs.declared.setting.Number.the-variants as N
 use Rattle.controls.specs.declared.throttle.Throttle.the-variants as T
 use Rattle.controls.specs.declared.throttle.ThrottleSetting.{ThrottleSetting}
 use Rattle.request.specs.Answers.{answerBy}

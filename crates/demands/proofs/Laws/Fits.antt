@@ -9,8 +9,8 @@ use lib.Dec.{lit<}
 use mir.Syntax.{w32}
 use mir.Val.{SFits}
 use borrow.Author.Tests.{leb-true}
-use Rattle.controls.specs.declared.settings.Setting.{Setting}
-use Rattle.controls.specs.declared.settings.Setting.the-variants as S
+use Rattle.controls.specs.declared.setting.Setting.{Setting}
+use Rattle.controls.specs.declared.setting.Setting.the-variants as S
 use Rattle.exposure.specs.Ev.{evValid}
 use Rattle.exposure.proofs.Laws.Ev.{accepts, range-small}
 use Rattle.controls.proofs.Laws.Plain.{metadata-within, hdr-within, throttle-within}

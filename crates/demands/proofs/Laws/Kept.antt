@@ -12,10 +12,10 @@ use Rattle.snapshot.specs.Merge.{over}
 use Rattle.snapshot.specs.Settings.{lastOf}
 use Rattle.wire.specs.Number.{leAt}
 use Rattle.wire.specs.Flags.{bitsOf, count, choiceOf}
-use Rattle.controls.specs.declared.settings.Item.{Item}
-use Rattle.controls.specs.declared.settings.Item.the-variants.{Absent, Refused, Given}
-use Rattle.controls.specs.declared.settings.Setting.{Setting}
-use Rattle.controls.specs.declared.settings.Setting.the-variants as S
+use Rattle.controls.specs.declared.setting.Item.{Item}
+use Rattle.controls.specs.declared.setting.Item.the-variants.{Absent, Refused, Given}
+use Rattle.controls.specs.declared.setting.Setting.{Setting}
+use Rattle.controls.specs.declared.setting.Setting.the-variants as S
 use Rattle.controls.specs.Settings.{itemOf}
 use Rattle.exposure.specs.Ev.{evItem, evFlags, evValue}
 use Rattle.face.specs.Face.{allBelow, faceValid, entryAddress, entryFlags, seenBefore, offersOf, isChoice, entryRefusal, faceItem}

@@ -19,9 +19,9 @@ use Rattle.snapshot.proofs.Laws.Sound.{stands-sound}
 use Rattle.snapshot.proofs.Laws.Maps.{decode-good, none-above}
 use Rattle.snapshot.proofs.Laws.Merging.{decode-merged, merged-formed, over-none}
 use Rattle.snapshot.proofs.Laws.Settings.{last-append}
-use Rattle.controls.specs.declared.settings.Item.{Item}
-use Rattle.controls.specs.declared.settings.Item.the-variants.{Absent, Refused, Given}
-use Rattle.controls.specs.declared.settings.Setting.{Setting}
+use Rattle.controls.specs.declared.setting.Item.{Item}
+use Rattle.controls.specs.declared.setting.Item.the-variants.{Absent, Refused, Given}
+use Rattle.controls.specs.declared.setting.Setting.{Setting}
 use Rattle.controls.specs.Settings.{itemOf, settingOf, codeOf}
 use Rattle.exposure.specs.Ev.{evItem}
 use Rattle.face.specs.Face.{faceItem}

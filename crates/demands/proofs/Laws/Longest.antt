@@ -13,8 +13,8 @@ use Rattle.snapshot.specs.Records as records
 use Rattle.snapshot.proofs.Laws.Lengths.{encode-short}
 use Rattle.face.specs.declared.face.FaceLimits.{FaceLimits}
 use Rattle.face.specs.Face.{addressAt, offersAt, offersFrom, offersOf, endpoints}
-use Rattle.controls.specs.declared.settings.Setting.{Setting}
-use Rattle.controls.specs.declared.settings.Setting.the-variants as S
+use Rattle.controls.specs.declared.setting.Setting.{Setting}
+use Rattle.controls.specs.declared.setting.Setting.the-variants as S
 use Rattle.camera.specs.declared.record.Camera.{Camera}
 use Rattle.camera.specs.Record.{held, valueRefusal, wellFormed}
 use Rattle.camera.specs.Snapshots.{row, snapshot}

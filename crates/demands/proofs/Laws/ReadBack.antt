@@ -13,10 +13,10 @@ use lib.Seq.{drop-cons, drop-drop, drop-at, drop-append-le, take-add, take-appen
 use borrow.Author.Tests.{ne-eqb, eqb-true, eqb-false, ltb-true, ltb-false, le-leb}
 use Rattle.wire.specs.Number.{leAt, bytesOf}
 use Rattle.wire.proofs.Laws.Numbers.{Bytes}
-use Rattle.controls.specs.declared.settings.Item.{Item}
-use Rattle.controls.specs.declared.settings.Item.the-variants.{Given}
-use Rattle.controls.specs.declared.settings.Setting.{Setting}
-use Rattle.controls.specs.declared.settings.Setting.the-variants as S
+use Rattle.controls.specs.declared.setting.Item.{Item}
+use Rattle.controls.specs.declared.setting.Item.the-variants.{Given}
+use Rattle.controls.specs.declared.setting.Setting.{Setting}
+use Rattle.controls.specs.declared.setting.Setting.the-variants as S
 use Rattle.face.specs.declared.face.FaceLimits.{FaceLimits}
 use Rattle.request.specs.Answers.{answerBy}
 use Rattle.controls.specs.Settings.{itemOf, numberOr, codeOf}

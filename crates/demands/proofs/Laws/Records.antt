@@ -12,13 +12,13 @@ use Rattle.snapshot.specs.Records.{Record, GoodAt}
 use Rattle.snapshot.specs.Records as records
 use Rattle.snapshot.proofs.Laws.Settings.{Rows}
 use Rattle.snapshot.proofs.Laws.Controls.{record-ev, record-face, record-metadata, record-hdr, record-throttle}
-use Rattle.controls.specs.declared.settings.Setting.{Setting}
-use Rattle.controls.specs.declared.settings.Setting.the-variants as S
+use Rattle.controls.specs.declared.setting.Setting.{Setting}
+use Rattle.controls.specs.declared.setting.Setting.the-variants as S
 use Rattle.exposure.specs.Ev.{evBytes}
 use Rattle.face.specs.Face.{entryOf}
 use Rattle.controls.specs.Throttle.{throttleBytes}
 use Rattle.controls.specs.Settings.{itemOf}
-use Rattle.controls.specs.declared.settings.Item.the-variants.{Given}
+use Rattle.controls.specs.declared.setting.Item.the-variants.{Given}
 use Rattle.exposure.proofs.Laws.Ev.{ev-read}
 use Rattle.face.proofs.Laws.Face.{one-entry}
 use Rattle.controls.proofs.Laws.Plain.{metadata-read, hdr-read, throttle-read}

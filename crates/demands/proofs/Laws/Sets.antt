@@ -16,8 +16,8 @@ use Rattle.request.specs.Tests.{requestTests}
 use Rattle.snapshot.specs.Form as form
 use Rattle.snapshot.specs.Records.{Record}
 use Rattle.snapshot.proofs.Laws.Sound.{Sound, Kind, ev, face, metadata, hdr, throttle, kind-of, sound-address, stands-sound, stands-size}
-use Rattle.controls.specs.declared.settings.Item.{Item}
-use Rattle.controls.specs.declared.settings.Item.the-variants.{Absent, Refused, Given}
+use Rattle.controls.specs.declared.setting.Item.{Item}
+use Rattle.controls.specs.declared.setting.Item.the-variants.{Absent, Refused, Given}
 use Rattle.face.proofs.Laws.Face.{takes-first, count-least}
 use Rattle.controls.specs.Settings.{codeOf}
 use Rattle.camera.specs.declared.profile.Profile.{Profile}

@@ -1,5 +1,4 @@
 -- Every answer fits the place that the code has for it. Assumes nothing.
-use mathlib.Core.List.{List}
 use mathlib.Core.Bool.{Bool, true, false, cond}
 use Prim.Native.Nat.{ℕ, _≤_}
 use native.Mathlib.Omega.{arith}
@@ -7,7 +6,6 @@ use lib.Dec.{eqb, lit≤}
 use lib.ListN.{length}
 use Rattle.wire.specs.Number.{bytesOf}
 use Rattle.wire.specs.Selectors.{ev, face, metadata, hdr}
-use Rattle.wire.proofs.Laws.Bytes.{length-bytes}
 use Rattle.request.specs.Answers.{longest}
 use Rattle.request.proofs.Laws.Answers.{answer-length}
 use Rattle.exposure.specs.Ev.{evAt, evBytes}

@@ -10,10 +10,10 @@ use lib.Dec.{eqb}
 use lib.ListN.{getD}
 use borrow.Author.Tests.{ne-eqb, eqb-true}
 use Rattle.wire.specs.Selectors.{face}
-use Rattle.controls.specs.declared.settings.Item.{Item}
-use Rattle.controls.specs.declared.settings.Item.the-variants.{Absent, Refused, Given}
-use Rattle.controls.specs.declared.settings.Setting.{Setting}
-use Rattle.controls.specs.declared.settings.Setting.the-variants as S
+use Rattle.controls.specs.declared.setting.Item.{Item}
+use Rattle.controls.specs.declared.setting.Item.the-variants.{Absent, Refused, Given}
+use Rattle.controls.specs.declared.setting.Setting.{Setting}
+use Rattle.controls.specs.declared.setting.Setting.the-variants as S
 use Rattle.controls.specs.Settings.{codeOf, firstRefusal}
 use Rattle.face.specs.declared.entries.Taken.{Taken}
 use Rattle.face.specs.Face.{entryAddress, entryFlags, faceItem, entriesPut, facesTaken}
@@ -22,7 +22,7 @@ use Rattle.settings.specs.declared.profile.Profile.{Profile}
 use Rattle.settings.specs.declared.settings.Settings.{Settings}
 use Rattle.settings.specs.declared.items.Taken as own
 use Rattle.settings.specs.Settings.{put}
-use Rattle.settings.specs.Items.{givenOf, allGiven, puts, itemTaken, itemAt, setRefusal, setGives, setTaken}
+use Rattle.settings.specs.Items.{givenOf, allGiven, puts, itemAt, setRefusal, setGives, setTaken}
 
 -- one item more
 pub given-next : (i k : ℕ) (item : ℕ → Item) → allGiven (suc i) k item ≡ allGiven i k item ++ givenOf (item (i + k))
@@ -65,8 +65,8 @@ one-given h (Refused code) = go (eqb code 0)
 one-given h (Given s) = refl
 
 pub one-item : (p : Profile) (h : Settings) (selector : ℕ) (payload : List ℕ) → (selector ≡ face → ⊥)
-    → itemTaken h (itemAt p selector payload 0) ≡ setTaken p h selector payload
-unfolding setTaken setRefusal setGives itemTaken firstRefusal allGiven
+    → _≡_ {A = own.Taken} (record { code = codeOf (itemAt p selector payload 0); settings = puts h (givenOf (itemAt p selector payload 0)) }) (setTaken p h selector payload)
+unfolding setTaken setRefusal setGives firstRefusal allGiven
 one-item p h selector payload n =
     let i = itemAt p selector payload 0 in
     rw (ne-eqb selector face n, append-nil (givenOf i), ← one-code i)

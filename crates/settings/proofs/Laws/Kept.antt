@@ -12,8 +12,8 @@ use borrow.Author.Tests.{ne-eqb, le-leb}
 use Rattle.wire.specs.Endpoints.{firstAddress, places}
 use Rattle.wire.specs.Rows.{_⇒_, firstOf}
 use Rattle.wire.specs.Selectors.{face, metadata}
-use Rattle.controls.specs.declared.settings.Setting.{Setting}
-use Rattle.controls.specs.declared.settings.Setting.the-variants as S
+use Rattle.controls.specs.declared.setting.Setting.{Setting}
+use Rattle.controls.specs.declared.setting.Setting.the-variants as S
 use Rattle.controls.specs.Metadata.{metadataRefusal}
 use Rattle.face.specs.Face.{allBelow, settingRefusal, faceKept, facesKept}
 use Rattle.face.proofs.Laws.Face.{all-same}

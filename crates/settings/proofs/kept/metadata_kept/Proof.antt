@@ -1,5 +1,4 @@
-use mathlib.Core.Path.{refl, ap, sym, _∙_}
-use Rattle.controls.specs.declared.settings.Setting.the-variants as S
+use mathlib.Core.Path.{ap, sym, _∙_}
 use Rattle.settings.specs.Settings.{metadataHeld, valueRefusal, kept}
 use Rattle.settings.proofs.Laws.Kept.{kept-metadata}
 use borrow.Author.Needs.{needs}

@@ -28,52 +28,52 @@ part-at-requires c κs = search needs
 record-item-requires : tie.Need-record-item-requires Inv-loop μ-loop
 record-item-requires c κs = search needs
 
-take-requires : tie.Need-take-requires Inv-loop μ-loop
-take-requires c κs = search needs
+code-of-requires : tie.Need-code-of-requires Inv-loop μ-loop
+code-of-requires c κs = search needs
 
 refuse-requires : tie.Need-refuse-requires Inv-loop μ-loop
 refuse-requires c κs = search needs
 
 returns : tie.Need-returns Inv-loop μ-loop
 returns c =
-    let t = c .before .before .before in
+    let t = c .before .before in
     let i = t .before in
     let q = i .before .before in
-    c .refuse .ensures ∙ load-stops _ _ (q .before .before .loop .inv) (q .before .loop-test .taken) (q .size-of .ensures) (i .before .part-at .ensures .bytes) (i .record-item .ensures) (t .take .ensures) (c .before .if1 .taken)
+    c .refuse .ensures ∙ load-stops _ _ (q .before .before .loop .inv) (q .before .loop-test .taken) (q .size-of .ensures) (i .before .part-at .ensures .bytes) (i .record-item .ensures) (t .code-of .ensures) (c .before .if1 .taken)
+
+put-item-requires : tie.Need-put-item-requires Inv-loop μ-loop
+put-item-requires c κs = search needs
 
 add-at : tie.Need-add-at Inv-loop μ-loop
 add-at c =
-    let t = c .before .before .before in
+    let t = c .before .before in
     let i = t .before in
     let q = i .before .before in
-    omega (arith, q .before .before .before .before .before .before .good .1, load-within _ _ (q .before .before .loop .inv) (q .before .loop-test .taken) (q .size-of .ensures) (i .before .part-at .ensures .bytes) (i .record-item .ensures) (t .take .ensures))
+    omega (arith, q .before .before .before .before .before .before .good .1, load-within _ _ (q .before .before .loop .inv) (q .before .loop-test .taken) (q .size-of .ensures) (i .before .part-at .ensures .bytes) (i .record-item .ensures) (t .code-of .ensures))
 
 key-at-requires-2 : tie.Need-key-at-requires-2 Inv-loop μ-loop
 key-at-requires-2 c κs = search needs
 
 loop-less : tie.Need-loop-less Inv-loop μ-loop
 loop-less c =
-    let e = c .before .before in
-    let t = e .before .before in
+    let t = c .before .before .before in
     let i = t .before in
     let q = i .before .before in
-    omega (arith, load-above _ _ (q .before .before .loop .inv) (q .before .loop-test .taken) (q .size-of .ensures) (i .before .part-at .ensures .bytes) (i .record-item .ensures) (t .take .ensures) (c .key-at2 .ensures))
+    omega (arith, load-above _ _ (q .before .before .loop .inv) (q .before .loop-test .taken) (q .size-of .ensures) (i .before .part-at .ensures .bytes) (i .record-item .ensures) (t .code-of .ensures) (c .key-at2 .ensures))
 
 loop-again : tie.Need-loop-again Inv-loop μ-loop
 loop-again c =
     let e = c .before .before in
-    let t = e .before .before in
+    let t = e .before in
     let i = t .before in
     let q = i .before .before in
-    load-next _ _ (q .before .before .loop .inv) (q .before .loop-test .taken) (q .size-of .ensures) (i .before .part-at .ensures .bytes) (i .record-item .ensures) (t .take .ensures) (e .if1 .left) (c .key-at2 .ensures)
+    load-next _ _ (q .before .before .loop .inv) (q .before .loop-test .taken) (q .size-of .ensures) (i .before .part-at .ensures .bytes) (i .record-item .ensures) (t .code-of .ensures) (e .if1 .left) (c .before .put-item .ensures) (c .key-at2 .ensures)
 
 with-settings-requires : tie.Need-with-settings-requires Inv-loop μ-loop
 with-settings-requires c κs = search needs
 
 returns-2 : tie.Need-returns-2 Inv-loop μ-loop
-returns-2 c =
-    let l = c .before .before in
-    load-end _ _ (l .loop .inv) (c .before .loop-test .left) (c .with-settings .ensures)
+returns-2 c = load-end _ _ (c .before .before .loop .inv) (c .before .loop-test .left) (c .with-settings .ensures)
 
 pub load-records-spec : {M : Type 1} → statement M
 load-records-spec =
@@ -86,9 +86,10 @@ load-records-spec =
     size-of-requires
     part-at-requires
     record-item-requires
-    take-requires
+    code-of-requires
     refuse-requires
     returns
+    put-item-requires
     add-at
     key-at-requires-2
     loop-less

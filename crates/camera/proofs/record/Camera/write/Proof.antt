@@ -1,10 +1,9 @@
 use mathlib.Core.Path.{_≡_, sym, _∙_}
 use mathlib.Core.Bool.{true}
-use native.Mathlib.Omega.{arith}
 use borrow.Author.Tests.{not-true, not-false}
-use borrow.Author.Needs.{needs}
 use Rattle.camera.specs.Record.{wellFormed}
 use Rattle.camera.proofs.Laws.Writing.{write-unformed, write-no-room, write-done}
+use borrow.Author.Needs.{needs}
 use Rattle.camera.proofs.record.Camera.write.Statement.{statement}
 use Rattle.camera.proofs.record.Camera.write.Tie as tie
 
@@ -20,14 +19,11 @@ refuse-requires c κs = search needs
 returns : tie.Need-returns
 returns c =
     let d = c .before in
-    let r = write-unformed _ _ (sym (d .before .well-formed .ensures) ∙ not-true _ (d .if1 .taken)) in
+    let r = write-unformed (d .before .before .before .args .self) _ (sym (d .before .well-formed .ensures) ∙ not-true _ (d .if1 .taken)) in
     (c .refuse .ensures ∙ r .0, r .1)
 
-slice-aggregate-write-all : tie.Need-slice-aggregate-write-all
-slice-aggregate-write-all c = search needs
-
-write-all-requires : tie.Need-write-all-requires
-write-all-requires c κs = search needs
+measure-requires : tie.Need-measure-requires
+measure-requires c κs = search needs
 
 refuse-requires-2 : tie.Need-refuse-requires-2
 refuse-requires-2 c κs = search needs
@@ -35,13 +31,12 @@ refuse-requires-2 c κs = search needs
 returns-2 : tie.Need-returns-2
 returns-2 c =
     let d = c .before in
-    let m = d .before .before in
-    let e = m .before .before in
-    let r = write-no-room (e .before .before .before .args .self) (e .before .before .before .args .out .now) (formed e) (omega (arith, d .if2 .taken, m .write-all .ensures .0)) in
+    let m = d .before in
+    let r = write-no-room (m .before .before .before .before .args .self) _ (formed (m .before)) (m .measure .ensures) (d .if2 .taken) in
     (c .refuse2 .ensures ∙ r .0, r .1)
 
-write-all-requires-2 : tie.Need-write-all-requires-2
-write-all-requires-2 c κs = search needs
+write-all-requires : tie.Need-write-all-requires
+write-all-requires c κs = search needs
 
 same-length : tie.Need-same-length
 same-length c = search needs
@@ -49,9 +44,9 @@ same-length c = search needs
 returns-3 : tie.Need-returns-3
 returns-3 c =
     let v = c .before .before in
-    let f = v .before .before in
-    let m = f .before .before in
-    write-done (m .before .before .before .before .before .args .self) _ (formed (m .before .before)) (omega (arith, f .if2 .left, m .write-all .ensures .0)) (v .write-all2 .ensures .0) (v .write-all2 .ensures .1)
+    let d = v .before .before in
+    let m = d .before in
+    write-done (m .before .before .before .before .args .self) _ (formed (m .before)) (m .measure .ensures) (d .if2 .left) (v .write-all .ensures)
 
 pub write-spec : {M : Type 1} → statement M
 write-spec =
@@ -60,10 +55,9 @@ write-spec =
     well-formed-requires
     refuse-requires
     returns
-    slice-aggregate-write-all
-    write-all-requires
+    measure-requires
     refuse-requires-2
     returns-2
-    write-all-requires-2
+    write-all-requires
     same-length
     returns-3)

@@ -1,4 +1,4 @@
-use mathlib.Core.Path.{ap, sym, _∙_}
+use mathlib.Core.Path.{ap, sym}
 use Rattle.settings.specs.Settings.{put}
 use borrow.Author.Needs.{needs}
 use Rattle.settings.proofs.settings.Settings.put.Statement.{statement}

@@ -1,5 +1,3 @@
-use mathlib.Core.Path.{ap, _∙_}
-use Rattle.settings.specs.Items.{itemTaken}
 use Rattle.settings.proofs.Laws.Items.{one-item, face-set}
 use borrow.Author.Needs.{needs}
 use Rattle.settings.proofs.settings.Settings.set.Statement.{statement}
@@ -17,14 +15,19 @@ returns c =
 item-requires : tie.Need-item-requires
 item-requires c κs = search needs
 
-take-requires-2 : tie.Need-take-requires-2
-take-requires-2 c κs = search needs
+code-of-requires : tie.Need-code-of-requires
+code-of-requires c κs = search needs
+
+put-item-requires : tie.Need-put-item-requires
+put-item-requires c κs = search needs
 
 returns-2 : tie.Need-returns-2
 returns-2 c =
-    let i = c .before in
+    let i = c .before .before in
     let a = i .before .before .before .args in
-    c .take2 .ensures ∙ ap (itemTaken (a .self)) (i .item .ensures) ∙ one-item (a .p) (a .self) (a .selector) (a .payload .now) (i .before .if1 .left)
+    rw (c .put-item .ensures, c .before .code-of .ensures, i .item .ensures) (one-item (a .p) (a .self) (a .selector) (a .payload .now) (i .before .if1 .left))
 
 pub set-spec : {M : Type 1} → statement M
-set-spec = tie.close (tie.spec take-requires returns item-requires take-requires-2 returns-2)
+set-spec =
+    tie.close
+    (tie.spec take-requires returns item-requires code-of-requires put-item-requires returns-2)

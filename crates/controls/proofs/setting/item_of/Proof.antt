@@ -1,7 +1,7 @@
 use mathlib.Core.Path.{sym}
 use Rattle.controls.proofs.Laws.Settings.{item-given, item-refused}
-use Rattle.controls.proofs.settings.item_of.Statement.{statement}
-use Rattle.controls.proofs.settings.item_of.Tie as tie
+use Rattle.controls.proofs.setting.item_of.Statement.{statement}
+use Rattle.controls.proofs.setting.item_of.Tie as tie
 
 returns : tie.Need-returns
 returns c = sym (item-given _ _ (c .if1 .taken))

@@ -1,7 +1,7 @@
 // Settings, whichever control they are of.
 use crate::throttle::ThrottleSetting;
 ghost use mathlib.Core.Path.{_≡_};
-ghost use Rattle.controls.specs.Settings.{itemOf, numberOr};
+ghost use Rattle.controls.specs.Settings.{itemOf, codeOf, numberOr};
 
 // The flag of a step, and a number of such steps.
 pub struct EvSetting {
@@ -41,6 +41,17 @@ pub(crate) fn item_of(code: u8, s: Setting) -> Item
         return Item::Given(s);
     }
     Item::Refused(code)
+}
+
+// The number of an item, 0 where it is taken or absent.
+pub fn code_of(item: Item) -> u8
+    ensures { λ r. ⌜ r ≡ codeOf item ⌝ }
+{
+    match item {
+        Item::Absent => 0,
+        Item::Refused(code) => code,
+        Item::Given(_) => 0,
+    }
 }
 
 // The number held, or n while there is none.

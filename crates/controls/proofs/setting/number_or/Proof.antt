@@ -1,8 +1,8 @@
 use mathlib.Core.Path.{ap, sym}
 use borrow.Author.Needs.{needs}
 use Rattle.controls.specs.Settings.{numberOr}
-use Rattle.controls.proofs.settings.number_or.Statement.{statement}
-use Rattle.controls.proofs.settings.number_or.Tie as tie
+use Rattle.controls.proofs.setting.number_or.Statement.{statement}
+use Rattle.controls.proofs.setting.number_or.Tie as tie
 
 enum-told : tie.Need-enum-told
 enum-told c = search needs

@@ -1,0 +1,38 @@
+use mathlib.Core.Path.{ap, sym, _∙_}
+use borrow.Author.Needs.{needs}
+use Rattle.controls.specs.declared.setting.Item.{Item}
+use Rattle.settings.specs.Items.{givenOf, puts}
+use Rattle.settings.specs.Settings.{put}
+use Rattle.settings.proofs.settings.Settings.put_item.Statement.{statement}
+use Rattle.settings.proofs.settings.Settings.put_item.Tie as tie
+
+enum-told : tie.Need-enum-told
+enum-told c = search needs
+
+enum-told-2 : tie.Need-enum-told-2
+enum-told-2 c = search needs
+
+enum-known-item : tie.Need-enum-known-item
+enum-known-item c = search needs
+
+put-requires : tie.Need-put-requires
+put-requires c κs = search needs
+
+returns : tie.Need-returns
+unfolding givenOf puts
+returns c = sym (ap (λ (i : Item). puts (c .before .before .args .self) (givenOf i)) (c .enum-told .given .1))
+
+returns-2 : tie.Need-returns-2
+unfolding givenOf puts
+returns-2 c = sym (ap (λ (i : Item). puts (c .before .before .args .self) (givenOf i)) (c .enum-told2 .given .1))
+
+returns-3 : tie.Need-returns-3
+unfolding givenOf puts
+returns-3 c =
+    let i = c .before .before in
+    c .put .ensures ∙ sym (ap (λ (x : Item). puts (i .before .before .args .self) (givenOf x)) (i .item .given .1))
+
+pub put-item-spec : {M : Type 1} → statement M
+put-item-spec =
+    tie.close
+    (tie.spec enum-told enum-told-2 enum-known-item put-requires returns returns-2 returns-3)
