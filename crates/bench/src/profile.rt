@@ -1,11 +1,11 @@
 // The bench camera: unit 4 on interface 0, streaming. EV from -2 to 2 stops in every step, face authentication at 0x81 offering
 // D0 and D1, HDR without Auto, throttle from 5 to 100 in steps of 5; no metadata control.
 use camera::Camera;
-use camera::Profile;
 use controls::metadata::MetadataLimits;
 use controls::throttle::ThrottleLimits;
 use exposure::EvLimits;
 use face::FaceLimits;
+use settings::Profile;
 ghost use mathlib.Core.Path.{_≡_};
 ghost use Rattle.demands.specs.Bench.{benchProfile, bench};
 

@@ -5,7 +5,6 @@ use crate::words::octet;
 use crate::words::signed;
 use crate::words::word;
 use camera::Camera;
-use camera::Profile;
 use controls::EvSetting;
 use controls::Number;
 use controls::metadata::MetadataLimits;
@@ -15,6 +14,8 @@ use controls::throttle::ThrottleSetting;
 use exposure::Ev;
 use exposure::EvLimits;
 use face::FaceLimits;
+use settings::Profile;
+use settings::Settings;
 
 fn flag(w: &[u8]) -> bool {
     octet(w, 0) != 0
@@ -116,14 +117,17 @@ pub(crate) fn holding(camera: Camera, call: &[u8]) -> Camera {
     let metadata = held(word(call, 3));
     let hdr = held(word(call, 4));
     let throttle = throttle(word(call, 5));
-    Camera {
-        profile,
-        streaming: camera.streaming,
+    let settings = Settings {
         ev,
         face,
         metadata,
         hdr,
         throttle,
+    };
+    Camera {
+        profile,
+        streaming: camera.streaming,
+        settings,
     }
 }
 

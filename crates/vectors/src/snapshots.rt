@@ -30,6 +30,14 @@ fn form(call: &[u8]) {
     keys(s);
 }
 
+// How many bytes the record at the start has, if it has this key.
+fn passed(s: &[u8], key: usize) -> usize {
+    if snapshot::key_at(s, 0) == key {
+        return snapshot::size_of(key);
+    }
+    0
+}
+
 // A key's length, what is passed of it at the start, and the length of its record.
 fn key(call: &[u8]) {
     let mut bytes = [0u8; 256];
@@ -38,7 +46,7 @@ fn key(call: &[u8]) {
     let key = place(word(call, 1));
     print::text(b" =");
     print::count(snapshot::size_of(key));
-    print::count(snapshot::passed_at(s, 0, key));
+    print::count(passed(s, key));
     print::count(snapshot::record_of(s, key).len());
 }
 
