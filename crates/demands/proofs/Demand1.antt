@@ -7,12 +7,15 @@ use lib.Dec.{eqb}
 use lib.IntN.{pos}
 use lib.ListN.{length}
 use borrow.Author.Tests.{ne-eqb}
+use Rattle.wire.specs.Uvc.{malformedRecord}
 use Rattle.request.specs.Setup.{isSetRequest}
+use Rattle.request.proofs.Laws.Tests.{at-unformed}
+use Rattle.request.proofs.Theorems as requests
 use Rattle.exposure.specs.Ev.{compensation}
 use Rattle.camera.specs.declared.record.Camera.{Camera}
 use Rattle.camera.specs.declared.calls.Outcome.{Outcome}
 use Rattle.camera.specs.Record.{wellFormed}
-use Rattle.camera.specs.Requests.{requestRows, requestCode, refused, outcomeBy, requestDone, requested, replied}
+use Rattle.camera.specs.Requests.{table, requestCode, refused, outcomeBy, requestDone, requested}
 use Rattle.camera.specs.Snapshots.{loadCode, loaded, writeCode, written, writtenOut}
 use Rattle.camera.specs.Calls.{recordCode, streamed, sensed, Call, request, stream, load, write, sense, outcome}
 use Rattle.demands.specs.Demand1.{Unchanged}
@@ -35,10 +38,10 @@ done-code c s payload = go (isSetRequest s) _ _ refl refl
 
 -- every refusal, of every call, for all bytes and any record
 pub refusals : (c : Camera) (call : Call) → (outcome c call .code ≡ 0 → ⊥) → Unchanged c call
-unfolding requested replied loaded written writtenOut streamed sensed
+unfolding requested loaded written writtenOut streamed sensed
 refusals c (request s payload reply) n =
     let r = by-number (requestCode c s payload (length reply)) c (requestDone c s payload) (done-code c s payload) n in
-    record { count = ap (λ o. o .count) (r .1); camera = ap (λ o. o .camera) (r .1); buffer = rw (ne-eqb (requestCode c s payload (length reply)) 0 (r .0)) }
+    record { count = ap (λ o. o .count) (r .1); camera = ap (λ o. o .camera) (r .1); buffer = requests.refusals (table c) s payload reply (r .0) .buffer }
 refusals c (stream on) n =
     let r = by-number (recordCode c) c _ refl n in
     record { count = ap (λ o. o .count) (r .1); camera = ap (λ o. o .camera) (r .1); buffer = refl }
@@ -55,14 +58,14 @@ pub refused-sensor : (c : Camera) → (sensed c .code ≡ 0 → ⊥) → sensed 
 unfolding sensed
 refused-sensor c n = go (wellFormed c) n
   where
-    go : (w : Bool) → (cond {A = ℕ} w 0 0x21 ≡ 0 → ⊥) → cond w (compensation (c .profile .ev) (c .ev)) (pos 0) ≡ pos 0
+    go : (w : Bool) → (cond {A = ℕ} w 0 malformedRecord ≡ 0 → ⊥) → cond w (compensation (c .profile .ev) (c .settings .ev)) (pos 0) ≡ pos 0
     go true m = absurd (m refl)
     go false m = refl
 
 -- A record that is not well formed is refused 0x21, by every call that takes it.
-pub malformed-refused : (c : Camera) → wellFormed c ≡ false → (call : Call) → outcome c call .code ≡ 0x21
-unfolding requested requestCode requestRows streamed loaded loadCode written writeCode sensed
-malformed-refused c w (request s payload reply) = rw w
+pub malformed-refused : (c : Camera) → wellFormed c ≡ false → (call : Call) → outcome c call .code ≡ malformedRecord
+unfolding requested streamed loaded loadCode written writeCode sensed
+malformed-refused c w (request s payload reply) = rw (at-unformed (table c) s payload (length reply) w)
 malformed-refused c w (stream on) = rw w
 malformed-refused c w (load s) = rw w
 malformed-refused c w (write out) = rw w

@@ -2,13 +2,15 @@
 use mathlib.Core.Path.{_≡_, refl, ap, ap₂, sym, _∙_, subst}
 use mathlib.Core.List.{List, [], _∷_, _++_}
 use mathlib.Core.Option.{Option, none, some, Option·map}
-use mathlib.Core.Bool.{Bool, true, false, cond}
+use mathlib.Core.Bool.{Bool, true, not}
 use Prim.Native.Nat.{ℕ, _≤_}
-use native.Mathlib.Omega.{arith}
-use lib.Dec.{eqb}
-use lib.ListN.{length, drop}
-use borrow.Author.Tests.{eq-eqb, eqb-true, eqb-false, le-ltb}
-use Rattle.wire.specs.Rows.{firstOf}
+use lib.ListN.{length, take, drop}
+use lib.Seq.{take-at}
+use borrow.Author.Tests.{eq-eqb, le-ltb}
+use Rattle.wire.specs.Endpoints.{places}
+use Rattle.wire.specs.Rows.{_⇒_, firstOf}
+use Rattle.wire.specs.Uvc.{malformedRecord}
+use Rattle.wire.proofs.Laws.Rows.{quiet}
 use Rattle.snapshot.specs.Form as form
 use Rattle.snapshot.specs.Records.{decode}
 use Rattle.snapshot.specs.Merge.{over, merged}
@@ -21,23 +23,21 @@ use Rattle.snapshot.proofs.Laws.Answers as answers
 use Rattle.snapshot.proofs.Laws.Settings.{Rows, rows-append, snapshot-append}
 use Rattle.controls.specs.declared.setting.Setting.{Setting}
 use Rattle.controls.specs.Settings.{settingOf, codeOf}
-use Rattle.camera.specs.declared.profile.Profile.{Profile}
+use Rattle.settings.specs.declared.profile.Profile.{Profile}
+use Rattle.settings.specs.Profile.{profileValid}
 use Rattle.camera.specs.declared.record.Camera.{Camera}
 use Rattle.camera.specs.declared.calls.Outcome.{Outcome}
-use Rattle.camera.specs.Profile.{profileValid}
-use Rattle.camera.specs.Record.{fresh, held, wellFormed}
-use Rattle.camera.specs.Items.{puts}
-use Rattle.camera.specs.Requests.{refused}
+use Rattle.camera.specs.Record.{fresh, held, wellFormed, puts}
 use Rattle.camera.specs.Snapshots.{loadTests, loadCode, loadGives, loaded, itemFor, row, snapshot, writeCode, written, writtenOut}
 use Rattle.camera.specs.Calls.{Call, load}
 use Rattle.demands.specs.Lists.{gives, leaves, flagAfter, given, snapshotAfter, run}
-use Rattle.demands.specs.Records.{Ok, Typed, Written}
-use Rattle.demands.specs.Demand3.{MergesTo, Whole, Merges, Restores}
-use Rattle.demands.proofs.Laws.Held.{fresh-held}
+use Rattle.demands.specs.Records.{Ok, Typed, handed, Written}
+use Rattle.demands.specs.Demand3.{MergesTo, Whole, Merges, AcceptedInTurn, Restores}
+use Rattle.demands.proofs.Laws.Held.{none-held}
 use Rattle.camera.proofs.Laws.Record.{formed-profile}
 use Rattle.demands.proofs.Laws.Kept.{held-good}
 use Rattle.demands.proofs.Laws.Fits.{held-fitting}
-use Rattle.demands.proofs.Laws.Steps.{step, gives-good}
+use Rattle.demands.proofs.Laws.Steps.{step, outcome-code, gives-good, not-off}
 use Rattle.demands.proofs.Laws.Lists.{given-append, run-ok, fresh-ok, held-after, flag-after}
 use Rattle.demands.proofs.Laws.Records.{rows, held-rows, row-taken}
 use Rattle.demands.proofs.Laws.Loads.{Accepted, load-settings, load-accepted, accepted-load, merged-accepted, merged-settings}
@@ -57,16 +57,14 @@ module _ (c : Camera) (w : wellFormed c ≡ true) where
   unfolding snapshot
   snapshot-formed = encode-formed _ (held-rows c w)
 
--- the program's merge of two cameras' snapshots
-merges-to : (c d : Camera) (s : List ℕ) → wellFormed c ≡ true → wellFormed d ≡ true → s ≡ merged (snapshot c) (snapshot d) → MergesTo (snapshot c) (snapshot d) s
-merges-to c d s w v e =
-    let a = snapshot-formed c w in
-    let b = snapshot-formed d v in
-    let t : (out : List ℕ) → length s ≤ length out → Answer (snapshot c) (snapshot d) out 0 (length s) (s ++ drop (length s) out) =
-    λ out h. rw e (answers.accepted (snapshot c) (snapshot d) out a b (rw e at h)) in
+-- the program's merge of two snapshots in form
+merges-to : (a b s : List ℕ) → form.wellFormed a ≡ true → form.wellFormed b ≡ true → s ≡ merged a b → MergesTo a b s
+merges-to a b s w v e =
+    let t : (out : List ℕ) → length s ≤ length out → Answer a b out 0 (length s) (s ++ drop (length s) out) =
+    λ out h. rw e (answers.accepted a b out w v (rw e at h)) in
     record {
-      first-formed = a;
-      second-formed = b;
+      first-formed = w;
+      second-formed = v;
       code = λ out h. sym (t out h .0);
       count = λ out h. sym (t out h .1 .0);
       buffer = λ out h. sym (t out h .1 .1);
@@ -105,7 +103,7 @@ module _ (p : Profile) (v : profileValid p ≡ true) where
         is-snapshot = s;
         is-written = λ out h. subst (λ l. Written (run (fresh p f) (xs ++ ys)) l out) s (writes (run (fresh p f) (xs ++ ys)) out w (rw s h));
         is-merged = m;
-        is-merge = merges-to first second _ (formed f xs) (formed (first .streaming) ys) m;
+        is-merge = merges-to _ _ _ (snapshot-formed first (formed f xs)) (snapshot-formed second (formed (first .streaming) ys)) m;
       }
 
 -- what an accepted load says of the camera and of the snapshot
@@ -115,29 +113,22 @@ record Load (c : Camera) (s : List ℕ) : Type 0 where
 
 load-says : (c : Camera) (s : List ℕ) → loaded c s .code ≡ 0 → Load c s
 unfolding loaded loadCode
-load-says c s e = go (wellFormed c) refl (eqb (loadCode c s) 0) refl e
-  where
-    no : Outcome
-    no = refused (loadCode c s) c
-
-    done : Outcome
-    done = record { code = 0; count = 0; camera = puts c (loadGives (c .profile) (c .streaming) s) }
-
-    go : (w : Bool) → wellFormed c ≡ w → (b : Bool) → eqb (loadCode c s) 0 ≡ b → cond b done no .code ≡ 0 → Load c s
-    go true q true r z = record { formed = q; tests = rw q at (eqb-true (loadCode c s) 0 r) }
-    go w q false r z = absurd (eqb-false (loadCode c s) 0 r z)
-    go false q true r z = let k : _≡_ {A = ℕ} 0x21 0 = rw q at (eqb-true (loadCode c s) 0 r) in absurd (omega arith)
+load-says c s e =
+    let done : Outcome = record { code = 0; count = 0; camera = puts c (loadGives (c .profile) (c .streaming) s) } in
+    let z = sym (outcome-code (loadCode c s) c done refl) ∙ e in
+    let q = quiet ((not (wellFormed c) ⇒ malformedRecord) ∷ []) (loadTests (c .profile) (c .streaming) s) refl z in
+    record { formed = not-off (wellFormed c) (q .0 .0); tests = q .1 }
 
 says-load : (c : Camera) (s : List ℕ) → Load c s → loaded c s .code ≡ 0
 unfolding loaded loadCode
 says-load c s l = rw (l .formed, eq-eqb (firstOf (loadTests (c .profile) (c .streaming) s)) 0 (l .tests))
 
 -- a record as the steps take it
-record-ok : (c : Camera) → wellFormed c ≡ true → length (c .face) ≡ 15 → Ok (c .profile) c
+record-ok : (c : Camera) → wellFormed c ≡ true → length (c .settings .face) ≡ places → Ok (c .profile) c
 record-ok c w h = record { profile = refl; formed = w; places = h }
 
 -- what an accepted load leaves
-module _ (c : Camera) (w : wellFormed c ≡ true) (h : length (c .face) ≡ 15) (s : List ℕ) (l : Load c s) where
+module _ (c : Camera) (w : wellFormed c ≡ true) (h : length (c .settings .face) ≡ places) (s : List ℕ) (l : Load c s) where
   load-step : Ok (c .profile) (loaded c s .camera)
   load-step = step (c .profile) c (record-ok c w h) (load s) .ok
 
@@ -149,7 +140,7 @@ module _ (c : Camera) (w : wellFormed c ≡ true) (h : length (c .face) ≡ 15) 
   load-held k = step (c .profile) c (record-ok c w h) (load s) .held-after k ∙ rw (eq-eqb (firstOf (loadTests (c .profile) (c .streaming) s)) 0 (l .tests))
 
 -- whichever two snapshots a camera accepts: their merge leaves the same camera as the two in turn
-pub load-merged : (c : Camera) → length (c .face) ≡ 15 → (a b : List ℕ) → loaded c a .code ≡ 0 → loaded c b .code ≡ 0 → Merges c a b
+pub load-merged : (c : Camera) → length (c .settings .face) ≡ places → (a b : List ℕ) → loaded c a .code ≡ 0 → loaded c b .code ≡ 0 → Merges c a b
 load-merged c h a b ea eb =
     let la = load-says c a ea in
     let lb = load-says c b eb in
@@ -164,6 +155,7 @@ load-merged c h a b ea eb =
     let st = load-streaming c w h a la in
     let lt : Load d b = record { formed = o .formed; tests = rw (o .profile, st) (lb .tests) } in
     record {
+      merge = merges-to a b _ (x .formed) (y .formed) refl;
       merge-accepted = says-load c (merged a b) lm;
       turn-accepted = says-load d b lt;
       same = record {
@@ -177,32 +169,57 @@ load-merged c h a b ea eb =
       };
     }
 
+-- the second accepted after the first: the camera in between has the profile and the flag of the one before, by which acceptance goes
+pub load-in-turn : (c : Camera) → length (c .settings .face) ≡ places → (a b : List ℕ) → loaded c a .code ≡ 0 → loaded (loaded c a .camera) b .code ≡ 0
+    → AcceptedInTurn c a b
+load-in-turn c h a b ea eb =
+    let la = load-says c a ea in
+    let w = la .formed in
+    let o = load-step c w h a la in
+    let lb = load-says (loaded c a .camera) b eb in
+    let l : Load c b = record { formed = w; tests = rw (o .profile, load-streaming c w h a la) at (lb .tests) } in
+    let z = says-load c b l in
+    record { second-accepted = z; merges = load-merged c h a b ea z }
+
 -- the record of what a well-formed camera holds of a key
 module _ (c : Camera) (w : wellFormed c ≡ true) (t : Typed c) where
   pub written-item : (k : ℕ) (o : Option Setting) → held c k ≡ o → settingOf (itemFor (c .profile) true k (Option·map (row k) o)) ≡ o
   unfolding itemFor
   written-item k none e = refl
-  written-item k (some s) e = let g = held-good c w k s e in ap settingOf (row-taken (c .profile) k s (held-fitting c w t k s e) (g .0) (g .1))
+  written-item k (some s) e = let g = held-good (c .profile) (c .settings) w k s e in ap settingOf (row-taken (c .profile) k s (held-fitting c w t k s e) (g .0) (g .1))
 
   written-code : (k : ℕ) (o : Option Setting) → held c k ≡ o → codeOf (itemFor (c .profile) true k (Option·map (row k) o)) ≡ 0
   unfolding itemFor codeOf
   written-code k none e = refl
-  written-code k (some s) e = let g = held-good c w k s e in ap codeOf (row-taken (c .profile) k s (held-fitting c w t k s e) (g .0) (g .1))
+  written-code k (some s) e = let g = held-good (c .profile) (c .settings) w k s e in ap codeOf (row-taken (c .profile) k s (held-fitting c w t k s e) (g .0) (g .1))
+
+-- the bytes that writing hands over are the snapshot
+handed-snapshot : (c : Camera) (out : List ℕ) → wellFormed c ≡ true → length (snapshot c) ≤ length out → handed c out ≡ snapshot c
+handed-snapshot c out w h =
+    let r = writes c out w h in
+    ap₂ take (ap (λ o. o .count) (r .outcome)) (r .buffer) ∙ take-at (snapshot c) (drop (length (snapshot c)) out) (length (snapshot c)) refl
 
 -- a fresh streaming camera accepts every snapshot that a camera of its profile wrote, and then holds the settings that camera held
-pub load-written : (c : Camera) → wellFormed c ≡ true → Typed c → Restores c
-unfolding fresh
-load-written c w t =
-    let p = c .profile in
-    let m : ℕ → Option (List ℕ) = λ k. Option·map (row k) (held c k) in
-    let d : decode (snapshot c) ≡ m = snapshot-decodes c w in
-    let x : Accepted p true (snapshot c) = record { formed = snapshot-formed c w; each = λ k. rw d (written-code c w t k (held c k) refl) } in
-    let o = fresh-ok p (formed-profile c w) true in
-    let l : Load (fresh p true) (snapshot c) = record { formed = o .formed; tests = accepted-load p true (snapshot c) x } in
-    record {
-      accepted = says-load (fresh p true) (snapshot c) l;
-      restored = λ k.
-          load-held (fresh p true) (o .formed) (o .places) (snapshot c) l k
-          ∙ ap₂ over (fresh-held p true k) (load-settings p true (snapshot c) k ∙ ap (λ f. settingOf (itemFor p true k (f k))) d ∙ written-item c w t k (held c k) refl)
-          ∙ over-none (held c k);
-    }
+module _ (c : Camera) (w : wellFormed c ≡ true) (t : Typed c) where
+  abbrev p : Profile
+  p = c .profile
+
+  rows-accepted : Accepted p true (snapshot c)
+  rows-accepted = record { formed = snapshot-formed c w; each = λ k. rw (snapshot-decodes c w) (written-code c w t k (held c k) refl) }
+
+  loads : Load (fresh p true) (snapshot c)
+  loads = record { formed = fresh-ok p (formed-profile c w) true .formed; tests = accepted-load p true (snapshot c) rows-accepted }
+
+  restores : (k : ℕ) → held (loaded (fresh p true) (snapshot c) .camera) k ≡ held c k
+  restores k =
+      let o = fresh-ok p (formed-profile c w) true in
+      load-held (fresh p true) (o .formed) (o .places) (snapshot c) loads k
+      ∙ ap₂ over (none-held k) (load-settings p true (snapshot c) k ∙ ap (λ f. settingOf (itemFor p true k (f k))) (snapshot-decodes c w) ∙ written-item c w t k (held c k) refl)
+      ∙ over-none (held c k)
+
+  pub load-written : Restores c
+  load-written = record {
+    written = λ out h. writes c out w h;
+    accepted = λ out h. ap (λ s. loaded (fresh p true) s .code) (handed-snapshot c out w h) ∙ says-load (fresh p true) (snapshot c) loads;
+    restored = λ out h k. ap (λ s. held (loaded (fresh p true) s .camera) k) (handed-snapshot c out w h) ∙ restores k;
+  }

@@ -8,21 +8,24 @@ use lib.Dec.{eqb}
 use lib.ListN.{drop}
 use borrow.Author.Tests.{eq-eqb, eqb-false}
 use Rattle.wire.specs.Rows.{firstOf}
+use Rattle.request.specs.Tests as tests
 use Rattle.snapshot.specs.Form as form
 use Rattle.snapshot.specs.Records.{decode, GoodAt, Record, Entry, recordsOf}
 use Rattle.snapshot.specs.Records as records
 use Rattle.snapshot.proofs.Laws.Maps.{decode-good}
 use Rattle.snapshot.proofs.Laws.Entries.{entryAt, entries, records-entries}
 use Rattle.controls.specs.declared.setting.Setting.{Setting}
-use Rattle.controls.specs.Settings.{codeOf}
-use Rattle.camera.specs.declared.profile.Profile.{Profile}
+use Rattle.controls.specs.Settings.{codeOf, firstRefusal}
+use Rattle.settings.specs.declared.profile.Profile.{Profile}
+use Rattle.settings.specs.Profile.{profileValid}
+use Rattle.settings.specs.Settings.{kept}
+use Rattle.settings.specs.Items as items
+use Rattle.settings.specs.Items.{givenOf, allGiven}
+use Rattle.settings.proofs.Laws.Items.{puts-append}
 use Rattle.camera.specs.declared.record.Camera.{Camera}
-use Rattle.camera.specs.Profile.{profileValid}
-use Rattle.camera.specs.Record.{held, kept, wellFormed}
-use Rattle.camera.specs.Items.{givenOf, firstRefusal, allGiven, puts}
+use Rattle.camera.specs.Record.{held, wellFormed, puts, withSettings}
 use Rattle.camera.specs.Snapshots.{itemFor, loadItem, loadTests, loadGives, loaded, row}
 use Rattle.camera.specs.Calls.{request, load, next}
-use Rattle.camera.proofs.Laws.Items.{puts-append}
 use Rattle.camera.proofs.Laws.Record.{formed-profile}
 use Rattle.demands.specs.Lists.{gives, given, run}
 use Rattle.demands.specs.Records.{Ok, Typed}
@@ -64,6 +67,7 @@ module _ (p : Profile) (v : profileValid p ≡ true) (f : Bool) (m : ℕ → Opt
 -- no fault is every SET's acceptance
 module _ (p : Profile) (f : Bool) where
   fault-none : (l : List Entry) → firstFault p f l ≡ 0 → EachAccepted p f l
+  unfolding tests.setAccepted
   fault-none [] e = tt
   fault-none (x ∷ l) e = go (eqb (setCode p f (x .0) (x .1)) 0) refl e (fault-none l)
     where
@@ -73,12 +77,13 @@ module _ (p : Profile) (f : Bool) where
       go false q z ih = absurd (eqb-false _ 0 q z)
 
   none-fault : (l : List Entry) → EachAccepted p f l → firstFault p f l ≡ 0
+  unfolding tests.setAccepted
   none-fault [] a = refl
-  none-fault (x ∷ l) a = rw (a .0) (none-fault l (a .1))
+  none-fault (x ∷ l) a = let q : eqb (setCode p f (x .0) (x .1)) 0 ≡ true = a .0 in rw q (none-fault l (a .1))
 
 -- SETs one after the other put in what they give
 run-sets : (p : Profile) (c : Camera) → Ok p c → (l : List Entry) → run c (setsOf p l) ≡ puts c (given p (c .streaming) (setsOf p l))
-unfolding puts
+unfolding items.puts
 run-sets p c o [] = refl
 run-sets p c o (e ∷ l) =
     let call = request (setOf p (e .0) (e .1)) (drop 4 (e .1)) [] in
@@ -87,7 +92,7 @@ run-sets p c o (e ∷ l) =
     request-next c (setOf p (e .0) (e .1)) (drop 4 (e .1)) [] (o .formed) ∙ ap (λ q. puts c (gives q (c .streaming) call)) (o .profile) in
     run-sets p (next c call) (s .ok) l
     ∙ ap₂ (λ b f. puts b (given p f (setsOf p l))) d (s .streaming-after)
-    ∙ sym (puts-append c (gives p (c .streaming) call) (given p (c .streaming) (setsOf p l)))
+    ∙ ap (withSettings c) (sym (puts-append (c .settings) (gives p (c .streaming) call) (given p (c .streaming) (setsOf p l))))
 
 -- a snapshot without a form fault, on a camera that is not refused 0x21
 module _ (c : Camera) (o : Ok (c .profile) c) (s : List ℕ) (w : form.wellFormed s ≡ true) where
@@ -97,8 +102,8 @@ module _ (c : Camera) (o : Ok (c .profile) c) (s : List ℕ) (w : form.wellForme
       let p = c .profile in
       let f = c .streaming in
       load-answer c s (o .formed)
-      ∙ rw w (sets.row-number (firstRefusal 19 0 (loadItem p f s)))
-      ∙ sym (ap (firstFault p f) (records-entries s w) ∙ fault-entries p (formed-profile c (o .formed)) f (decode s) (decode-good s) 19 0)
+      ∙ rw w (sets.row-number (firstRefusal form.keys 0 (loadItem p f s)))
+      ∙ sym (ap (firstFault p f) (records-entries s w) ∙ fault-entries p (formed-profile c (o .formed)) f (decode s) (decode-good s) form.keys 0)
 
   load-given : loaded c s .code ≡ 0 → gives (c .profile) (c .streaming) (load s) ≡ given (c .profile) (c .streaming) (setsOf (c .profile) (recordsOf s))
   unfolding gives loadGives
@@ -106,7 +111,7 @@ module _ (c : Camera) (o : Ok (c .profile) c) (s : List ℕ) (w : form.wellForme
       let p = c .profile in
       let f = c .streaming in
       rw (eq-eqb (firstOf (loadTests p f s)) 0 (sym (load-answer c s (o .formed)) ∙ e))
-      (sym (ap (λ l. given p f (setsOf p l)) (records-entries s w) ∙ given-entries p (formed-profile c (o .formed)) f (decode s) (decode-good s) 19 0))
+      (sym (ap (λ l. given p f (setsOf p l)) (records-entries s w) ∙ given-entries p (formed-profile c (o .formed)) f (decode s) (decode-good s) form.keys 0))
 
   pub load-counts : CountsAsSets c s
   load-counts = record {
@@ -122,7 +127,7 @@ module _ (c : Camera) (v : profileValid (c .profile) ≡ true) where
   own-given : wellFormed c ≡ true → Typed c → (k : ℕ) (s : Setting) → held c k ≡ some s → OwnSet (c .profile) k s
   unfolding givenOf
   own-given w t k s e =
-      let g = held-good c w k s e in
+      let g = held-good (c .profile) (c .settings) w k s e in
       record-as-set (c .profile) v true k (row k s) (row-record k s (g .0) (g .1 .proper)) .settings []
       ∙ ap givenOf (row-taken (c .profile) k s (held-fitting c w t k s e) (g .0) (g .1))
       ∙ ap (λ (j : ℕ). (j, s) ∷ []) (g .0)
@@ -136,7 +141,7 @@ module _ (c : Camera) (v : profileValid (c .profile) ≡ true) where
   unfolding kept
   own-sets t = record {
     formed-sets = λ w. own-given w t;
-    sets-formed = λ h. kept-formed c v (λ k. go k (held c k) (h k));
+    sets-formed = λ h. kept-formed (c .profile) (c .settings) v (λ k. go k (held c k) (h k));
   }
     where
       go : (k : ℕ) (o : Option Setting) → ((s : Setting) → o ≡ some s → OwnSet (c .profile) k s) → kept (c .profile) o ≡ true

@@ -3,17 +3,17 @@ use mathlib.Core.Path.{_≡_, refl}
 use mathlib.Core.List.{map}
 use Rattle.wire.specs.Number.{number, leAt, bytesOf}
 use Rattle.wire.specs.Flags.{isSet, bitsOf, count, first, choiceOf}
-use Rattle.request.specs.Tests.{requestTests}
-use Rattle.controls.specs.Settings.{itemOf, codeOf}
+use Rattle.request.specs.Tests.{requestTests, valueTests, requestRows, requestCode}
+use Rattle.controls.specs.Settings.{itemOf, codeOf, firstRefusal}
 use Rattle.exposure.specs.Ev.{signed32, bits32, inRange, refusalAt, evRefusal, evItem, evBytes, scaledAt, scaledOf, compensation}
 use Rattle.face.specs.Face.{allBelow, addressBefore, endpointValid, faceValid}
 use Rattle.controls.specs.Hdr.{hdrRefusal, hdrItem}
 use Rattle.controls.specs.Throttle.{throttleRefusal, throttleItem, throttleBytes}
 use Rattle.snapshot.specs.Records.{records, encode}
-use Rattle.camera.specs.Profile.{presenceValid, profileValid}
-use Rattle.camera.specs.Record.{fresh, held, put, valueRefusal, controlRefusal, kept, wellFormed}
-use Rattle.camera.specs.Items.{givenOf, firstRefusal, allGiven, puts, itemAt, setRefusal, setGives}
-use Rattle.camera.specs.Requests.{valueTests, requestRows, requestCode, requestDone, requested}
+use Rattle.settings.specs.Profile.{presenceValid, profileValid, controlRefusal}
+use Rattle.settings.specs.Settings.{noSettings, held, put, valueRefusal, kept, wellFormed}
+use Rattle.settings.specs.Items.{givenOf, allGiven, puts, itemAt, setRefusal, setGives}
+use Rattle.camera.specs.Requests.{requestDone, requested}
 use Rattle.camera.specs.Snapshots.{row, snapshot}
 use Rattle.camera.specs.Calls.{sensed}
 use Rattle.frame.specs.Ids.{isKnown}
@@ -26,7 +26,7 @@ table-holds : map defined rows ≡ map written rows
 unfolding benchProfile number leAt bytesOf isSet bitsOf count first choiceOf requestTests itemOf
     signed32 bits32 inRange refusalAt evRefusal evItem evBytes scaledAt scaledOf compensation
     allBelow addressBefore endpointValid faceValid hdrRefusal hdrItem throttleRefusal throttleItem throttleBytes
-    records encode presenceValid profileValid fresh held put valueRefusal controlRefusal kept wellFormed
+    records encode presenceValid profileValid noSettings held put valueRefusal controlRefusal kept wellFormed
     codeOf givenOf firstRefusal allGiven puts itemAt setRefusal setGives
     valueTests requestRows requestCode requestDone requested row snapshot sensed
     isKnown refusal headOf itemsIn itemsFrom itemsOf answers.itemAt answers.itemOf answers.countOf answers.payloadOf

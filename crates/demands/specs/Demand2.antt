@@ -1,5 +1,5 @@
 -- What the owner's demand 2 says of the camera: new settings, the sensor's number, GET_CUR, LEN, and what is written reads back.
-use Prim.Native.Nat.{ℕ, _+_, _-_, _*_, _/_, _^_, _≤_, _<_, min}
+use Prim.Native.Nat.{ℕ, _+_, _*_, _/_, _^_, _≤_, _<_, min}
 use mathlib.Core.Path.{_≡_}
 use mathlib.Core.List.{List, [], _∷_, _++_}
 use mathlib.Core.Option.{none, some, Option·map}
@@ -7,7 +7,10 @@ use mathlib.Core.Bool.{true, cond}
 use lib.Dec.{eqb}
 use lib.IntN.{pos, _*ℤ_}
 use lib.ListN.{length, getD, take, drop}
+use Rattle.wire.specs.Endpoints.{firstAddress}
 use Rattle.wire.specs.Number.{bytesOf}
+use Rattle.wire.specs.Selectors as selector
+use Rattle.wire.specs.Uvc.{getCur, getDef, getLen}
 use Rattle.wire.specs.Flags.{choiceOf}
 use Rattle.wire.specs.declared.flags.Choice.the-variants.{At}
 use Rattle.request.specs.Setup.{valueLow, selectorOf, wLengthOf, isGetRequest}
@@ -24,10 +27,11 @@ use Rattle.exposure.specs.Ev.{divisor, evBytes}
 use Rattle.face.specs.Face.{endpoints, addressAt, entryAddress, entryFlags, entryOf, heldAt, flagsAt}
 use Rattle.controls.specs.Throttle.{throttleBytes}
 use Rattle.controls.specs.Settings.{settingOf}
-use Rattle.camera.specs.declared.profile.Profile.{Profile}
+use Rattle.settings.specs.declared.profile.Profile.{Profile}
+use Rattle.settings.specs.Selectors.{Control}
+use Rattle.settings.specs.Profile.{has, takes}
+use Rattle.settings.specs.Settings.{keyOf}
 use Rattle.camera.specs.declared.record.Camera.{Camera}
-use Rattle.camera.specs.Selectors.{Control}
-use Rattle.camera.specs.Profile.{has, takes, table}
 use Rattle.camera.specs.Record.{held}
 use Rattle.camera.specs.Requests.{answerOf}
 use Rattle.camera.specs.Snapshots.{loadItem, row, snapshot}
@@ -56,8 +60,8 @@ pub record Twelfths (c : Camera) (s : EvSetting) : Type 0 where
 -- What the sensor is handed, exactly; 0 while no setting is held.
 pub record SensorExact (c : Camera) : Type 0 where
   pub code : sensed c .code ≡ 0
-  pub held : (s : EvSetting) → c .ev ≡ E.Held s → Twelfths c s
-  pub unset : c .ev ≡ E.Unset → sensed c .value ≡ pos 0
+  pub held : (s : EvSetting) → c .settings .ev ≡ E.Held s → Twelfths c s
+  pub unset : c .settings .ev ≡ E.Unset → sensed c .value ≡ pos 0
 
 -- the eight bytes of entry i, in a payload as in an answer that lists every endpoint
 abbrev pub entryBytes : List ℕ → ℕ → List ℕ
@@ -66,14 +70,16 @@ entryBytes s i = take 8 (drop (1 + 8 * i) s)
 -- CUR is the setting held, control by control: the full answer to GET_CUR is its bytes, behind a throttle's the profile's limits. Of face
 -- authentication an endpoint's entry has the setting held of its address, or is DEF's while there is none.
 pub record CurrentIsHeld (c : Camera) : Type 0 where
-  pub of-ev : (s : EvSetting) → held c 0 ≡ some (S.Ev s) → answerOf c 0x03 0x81 ≡ evBytes s
+  pub of-ev : (s : EvSetting) → held c (keyOf (S.Ev s)) ≡ some (S.Ev s) → answerOf c selector.ev getCur ≡ evBytes s
   pub of-face : (j flags : ℕ) → j < endpoints (c .profile .face) → let address = addressAt (c .profile .face) j in
-      held c (address - 0x80) ≡ some (S.Face address flags) → entryBytes (answerOf c 0x06 0x81) j ≡ entryOf address flags
-  pub of-unset-face : (j : ℕ) → j < endpoints (c .profile .face) → has (c .profile) 0x06 ≡ true → held c (addressAt (c .profile .face) j - 0x80) ≡ none
-      → entryBytes (answerOf c 0x06 0x81) j ≡ entryBytes (answerOf c 0x06 0x87) j
-  pub of-metadata : (n : ℕ) → held c 16 ≡ some (S.Metadata n) → answerOf c 0x09 0x81 ≡ bytesOf 4 n
-  pub of-hdr : (n : ℕ) → held c 17 ≡ some (S.Hdr n) → answerOf c 0x0D 0x81 ≡ bytesOf 4 n
-  pub of-throttle : (s : ThrottleSetting) → held c 18 ≡ some (S.Throttle s) → answerOf c 0x0E 0x81 ≡ throttleBytes s (c .profile .throttle)
+      held c (keyOf (S.Face address flags)) ≡ some (S.Face address flags) → entryBytes (answerOf c selector.face getCur) j ≡ entryOf address flags
+  pub of-unset-face : (j : ℕ) → j < endpoints (c .profile .face) → has (c .profile) selector.face ≡ true
+      → held c (form.keyFor selector.face (addressAt (c .profile .face) j)) ≡ none
+      → entryBytes (answerOf c selector.face getCur) j ≡ entryBytes (answerOf c selector.face getDef) j
+  pub of-metadata : (n : ℕ) → held c (keyOf (S.Metadata n)) ≡ some (S.Metadata n) → answerOf c selector.metadata getCur ≡ bytesOf 4 n
+  pub of-hdr : (n : ℕ) → held c (keyOf (S.Hdr n)) ≡ some (S.Hdr n) → answerOf c selector.hdr getCur ≡ bytesOf 4 n
+  pub of-throttle : (s : ThrottleSetting) → held c (keyOf (S.Throttle s)) ≡ some (S.Throttle s)
+      → answerOf c selector.throttle getCur ≡ throttleBytes s (c .profile .throttle)
 
 -- Two cameras that answer alike: what each call answers and leaves of the record, the lent bytes, and the sensor's number.
 pub record SameAnswers (c d : Camera) : Type 0 where
@@ -83,38 +89,42 @@ pub record SameAnswers (c d : Camera) : Type 0 where
 
 -- LEN of face authentication: the longest payload, which one that names every endpoint has.
 pub record FaceLength (c : Camera) : Type 0 where
-  pub answer : answerOf c 0x06 0x85 ≡ bytesOf 2 (1 + 8 * endpoints (c .profile .face))
-  pub longest : (payload : List ℕ) → takes (c .profile) 0x06 payload ≤ 1 + 8 * endpoints (c .profile .face)
-  pub reached : (rest : List ℕ) → takes (c .profile) 0x06 (c .profile .face .count ∷ rest) ≡ 1 + 8 * endpoints (c .profile .face)
+  pub answer : answerOf c selector.face getLen ≡ bytesOf 2 (1 + 8 * endpoints (c .profile .face))
+  pub longest : (payload : List ℕ) → takes (c .profile) selector.face payload ≤ 1 + 8 * endpoints (c .profile .face)
+  pub reached : (rest : List ℕ) → takes (c .profile) selector.face (c .profile .face .count ∷ rest) ≡ 1 + 8 * endpoints (c .profile .face)
 
 -- the full answer to GET_CUR once a payload is set: its bytes, but for a throttle's last twelve, which are the profile's limits
 abbrev pub bytesBack : Profile → ℕ → List ℕ → List ℕ
-bytesBack p selector payload =
-    cond (eqb selector 0x0E) (take 8 payload ++ bytesOf 4 (p .throttle .minimum) ++ bytesOf 4 (p .throttle .maximum) ++ bytesOf 4 (p .throttle .step)) payload
+bytesBack p control payload =
+    cond (eqb control selector.throttle)
+    (take 8 payload ++ bytesOf 4 (p .throttle .minimum) ++ bytesOf 4 (p .throttle .maximum) ++ bytesOf 4 (p .throttle .step))
+    payload
 
 -- What an accepted SET of face authentication makes of the record c: d.
 pub record FaceReadsBack (c d : Camera) (payload : List ℕ) : Type 0 where
   -- the setting held of each entry's address is the entry's
-  pub entries : (i : ℕ) → i < getD payload 0 0 → heldAt (d .face) (entryAddress payload i) ≡ entryFlags payload i
+  pub entries : (i : ℕ) → i < getD payload 0 0 → heldAt (d .settings .face) (entryAddress payload i) ≡ entryFlags payload i
   -- an endpoint has that address
   pub place : (i : ℕ) → i < getD payload 0 0 → (j : ℕ) × ((j < endpoints (c .profile .face)) × (addressAt (c .profile .face) j ≡ entryAddress payload i))
   -- and GET_CUR lists it with the entry's flags: the eight bytes that were set
-  pub listed : (i j : ℕ) → i < getD payload 0 0 → addressAt (c .profile .face) j ≡ entryAddress payload i → flagsAt (c .profile .face) (d .face) 0x81 j ≡ entryFlags payload i
+  pub listed : (i j : ℕ) → i < getD payload 0 0 → addressAt (c .profile .face) j ≡ entryAddress payload i
+      → flagsAt (c .profile .face) (d .settings .face) getCur j ≡ entryFlags payload i
   pub bytes : (i j : ℕ) → i < getD payload 0 0 → j < endpoints (c .profile .face) → addressAt (c .profile .face) j ≡ entryAddress payload i
-      → entryBytes (answerOf d 0x06 0x81) j ≡ entryBytes payload i
+      → entryBytes (answerOf d selector.face getCur) j ≡ entryBytes payload i
   -- an address that no entry names keeps its setting, and its endpoint's entry in GET_CUR's answer is as it was
-  pub others : (address : ℕ) → 0x81 ≤ address → ((i : ℕ) → i < getD payload 0 0 → entryAddress payload i ≡ address → ⊥) → heldAt (d .face) address ≡ heldAt (c .face) address
+  pub others : (address : ℕ) → firstAddress ≤ address → ((i : ℕ) → i < getD payload 0 0 → entryAddress payload i ≡ address → ⊥)
+      → heldAt (d .settings .face) address ≡ heldAt (c .settings .face) address
   pub unnamed : (j : ℕ) → j < endpoints (c .profile .face) → ((i : ℕ) → i < getD payload 0 0 → entryAddress payload i ≡ addressAt (c .profile .face) j → ⊥)
-      → entryBytes (answerOf d 0x06 0x81) j ≡ entryBytes (answerOf c 0x06 0x81) j
+      → entryBytes (answerOf d selector.face getCur) j ≡ entryBytes (answerOf c selector.face getCur) j
   -- no entries set nothing
   pub empty : getD payload 0 0 ≡ 0 → d ≡ c
 
 -- What an accepted SET of a control makes of the record c: d, whose full answer to GET_CUR is the bytes that were set; a throttle's last twelve
 -- are the profile's limits.
-pub record ReadsBack (c d : Camera) (selector : ℕ) (payload : List ℕ) : Type 0 where
-  pub known : Control selector
-  pub answer : (selector ≡ 0x06 → ⊥) → answerOf d selector 0x81 ≡ bytesBack (c .profile) selector payload
-  pub of-face : selector ≡ 0x06 → FaceReadsBack c d payload
+pub record ReadsBack (c d : Camera) (control : ℕ) (payload : List ℕ) : Type 0 where
+  pub known : Control control
+  pub answer : (control ≡ selector.face → ⊥) → answerOf d control getCur ≡ bytesBack (c .profile) control payload
+  pub of-face : control ≡ selector.face → FaceReadsBack c d payload
 
 -- What is sent of a full answer: the first min(wLength, full length) bytes, reported and at the buffer's start; the rest of the buffer and the
 -- record are as they were.
@@ -126,7 +136,7 @@ pub record Sends (c : Camera) (s payload reply full : List ℕ) : Type 0 where
 -- A GET's setup for a control of the profile; with no payload and room it is accepted.
 pub record Gets (p : Profile) (s : List ℕ) : Type 0 where
   pub eight : length s ≡ 8
-  pub addresses : addressed (table p) s ≡ true
+  pub addresses : addressed (p .unit) (p .interface) s ≡ true
   pub present : has p (selectorOf s) ≡ true
   pub low : valueLow s ≡ 0
   pub get : isGetRequest s ≡ true

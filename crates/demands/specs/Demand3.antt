@@ -6,13 +6,13 @@ use mathlib.Core.Bool.{Bool, true}
 use lib.ListN.{length, drop}
 use Rattle.snapshot.specs.Form as form
 use Rattle.snapshot.specs.Merge.{merged, mergeCode, mergeLen, mergeOut}
-use Rattle.camera.specs.declared.profile.Profile.{Profile}
+use Rattle.settings.specs.declared.profile.Profile.{Profile}
 use Rattle.camera.specs.declared.record.Camera.{Camera}
 use Rattle.camera.specs.Record.{fresh, held, wellFormed}
 use Rattle.camera.specs.Snapshots.{loaded, snapshot}
 use Rattle.camera.specs.Calls.{Call}
 use Rattle.demands.specs.Lists.{flagAfter, settings, snapshotAfter, run}
-use Rattle.demands.specs.Records.{Written, Same}
+use Rattle.demands.specs.Records.{handed, Written, Same}
 
 -- The program's merge of the snapshots a and b is s: both are well formed, and with room for s it is accepted, reports the length of s, and
 -- leaves s at the buffer's start and every byte behind it as it was.
@@ -44,13 +44,24 @@ pub record Whole (p : Profile) (streaming : Bool) (xs ys : List Call) : Type 0 w
       let second = run (fresh p (first .streaming)) ys in
       MergesTo (snapshot first) (snapshot second) (snapshot (run (fresh p streaming) (xs ++ ys)))
 
--- Demand 3 on two snapshots that a camera accepts: it accepts their merge, which leaves the same camera as the two in turn.
+-- Demand 3 on two snapshots that a camera accepts: it accepts their merge, as the program's merge gives it, which leaves the same camera as
+-- the two in turn.
 pub record Merges (c : Camera) (a b : List ℕ) : Type 0 where
+  pub merge : MergesTo a b (merged a b)
   pub merge-accepted : loaded c (merged a b) .code ≡ 0
   pub turn-accepted : loaded (loaded c a .camera) b .code ≡ 0
   pub same : Same (loaded c (merged a b) .camera) (loaded (loaded c a .camera) b .camera)
 
--- Demand 3 on a snapshot that a camera wrote: a fresh streaming camera of its profile accepts it, and then holds its settings.
+-- The same where the second is accepted after the first. Acceptance goes by profile and flag, which loading keeps: so the camera accepts
+-- the second as well.
+pub record AcceptedInTurn (c : Camera) (a b : List ℕ) : Type 0 where
+  pub second-accepted : loaded c b .code ≡ 0
+  pub merges : Merges c a b
+
+-- Demand 3 on a snapshot that a camera wrote into a buffer with room for it: a fresh streaming camera of its profile accepts the bytes that
+-- writing handed over, and then holds its settings.
 pub record Restores (c : Camera) : Type 0 where
-  pub accepted : loaded (fresh (c .profile) true) (snapshot c) .code ≡ 0
-  pub restored : (k : ℕ) → held (loaded (fresh (c .profile) true) (snapshot c) .camera) k ≡ held c k
+  pub written : (out : List ℕ) → length (snapshot c) ≤ length out → Written c (snapshot c) out
+  pub accepted : (out : List ℕ) → length (snapshot c) ≤ length out → loaded (fresh (c .profile) true) (handed c out) .code ≡ 0
+  pub restored : (out : List ℕ) → length (snapshot c) ≤ length out
+      → (k : ℕ) → held (loaded (fresh (c .profile) true) (handed c out) .camera) k ≡ held c k

@@ -2,25 +2,23 @@
 use Prim.Native.Nat.{ℕ}
 use mathlib.Core.List.{List, [], _∷_, _++_}
 use mathlib.Core.Option.{Option}
-use mathlib.Core.Bool.{Bool, cond, _&&_}
+use mathlib.Core.Bool.{Bool, cond}
 use lib.Dec.{eqb}
 use Rattle.wire.specs.Rows.{firstOf}
-use Rattle.request.specs.Setup.{isSetRequest, selectorOf}
-use Rattle.request.specs.Tests.{requestTests}
+use Rattle.request.specs.Setup.{selectorOf}
+use Rattle.request.specs.Tests as tests
 use Rattle.snapshot.specs.Settings.{lastOf, snapshotOf}
 use Rattle.controls.specs.declared.setting.Setting.{Setting}
-use Rattle.camera.specs.declared.profile.Profile.{Profile}
+use Rattle.settings.specs.declared.profile.Profile.{Profile}
+use Rattle.settings.specs.Items.{setGives}
 use Rattle.camera.specs.declared.record.Camera.{Camera}
-use Rattle.camera.specs.Profile.{table}
-use Rattle.camera.specs.Items.{setGives}
-use Rattle.camera.specs.Requests.{valueTests}
+use Rattle.camera.specs.Requests.{rules}
 use Rattle.camera.specs.Snapshots.{loadTests, loadGives, row}
 use Rattle.camera.specs.Calls.{Call, request, stream, load, write, sense, next}
 
--- a SET is accepted by tests 2 to 8, with the profile and the flag at that place
+-- a SET is accepted by tests 2 to 8, with the profile and the flag at that place; they look at no setting that is held
 abbrev pub setAccepted : Profile → Bool → List ℕ → List ℕ → Bool
-setAccepted p streaming setup payload =
-    isSetRequest setup && eqb (firstOf (requestTests (table p) setup payload ++ valueTests p streaming setup payload)) 0
+setAccepted p streaming setup payload = tests.setAccepted (rules p streaming) setup payload
 
 -- the settings that a call gives, in order: an accepted SET's, or those of an accepted load's records; none where it is refused or sets nothing
 unfoldable pub gives : Profile → Bool → Call → List (ℕ × Setting)

@@ -9,16 +9,15 @@ use lib.ListN.{length, drop}
 use Rattle.wire.specs.Number.{bytesOf}
 use Rattle.wire.specs.Rows.{firstOf}
 use Rattle.wire.specs.Uvc.{setCur}
-use Rattle.request.specs.Tests.{requestTests}
+use Rattle.request.specs.Tests.{requestTests, valueTests}
 use Rattle.snapshot.specs.Records.{Entry, recordsOf, Each}
 use Rattle.controls.specs.declared.setting.Setting.{Setting}
 use Rattle.controls.specs.Settings.{codeOf}
-use Rattle.camera.specs.declared.profile.Profile.{Profile}
+use Rattle.settings.specs.declared.profile.Profile.{Profile}
+use Rattle.settings.specs.Items.{givenOf}
 use Rattle.camera.specs.declared.record.Camera.{Camera}
-use Rattle.camera.specs.Profile.{table}
 use Rattle.camera.specs.Record.{held, wellFormed}
-use Rattle.camera.specs.Items.{givenOf}
-use Rattle.camera.specs.Requests.{valueTests}
+use Rattle.camera.specs.Requests.{rules}
 use Rattle.camera.specs.Snapshots.{selectorAt, recordItem, loaded, row}
 use Rattle.camera.specs.Calls.{Call, request, load}
 use Rattle.demands.specs.Lists.{setAccepted, gives, given, run}
@@ -30,7 +29,8 @@ setOf p k r = 0x21 ∷ setCur ∷ 0 ∷ selectorAt k ∷ p .interface ∷ p .uni
 
 -- the number that tests 2 to 8 give that SET
 abbrev pub setCode : Profile → Bool → ℕ → List ℕ → ℕ
-setCode p streaming k r = firstOf (requestTests (table p) (setOf p k r) (drop 4 r) ++ valueTests p streaming (setOf p k r) (drop 4 r))
+setCode p streaming k r =
+    firstOf (requestTests (rules p streaming) (setOf p k r) (drop 4 r) ++ valueTests (rules p streaming) (setOf p k r) (drop 4 r))
 
 -- Loading tests a record of the key k as its SET is tested, and takes from it what the SET gives.
 pub record AsSet (p : Profile) (streaming : Bool) (k : ℕ) (r : List ℕ) : Type 0 where

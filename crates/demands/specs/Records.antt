@@ -4,19 +4,20 @@ use mathlib.Core.Path.{_≡_}
 use mathlib.Core.List.{List, _++_}
 use mathlib.Core.Option.{some}
 use mathlib.Core.Bool.{true}
-use lib.ListN.{length, drop}
+use lib.ListN.{length, take, drop}
+use Rattle.wire.specs.Endpoints as endpoint
 use Rattle.controls.specs.declared.setting.Setting.{Setting}
 use Rattle.controls.specs.declared.setting.Setting.the-variants as S
-use Rattle.camera.specs.declared.profile.Profile.{Profile}
+use Rattle.settings.specs.declared.profile.Profile.{Profile}
 use Rattle.camera.specs.declared.record.Camera.{Camera}
 use Rattle.camera.specs.Record.{held, wellFormed}
 use Rattle.camera.specs.Snapshots.{written, writtenOut}
 
--- a camera of the profile p that is not refused 0x21, with the 15 face places that its type has; every call leaves such a one
+-- a camera of the profile p that is not refused 0x21, with the face places that its type has; every call leaves such a one
 pub record Ok (p : Profile) (c : Camera) : Type 0 where
   pub profile : c .profile ≡ p
   pub formed : wellFormed c ≡ true
-  pub places : length (c .face) ≡ 15
+  pub places : length (c .settings .face) ≡ endpoint.places
 
 -- the flags of a setting, 0 where it has none
 abbrev pub flagsOf : Setting → ℕ
@@ -31,6 +32,10 @@ flagsOf (S.Throttle s) = 0
 pub record Typed (c : Camera) : Type 0 where
   pub flags : (k : ℕ) (s : Setting) → held c k ≡ some s → flagsOf s < 2 ^ 8
   pub maximum : c .profile .metadata .maximum < 2 ^ 32
+
+-- the bytes that writing into `out` hands over: as many of the buffer as are reported
+abbrev pub handed : Camera → List ℕ → List ℕ
+handed c out = take (written c (length out) .count) (writtenOut c out)
 
 -- writing the snapshot s of a camera into `out`, which has room for it
 pub record Written (c : Camera) (s out : List ℕ) : Type 0 where

@@ -5,6 +5,8 @@ use mathlib.Core.Bool.{Bool, true}
 use mathlib.Core.List.{List, [], _∷_, map}
 use lib.ListN.{length, replicate}
 use lib.IntN.{ℤ, pos, negsuc}
+use Rattle.wire.specs.Selectors as selector
+use Rattle.wire.specs.Uvc.{setCur}
 use Rattle.request.specs.Setup.{isSetRequest, selectorOf, unitOf, interfaceOf, wLengthOf}
 use Rattle.frame.specs.declared.items.Counted.{Counted}
 use Rattle.frame.specs.Answers.{countOf, payloadOf}
@@ -19,7 +21,7 @@ pub data Answer : Type 0 where
   -- of a request: its number and count, and then the sensor's twelfths and the snapshot
   answer : (number count : ℕ) (twelfths : ℤ) (saved : List ℕ) → Answer
   -- of a setup packet: whether it is a SET, and its selector, unit, interface and wLength
-  setup : Bool → (selector unit interface wLength : ℕ) → Answer
+  setup : Bool → (control unit interface wLength : ℕ) → Answer
   -- of a list of requests: the snapshot that it leaves
   saved : List ℕ → Answer
   -- of a metadata block: its number and how many items it has, and the payload of the first
@@ -40,19 +42,19 @@ abbrev pub Request : Type 0
 Request = List ℕ × List ℕ
 
 -- SETs of unit 4 on interface 0
-abbrev pub set : (selector : ℕ) → List ℕ → Request
-set selector payload = (0x21 ∷ 0x01 ∷ 0x00 ∷ selector ∷ 0x00 ∷ 0x04 ∷ length payload ∷ 0x00 ∷ [], payload)
+abbrev pub set : (control : ℕ) → List ℕ → Request
+set control payload = (0x21 ∷ setCur ∷ 0x00 ∷ control ∷ 0x00 ∷ 0x04 ∷ length payload ∷ 0x00 ∷ [], payload)
 
 -- of exposure compensation: the lowest byte of the flags, that of the value, and each of the value's upper three
 abbrev pub ev : (flags value upper : ℕ) → Request
-ev flags value upper = set 0x03 (flags ∷ 0 ∷ 0 ∷ 0 ∷ 0 ∷ 0 ∷ 0 ∷ value ∷ upper ∷ upper ∷ upper ∷ [])
+ev flags value upper = set selector.ev (flags ∷ 0 ∷ 0 ∷ 0 ∷ 0 ∷ 0 ∷ 0 ∷ value ∷ upper ∷ upper ∷ upper ∷ [])
 
 abbrev pub hdr : (mode : ℕ) → Request
-hdr mode = set 0x0D (mode ∷ 0 ∷ 0 ∷ 0 ∷ [])
+hdr mode = set selector.hdr (mode ∷ 0 ∷ 0 ∷ 0 ∷ [])
 
 -- of the throttle, in mode 1
 abbrev pub throttle : (percent : ℕ) → Request
-throttle percent = set 0x0E (1 ∷ 0 ∷ 0 ∷ 0 ∷ percent ∷ 0 ∷ 0 ∷ 0 ∷ replicate 12 0)
+throttle percent = set selector.throttle (1 ∷ 0 ∷ 0 ∷ 0 ∷ percent ∷ 0 ∷ 0 ∷ 0 ∷ replicate 12 0)
 
 -- a request to the bench camera, which has no reply buffer to lend, and what the next record then holds
 abbrev pub after : Request → Answer
@@ -69,9 +71,9 @@ abbrev pub refuses : Request → (number : ℕ) → Row
 refuses r number = after r is answer number 0 (pos 0) []
 
 -- a setup packet is a SET of the bench camera's unit
-abbrev pub isSet : List ℕ → (selector wLength : ℕ) → Row
-isSet s selector wLength =
-    setup (isSetRequest s) (selectorOf s) (unitOf s) (interfaceOf s) (wLengthOf s) is setup true selector 4 0 wLength
+abbrev pub isSet : List ℕ → (control wLength : ℕ) → Row
+isSet s control wLength =
+    setup (isSetRequest s) (selectorOf s) (unitOf s) (interfaceOf s) (wLengthOf s) is setup true control 4 0 wLength
 
 -- requests one after the other leave a snapshot
 abbrev pub call : Request → Call
@@ -92,7 +94,7 @@ isRefused s number = read s is block (record { code = number; items = 0 }) []
 
 -- the first row's request
 abbrev pub firstCase : Request
-firstCase = set 0x03 (0x02 ∷ 0x00 ∷ 0x00 ∷ 0x00 ∷ 0x00 ∷ 0x00 ∷ 0x00 ∷ 0xFD ∷ 0xFF ∷ 0xFF ∷ 0xFF ∷ [])
+firstCase = set selector.ev (0x02 ∷ 0x00 ∷ 0x00 ∷ 0x00 ∷ 0x00 ∷ 0x00 ∷ 0x00 ∷ 0xFD ∷ 0xFF ∷ 0xFF ∷ 0xFF ∷ [])
 
 -- an item of id 6, by its size
 abbrev pub item : (size : ℕ) → List ℕ → List ℕ
@@ -118,7 +120,7 @@ rows =
     ∷ refuses (throttle 82) 0x08
     ∷ refuses (throttle 105) 0x04
     -- the HDR SET
-    ∷ isSet (0x21 ∷ 0x01 ∷ 0x00 ∷ 0x0D ∷ 0x00 ∷ 0x04 ∷ 0x04 ∷ 0x00 ∷ []) 0x0D 4
+    ∷ isSet (0x21 ∷ 0x01 ∷ 0x00 ∷ 0x0D ∷ 0x00 ∷ 0x04 ∷ 0x04 ∷ 0x00 ∷ []) selector.hdr 4
     -- the first case, then HDR 1
     ∷ leave (firstCase ∷ hdr 1 ∷ [])
     (0x0F ∷ 0x00 ∷ 0x03 ∷ 0x00 ∷ 0x02 ∷ 0x00 ∷ 0x00 ∷ 0x00 ∷ 0x00 ∷ 0x00 ∷ 0x00 ∷ 0xFD ∷ 0xFF ∷ 0xFF ∷ 0xFF

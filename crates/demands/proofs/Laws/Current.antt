@@ -7,6 +7,14 @@ use native.Mathlib.Omega.{arith}
 use lib.ListN.{getD}
 use borrow.Author.Tests.{ne-eqb}
 use Rattle.wire.specs.Number.{bytesOf}
+use Rattle.wire.specs.Endpoints.{firstAddress, lastAddress, places}
+use Rattle.wire.specs.Selectors as selector
+use Rattle.wire.specs.Uvc.{getCur, getDef}
+use Rattle.snapshot.specs.Form.{keyFor}
+use Rattle.request.specs.Tests as tests
+use Rattle.settings.specs.Answers.{valueOf}
+use Rattle.settings.specs.Settings.{keyOf}
+use Rattle.settings.specs.Settings as settings
 use Rattle.controls.specs.declared.setting.Setting.the-variants as S
 use Rattle.exposure.specs.declared.ev.Ev.the-variants as E
 use Rattle.controls.specs.declared.setting.EvSetting.{EvSetting}
@@ -15,17 +23,19 @@ use Rattle.controls.specs.declared.throttle.Throttle.the-variants as T
 use Rattle.controls.specs.declared.throttle.ThrottleSetting.{ThrottleSetting}
 use Rattle.request.specs.Answers.{answerBy}
 use Rattle.controls.specs.Settings.{numberOr}
-use Rattle.exposure.specs.Ev.{evBytes, evCurrent, evAt, evAnswer}
+use Rattle.exposure.specs.Ev.{evBytes, evCurrent, evAt}
 use Rattle.face.specs.Face.{endpoints, addressAt, entryOf, heldAt}
-use Rattle.controls.specs.Metadata.{metadataAt, metadataAnswer}
-use Rattle.controls.specs.Hdr.{hdrAt, hdrAnswer}
-use Rattle.controls.specs.Throttle.{throttleBytes, throttleCurrent, throttleAt, throttleAnswer}
+use Rattle.controls.specs.Metadata.{metadataAt}
+use Rattle.controls.specs.Hdr.{hdrAt}
+use Rattle.controls.specs.Throttle.{throttleBytes, throttleCurrent, throttleAt}
 use Rattle.face.proofs.Laws.Face.{place-listed}
+use Rattle.settings.specs.Profile.{has}
+use Rattle.settings.specs.Settings.{faceHeld}
+use Rattle.settings.proofs.Laws.Profile.{valid-face}
 use Rattle.camera.specs.declared.record.Camera.{Camera}
-use Rattle.camera.specs.Profile.{has}
-use Rattle.camera.specs.Record.{faceHeld, held, wellFormed}
+use Rattle.camera.specs.Record.{held, wellFormed}
 use Rattle.camera.specs.Requests.{answerOf}
-use Rattle.camera.proofs.Laws.Record.{formed-profile, valid-face}
+use Rattle.camera.proofs.Laws.Record.{formed-profile}
 use Rattle.demands.specs.Demand2.{entryBytes}
 use Rattle.demands.proofs.Laws.Held.{held-face, held-named}
 use Rattle.demands.proofs.Laws.Kept.{control-settable, held-good}
@@ -33,46 +43,49 @@ use Rattle.demands.proofs.Laws.Same.{ev-same, metadata-same, hdr-same, 
 use Rattle.demands.proofs.Laws.ReadBack.{current-entry, default-entry, current-held, current-unset, face-unset}
 
 module _ (c : Camera) where
-  pub ev-current : (s : EvSetting) → held c 0 ≡ some (S.Ev s) → answerOf c 0x03 0x81 ≡ evBytes s
-  unfolding held answerOf evAnswer answerBy evAt evCurrent
-  ev-current s e = rw (ev-same (c .ev) (E.Held s) e)
+  pub ev-current : (s : EvSetting) → held c (keyOf (S.Ev s)) ≡ some (S.Ev s) → answerOf c selector.ev getCur ≡ evBytes s
+  unfolding settings.held tests.answerOf valueOf answerBy evAt evCurrent
+  ev-current s e = rw (ev-same (c .settings .ev) (E.Held s) e)
 
-  pub hdr-current : (n : ℕ) → held c 17 ≡ some (S.Hdr n) → answerOf c 0x0D 0x81 ≡ bytesOf 4 n
-  unfolding held answerOf hdrAnswer answerBy hdrAt numberOr
-  hdr-current n e = rw (hdr-same (c .hdr) (N.Held n) e)
+  pub hdr-current : (n : ℕ) → held c (keyOf (S.Hdr n)) ≡ some (S.Hdr n) → answerOf c selector.hdr getCur ≡ bytesOf 4 n
+  unfolding settings.held tests.answerOf valueOf answerBy hdrAt numberOr
+  hdr-current n e = rw (hdr-same (c .settings .hdr) (N.Held n) e)
 
-  pub throttle-current : (s : ThrottleSetting) → held c 18 ≡ some (S.Throttle s) → answerOf c 0x0E 0x81 ≡ throttleBytes s (c .profile .throttle)
-  unfolding held answerOf throttleAnswer answerBy throttleAt throttleCurrent
-  throttle-current s e = rw (throttle-same (c .throttle) (T.Held s) e)
+  pub throttle-current : (s : ThrottleSetting) → held c (keyOf (S.Throttle s)) ≡ some (S.Throttle s) → answerOf c selector.throttle getCur ≡ throttleBytes s (c .profile .throttle)
+  unfolding settings.held tests.answerOf valueOf answerBy throttleAt throttleCurrent
+  throttle-current s e = rw (throttle-same (c .settings .throttle) (T.Held s) e)
 
   -- metadata that is held is writable
   module _ (w : wellFormed c ≡ true) where
-    pub metadata-current : (n : ℕ) → held c 16 ≡ some (S.Metadata n) → answerOf c 0x09 0x81 ≡ bytesOf 4 n
-    unfolding held answerOf metadataAnswer answerBy metadataAt numberOr
+    pub metadata-current : (n : ℕ) → held c (keyOf (S.Metadata n)) ≡ some (S.Metadata n) → answerOf c selector.metadata getCur ≡ bytesOf 4 n
+    unfolding settings.held tests.answerOf valueOf answerBy metadataAt numberOr
     metadata-current n e =
-        let writable : c .profile .metadata .writable ≡ true = control-settable (c .profile) true 0x09 (held-good c w 16 (S.Metadata n) e .1 .control) in
-        rw (writable, metadata-same (c .metadata) (N.Held n) e)
+        let writable : c .profile .metadata .writable ≡ true = control-settable (c .profile) selector.metadata (held-good (c .profile) (c .settings) w (places + 1) (S.Metadata n) e .1 .control) in
+        rw (writable, metadata-same (c .settings .metadata) (N.Held n) e)
 
 -- the entry of the endpoint at place j, by its address's setting
 module _ (c : Camera) (j : ℕ) (h : j < endpoints (c .profile .face)) where
   abbrev address : ℕ
   address = addressAt (c .profile .face) j
 
-  place-held : 0x81 ≤ address → address ≤ 0x8F → held c (address - 0x80) ≡ faceHeld address (heldAt (c .face) address)
+  abbrev key : ℕ
+  key = keyFor selector.face address
+
+  place-held : firstAddress ≤ address → address ≤ lastAddress → held c key ≡ faceHeld address (heldAt (c .settings .face) address)
   place-held a b =
-      let e : 0x80 + (address - 0x80) ≡ address = omega arith in
-      let f : address - 0x80 - 1 ≡ address - 0x81 = omega arith in
-      held-face c (address - 0x80) (omega arith) (omega arith) ∙ ap₂ (λ (m n : ℕ). faceHeld m (getD (c .face) n 0)) e f
+      let e : firstAddress + (key - 1) ≡ address = omega arith in
+      let f : key - 1 ≡ address - firstAddress = omega arith in
+      held-face (c .settings) key (omega arith) (omega arith) ∙ ap₂ (λ (m n : ℕ). faceHeld m (getD (c .settings .face) n 0)) e f
 
-  pub face-current : (flags : ℕ) → held c (address - 0x80) ≡ some (S.Face address flags) → entryBytes (answerOf c 0x06 0x81) j ≡ entryOf address flags
+  pub face-current : (flags : ℕ) → held c key ≡ some (S.Face address flags) → entryBytes (answerOf c selector.face getCur) j ≡ entryOf address flags
   face-current flags e =
-      let p = held-named c (address - 0x80) (S.Face address flags) e .1 in
+      let p = held-named (c .settings) key (S.Face address flags) e .1 in
       let s : some (S.Face address flags) ≡ faceHeld address flags = rw (ne-eqb flags 0 (omega arith)) in
-      let q = face-same address (heldAt (c .face) address) flags (sym (place-held (p .0) (p .1)) ∙ e ∙ s) in
-      current-entry c j h ∙ ap (entryOf address) (current-held (c .profile .face) (c .face) j flags q (p .2))
+      let q = face-same address (heldAt (c .settings .face) address) flags (sym (place-held (p .0) (p .1)) ∙ e ∙ s) in
+      current-entry c j h ∙ ap (entryOf address) (current-held (c .profile .face) (c .settings .face) j flags q (p .2))
 
-  pub face-default : wellFormed c ≡ true → has (c .profile) 0x06 ≡ true → held c (address - 0x80) ≡ none → entryBytes (answerOf c 0x06 0x81) j ≡ entryBytes (answerOf c 0x06 0x87) j
+  pub face-default : wellFormed c ≡ true → has (c .profile) selector.face ≡ true → held c key ≡ none → entryBytes (answerOf c selector.face getCur) j ≡ entryBytes (answerOf c selector.face getDef) j
   face-default w g e =
       let p = place-listed (c .profile .face) (valid-face (c .profile) (formed-profile c w) g) j (omega arith) in
-      let q = face-unset address (heldAt (c .face) address) (sym (place-held (p .first) (p .last)) ∙ e) in
-      current-entry c j h ∙ ap (entryOf address) (current-unset (c .profile .face) (c .face) j q) ∙ sym (default-entry c j h)
+      let q = face-unset address (heldAt (c .settings .face) address) (sym (place-held (p .first) (p .last)) ∙ e) in
+      current-entry c j h ∙ ap (entryOf address) (current-unset (c .profile .face) (c .settings .face) j q) ∙ sym (default-entry c j h)

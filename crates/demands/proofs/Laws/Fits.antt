@@ -9,15 +9,17 @@ use lib.Dec.{lit<}
 use mir.Syntax.{w32}
 use mir.Val.{SFits}
 use borrow.Author.Tests.{leb-true}
+use Rattle.wire.specs.Selectors as selector
 use Rattle.controls.specs.declared.setting.Setting.{Setting}
 use Rattle.controls.specs.declared.setting.Setting.the-variants as S
-use Rattle.exposure.specs.Ev.{evValid}
 use Rattle.exposure.proofs.Laws.Ev.{accepts, range-small}
 use Rattle.controls.proofs.Laws.Plain.{metadata-within, hdr-within, throttle-within}
-use Rattle.camera.specs.declared.profile.Profile.{Profile}
+use Rattle.settings.specs.declared.profile.Profile.{Profile}
+use Rattle.settings.specs.Profile.{has, profileValid}
+use Rattle.settings.specs.Settings.{valueRefusal}
 use Rattle.camera.specs.declared.record.Camera.{Camera}
-use Rattle.camera.specs.Profile.{has, profileValid}
-use Rattle.camera.specs.Record.{held, valueRefusal, wellFormed}
+use Rattle.camera.specs.Record.{held, wellFormed}
+use Rattle.settings.proofs.Laws.Profile.{valid-ev}
 use Rattle.camera.proofs.Laws.Record.{formed-profile}
 use Rattle.demands.specs.Records.{flagsOf, Typed}
 use Rattle.demands.proofs.Laws.Kept.{Good, control-there, held-good}
@@ -31,11 +33,7 @@ Fitting (S.Hdr n) = n < 2 ^ 32
 Fitting (S.Throttle s) = (s .mode < 2 ^ 32) × (s .percent < 2 ^ 32)
 
 module _ (p : Profile) (v : profileValid p ≡ true) where
-  valid-ev : has p 0x03 ≡ true → evValid (p .ev) ≡ true
-  unfolding profileValid
-  valid-ev h = let q = simp and-eq-true-iff at v in rw h at (q .1 .0)
-
-  throttle-maximum : has p 0x0E ≡ true → p .throttle .maximum ≤ 100
+  throttle-maximum : has p selector.throttle ≡ true → p .throttle .maximum ≤ 100
   unfolding profileValid
   throttle-maximum h =
       let q = simp and-eq-true-iff at v in
@@ -47,14 +45,14 @@ module _ (p : Profile) (v : profileValid p ≡ true) where
   unfolding valueRefusal
   good-fitting (S.Ev s) g f m =
       let a = accepts (p .ev) (s .flags) (s .value) (g .value) in
-      (f, record { sfits = lt-trans (range-small (p .ev) (valid-ev (control-there p true 0x03 (g .control))) (a .0) (s .value) (a .1 .1)) (lit< tt) })
+      (f, record { sfits = lt-trans (range-small (p .ev) (valid-ev p v (control-there p selector.ev (g .control))) (a .0) (s .value) (a .1 .1)) (lit< tt) })
   good-fitting (S.Face address flags) g f m = f
   good-fitting (S.Metadata n) g f m = omega (arith, metadata-within (p .metadata) n (g .value))
   good-fitting (S.Hdr n) g f m = omega (arith, hdr-within (p .auto) n (g .value))
   good-fitting (S.Throttle s) g f m =
       let w = throttle-within (p .throttle) (s .mode) (s .percent) (g .value) in
-      let h = throttle-maximum (control-there p true 0x0E (g .control)) in
+      let h = throttle-maximum (control-there p selector.throttle (g .control)) in
       (omega arith, omega arith)
 
 pub held-fitting : (c : Camera) → wellFormed c ≡ true → Typed c → (k : ℕ) (s : Setting) → held c k ≡ some s → Fitting s
-held-fitting c w t k s e = good-fitting (c .profile) (formed-profile c w) s (held-good c w k s e .1) (t .flags k s e) (t .maximum)
+held-fitting c w t k s e = good-fitting (c .profile) (formed-profile c w) s (held-good (c .profile) (c .settings) w k s e .1) (t .flags k s e) (t .maximum)

@@ -8,52 +8,54 @@ use native.Mathlib.Omega.{arith}
 use lib.Dec.{eqb, leb}
 use lib.ListN.{length}
 use borrow.Author.Tests.{eq-eqb, eqb-true, eqb-false, leb-true, leb-false}
+use Rattle.wire.specs.Endpoints.{places}
+use Rattle.wire.specs.Flags.{bitsOf, count, choiceOf}
+use Rattle.wire.specs.Number.{leAt}
+use Rattle.wire.specs.Rows.{Row, _⇒_, Quiet}
+use Rattle.wire.specs.Selectors as selectors
+use Rattle.wire.specs.Uvc.{outOfRange, invalidValue, wrongState}
+use Rattle.wire.proofs.Laws.Rows.{quiet}
+use Rattle.snapshot.specs.Form.{keys}
 use Rattle.snapshot.specs.Merge.{over}
 use Rattle.snapshot.specs.Settings.{lastOf}
-use Rattle.wire.specs.Number.{leAt}
-use Rattle.wire.specs.Flags.{bitsOf, count, choiceOf}
 use Rattle.controls.specs.declared.setting.Item.{Item}
 use Rattle.controls.specs.declared.setting.Item.the-variants.{Absent, Refused, Given}
 use Rattle.controls.specs.declared.setting.Setting.{Setting}
 use Rattle.controls.specs.declared.setting.Setting.the-variants as S
 use Rattle.controls.specs.Settings.{itemOf}
 use Rattle.exposure.specs.Ev.{evItem, evFlags, evValue}
-use Rattle.face.specs.Face.{allBelow, faceValid, entryAddress, entryFlags, seenBefore, offersOf, isChoice, entryRefusal, faceItem}
+use Rattle.face.specs.Face.{allBelow, faceValid, entryAddress, entryFlags, seenBefore, offersOf, isChoice, entryRefusal, settingRefusal, faceItem}
 use Rattle.controls.specs.Metadata.{metadataItem}
 use Rattle.controls.specs.Hdr.{hdrItem}
 use Rattle.controls.specs.Throttle.{throttleItem}
 use Rattle.controls.proofs.Laws.Settings.{given-is}
-use Rattle.face.proofs.Laws.Face.{all-at, listed}
-use Rattle.camera.specs.declared.profile.Profile.{Profile}
-use Rattle.camera.specs.declared.record.Camera.{Camera}
-use Rattle.camera.specs.Profile.{has, settable, profileValid}
-use Rattle.camera.specs.Record.{keyOf, selectorOf, held, valueRefusal, controlRefusal, kept, wellFormed}
-use Rattle.camera.specs.Items.{givenOf, allGiven, itemAt, puts}
-use Rattle.camera.specs.Selectors.{Control, ev, face, metadata, hdr, throttle}
-use Rattle.camera.proofs.Laws.Record.{valid-face, formed-profile}
-use Rattle.camera.proofs.Laws.Selectors.{below-all}
-use Rattle.demands.proofs.Laws.Held.{Proper, Each, held-none, held-named, puts-held, puts-profile}
+use Rattle.face.proofs.Laws.Face.{all-at, all-of, listed}
+use Rattle.settings.specs.declared.profile.Profile.{Profile}
+use Rattle.settings.specs.declared.settings.Settings.{Settings}
+use Rattle.settings.specs.Profile.{has, settable, profileValid, controlRefusal}
+use Rattle.settings.specs.Settings.{keyOf, selectorOf, held, valueRefusal, kept, wellFormed}
+use Rattle.settings.specs.Items.{givenOf, allGiven, itemAt, puts}
+use Rattle.settings.specs.Selectors.{Control, ev, face, metadata, hdr, throttle}
+use Rattle.settings.proofs.Laws.Profile.{valid-face}
+use Rattle.settings.proofs.Laws.Kept.{control-kept}
+use Rattle.camera.specs.Requests as camera
+use Rattle.camera.proofs.Laws.Requests.{control-refused, control-state}
+use Rattle.demands.proofs.Laws.Held.{Proper, Each, held-none, held-named, puts-held}
 
--- a setting that its SET takes if streaming, and that a record can hold
+-- a setting that its SET takes if streaming, and that can be held
 pub record Good (p : Profile) (s : Setting) : Type 0 where
-  pub control : controlRefusal p true (selectorOf s) ≡ 0
+  pub control : controlRefusal p (selectorOf s) ≡ 0
   pub value : valueRefusal p s ≡ 0
   pub proper : Proper s
 
 pub good-kept : (p : Profile) (s : Setting) → Good p s → kept p (some s) ≡ true
 unfolding kept
-good-kept p s g = rw (eq-eqb (controlRefusal p true (selectorOf s)) 0 (g .control), eq-eqb (valueRefusal p s) 0 (g .value))
+good-kept p s g = rw (eq-eqb (controlRefusal p (selectorOf s)) 0 (g .control), eq-eqb (valueRefusal p s) 0 (g .value))
 
 -- a control whose tests before the values hold is there, and takes a SET
-module _ (p : Profile) (streaming : Bool) (selector : ℕ) (e : controlRefusal p streaming selector ≡ 0) where
+module _ (p : Profile) (selector : ℕ) (e : controlRefusal p selector ≡ 0) where
   there : (has p selector ≡ true) × (settable p selector ≡ true)
-  unfolding controlRefusal
-  there = go (has p selector) (settable p selector) e
-    where
-      go : (a b : Bool) → cond {A = ℕ} (not a) 0x06 (cond (not b) 0x07 (cond (eqb selector 0x0E && not streaming) 0x02 0)) ≡ 0 → (a ≡ true) × (b ≡ true)
-      go true true z = (refl, refl)
-      go true false z = absurd (omega arith)
-      go false b z = absurd (omega arith)
+  there = and-eq-true-iff (has p selector) (settable p selector) .0 (sym (control-kept p selector) ∙ eq-eqb _ 0 e)
 
   pub control-there : has p selector ≡ true
   control-there = there .0
@@ -61,25 +63,26 @@ module _ (p : Profile) (streaming : Bool) (selector : ℕ) (e : controlRefusal p
   pub control-settable : settable p selector ≡ true
   control-settable = there .1
 
--- the throttle apart, they hold at either flag
-pub control-streaming : (p : Profile) (streaming : Bool) (selector : ℕ) → controlRefusal p streaming selector ≡ 0 → controlRefusal p true selector ≡ 0
-unfolding controlRefusal
-control-streaming p true selector e = e
-control-streaming p false selector e = go (has p selector) (settable p selector) (eqb selector 0x0E) e
-  where
-    code : Bool → Bool → Bool → ℕ
-    code a b c = cond (not a) 0x06 (cond (not b) 0x07 (cond c 0x02 0))
+-- test 7 aside, they hold at either flag; and streaming, that passes
+module _ (p : Profile) (selector : ℕ) where
+  pub control-streaming : (streaming : Bool) → camera.controlRefusal p streaming selector ≡ 0 → controlRefusal p selector ≡ 0
+  control-streaming streaming e = go (eqb (controlRefusal p selector) 0) refl
+    where
+      go : (b : Bool) → eqb (controlRefusal p selector) 0 ≡ b → controlRefusal p selector ≡ 0
+      go true q = eqb-true _ 0 q
+      go false q = control-refused p streaming selector refl (eqb-false _ 0 q) ∙ e
 
-    go : (a b c : Bool) → code a b (c && true) ≡ 0 → code a b (c && false) ≡ 0
-    go true true true z = absurd (omega arith)
-    go true true false z = z
-    go true false c z = absurd (omega arith)
-    go false b c z = absurd (omega arith)
+  pub streaming-control : controlRefusal p selector ≡ 0 → camera.controlRefusal p true selector ≡ 0
+  streaming-control z = sym (control-state p true selector refl z) ∙ go (eqb selector selectors.throttle)
+    where
+      go : (b : Bool) → cond {A = ℕ} (b && true && false) wrongState 0 ≡ 0
+      go true = refl
+      go false = refl
 
 -- some flag is chosen only where one is set
-choice-some : (offers flags : ℕ) → isChoice (choiceOf offers flags) ≡ true → 0 < flags
+choice-some : (offers flags : ℕ) → not (isChoice (choiceOf offers flags)) ≡ false → 0 < flags
 unfolding choiceOf isChoice bitsOf count
-choice-some offers zero e = absurd (true≢false (sym e))
+choice-some offers zero e = absurd (true≢false e)
 choice-some offers (suc n) e = omega arith
 
 -- an accepted entry of face authentication
@@ -87,44 +90,35 @@ module _ (p : Profile) (payload : List ℕ) (i : ℕ) (e : entryRefusal (p .face
   abbrev offers : ℕ
   offers = offersOf (p .face) (entryAddress payload i)
 
-  abbrev chosen : Bool
-  chosen = isChoice (choiceOf offers (entryFlags payload i))
+  abbrev rows : List Row
+  rows = (eqb offers 0 ⇒ outOfRange) ∷ (seenBefore payload i ⇒ invalidValue) ∷ (not (isChoice (choiceOf offers (entryFlags payload i))) ⇒ invalidValue) ∷ []
 
-  entry-tests : (eqb offers 0 ≡ false) × (chosen ≡ true)
+  entry-tests : Quiet rows
   unfolding entryRefusal
-  entry-tests = go (eqb offers 0) (seenBefore payload i) chosen e
-    where
-      code : Bool → Bool → Bool → ℕ
-      code a b c = cond a 0x04 (cond b 0x08 (cond (not c) 0x08 0))
-
-      go : (a b c : Bool) → code a b c ≡ 0 → (a ≡ false) × (c ≡ true)
-      go true b c z = absurd (omega arith)
-      go false true c z = absurd (omega arith)
-      go false false true z = (refl, refl)
-      go false false false z = absurd (omega arith)
+  entry-tests = quiet rows [] refl e .0
 
   entry-value : valueRefusal p (S.Face (entryAddress payload i) (entryFlags payload i)) ≡ 0
-  unfolding valueRefusal
-  entry-value = rw (entry-tests .0, entry-tests .1)
+  unfolding valueRefusal settingRefusal
+  entry-value = rw (entry-tests .0, entry-tests .1 .1 .0)
 
   entry-proper : faceValid (p .face) ≡ true → Proper (S.Face (entryAddress payload i) (entryFlags payload i))
   entry-proper f =
       let l = listed (p .face) f (entryAddress payload i) (eqb-false offers 0 (entry-tests .0)) in
-      (omega (arith, l .first), l .last, choice-some offers (entryFlags payload i) (entry-tests .1))
+      (l .first, l .last, choice-some offers (entryFlags payload i) (entry-tests .1 .1 .0))
 
 -- what an item gives is good, where the control's own tests hold
 module _ (p : Profile) (v : profileValid p ≡ true) (payload : List ℕ) (i : ℕ) (s : Setting) where
-  one-good : (code : ℕ) (t : Setting) → controlRefusal p true (selectorOf t) ≡ 0 → (code ≡ 0 → valueRefusal p t ≡ 0) → (code ≡ 0 → Proper t) → itemOf code t ≡ Given s → Good p s
+  one-good : (code : ℕ) (t : Setting) → controlRefusal p (selectorOf t) ≡ 0 → (code ≡ 0 → valueRefusal p t ≡ 0) → (code ≡ 0 → Proper t) → itemOf code t ≡ Given s → Good p s
   one-good code t c a b e =
       let g = given-is code t s e in
       subst (Good p) (g .1) (record { control = c; value = a (g .0); proper = b (g .0) })
 
-  pub item-good : (selector : ℕ) → Control selector → controlRefusal p true selector ≡ 0 → itemAt p selector payload i ≡ Given s → Good p s
+  pub item-good : (selector : ℕ) → Control selector → controlRefusal p selector ≡ 0 → itemAt p selector payload i ≡ Given s → Good p s
   unfolding itemAt evItem faceItem metadataItem hdrItem throttleItem valueRefusal
   item-good _ ev c e = one-good _ (S.Ev (record { flags = evFlags payload; value = evValue payload })) c (λ z. z) (λ z. tt) e
   item-good _ face c e =
       one-good _ (S.Face (entryAddress payload i) (entryFlags payload i)) c (λ z. entry-value p payload i z)
-      (λ z. entry-proper p payload i z (valid-face p v (control-there p true 0x06 c))) e
+      (λ z. entry-proper p payload i z (valid-face p v (control-there p selectors.face c))) e
   item-good _ metadata c e = one-good _ (S.Metadata (leAt 4 payload 0)) c (λ z. z) (λ z. tt) e
   item-good _ hdr c e = one-good _ (S.Hdr (leAt 4 payload 0)) c (λ z. z) (λ z. tt) e
   item-good _ throttle c e = one-good _ (S.Throttle (record { mode = leAt 4 payload 0; percent = leAt 4 payload 4 })) c (λ z. z) (λ z. tt) e
@@ -149,18 +143,19 @@ pub each-proper : (p : Profile) (l : List (ℕ × Setting)) → Each (Good p) l 
 each-proper p [] g = tt
 each-proper p (x ∷ l) g = (g .0, g .1 .proper, each-proper p l (g .2))
 
--- a well-formed record, key by key
-pub formed-kept : (c : Camera) → wellFormed c ≡ true → (k : ℕ) → kept (c .profile) (held c k) ≡ true
-unfolding wellFormed kept
-formed-kept c w k = let q = simp and-eq-true-iff at w in go (leb 19 k) refl (q .1)
-  where
-    go : (b : Bool) → leb 19 k ≡ b → allBelow 19 (λ k. kept (c .profile) (held c k)) ≡ true → kept (c .profile) (held c k) ≡ true
-    go true e a = rw (held-none c k (leb-true 19 k e))
-    go false e a = all-at 19 (λ k. kept (c .profile) (held c k)) a k (leb-false 19 k e)
+-- settings that are well formed, key by key
+module _ (p : Profile) (h : Settings) where
+  formed-kept : wellFormed p h ≡ true → (k : ℕ) → kept p (held h k) ≡ true
+  unfolding wellFormed kept
+  formed-kept w k = let q = simp and-eq-true-iff at w in go (leb keys k) refl (q .1)
+    where
+      go : (b : Bool) → leb keys k ≡ b → allBelow keys (λ k. kept p (held h k)) ≡ true → kept p (held h k) ≡ true
+      go true e a = rw (held-none h k (leb-true keys k e))
+      go false e a = all-at keys (λ k. kept p (held h k)) a k (leb-false keys k e)
 
-pub kept-formed : (c : Camera) → profileValid (c .profile) ≡ true → ((k : ℕ) → kept (c .profile) (held c k) ≡ true) → wellFormed c ≡ true
-unfolding wellFormed
-kept-formed c v h = rw (v, below-all 19 (λ k. kept (c .profile) (held c k)) (λ k l. h k))
+  pub kept-formed : profileValid p ≡ true → ((k : ℕ) → kept p (held h k) ≡ true) → wellFormed p h ≡ true
+  unfolding wellFormed
+  kept-formed v f = rw (v, all-of keys (λ k. kept p (held h k)) (λ k l. f k))
 
 -- of two that are kept, either
 over-kept : (p : Profile) (a b : Option Setting) → kept p a ≡ true → kept p b ≡ true → kept p (over a b) ≡ true
@@ -176,19 +171,22 @@ last-kept p (x ∷ l) g k = over-kept p (cond (eqb (x .0) k) (some (x .1)) none)
     go true = good-kept p (x .1) (g .1)
     go false = refl
 
--- good settings leave the record well formed
-pub puts-formed : (c : Camera) (l : List (ℕ × Setting)) → wellFormed c ≡ true → length (c .face) ≡ 15 → Each (Good (c .profile)) l → wellFormed (puts c l) ≡ true
-unfolding kept held
-puts-formed c l w f g =
-    let e = puts-profile c l in
-    kept-formed (puts c l) (rw e (formed-profile c w))
-    (λ k. rw (e, puts-held c l (each-proper (c .profile) l g) f k) (over-kept (c .profile) (held c k) (lastOf l k) (formed-kept c w k) (last-kept (c .profile) l g k)))
+module _ (p : Profile) (h : Settings) (w : wellFormed p h ≡ true) where
+  formed-valid : profileValid p ≡ true
+  unfolding wellFormed
+  formed-valid = let q = simp and-eq-true-iff at w in q .0
 
--- and what is held of a key is good
-pub held-good : (c : Camera) → wellFormed c ≡ true → (k : ℕ) (s : Setting) → held c k ≡ some s → (keyOf s ≡ k) × Good (c .profile) s
-unfolding kept
-held-good c w k s e =
-    let n = held-named c k s e in
-    let q : eqb (controlRefusal (c .profile) true (selectorOf s)) 0 && eqb (valueRefusal (c .profile) s) 0 ≡ true = ap (kept (c .profile)) (sym e) ∙ formed-kept c w k in
-    let r = simp and-eq-true-iff at q in
-    (n .0, record { control = eqb-true _ 0 (r .0); value = eqb-true _ 0 (r .1); proper = n .1 })
+  -- good settings leave them well formed
+  pub puts-formed : (l : List (ℕ × Setting)) → length (h .face) ≡ places → Each (Good p) l → wellFormed p (puts h l) ≡ true
+  puts-formed l f g =
+      kept-formed p (puts h l) formed-valid
+      (λ k. rw (puts-held h l (each-proper p l g) f k) (over-kept p (held h k) (lastOf l k) (formed-kept p h w k) (last-kept p l g k)))
+
+  -- and what is held of a key is good
+  pub held-good : (k : ℕ) (s : Setting) → held h k ≡ some s → (keyOf s ≡ k) × Good p s
+  unfolding kept
+  held-good k s e =
+      let n = held-named h k s e in
+      let q : eqb (controlRefusal p (selectorOf s)) 0 && eqb (valueRefusal p s) 0 ≡ true = ap (kept p) (sym e) ∙ formed-kept p h w k in
+      let r = simp and-eq-true-iff at q in
+      (n .0, record { control = eqb-true _ 0 (r .0); value = eqb-true _ 0 (r .1); proper = n .1 })

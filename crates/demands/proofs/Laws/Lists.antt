@@ -7,14 +7,15 @@ use Rattle.snapshot.specs.Merge.{over}
 use Rattle.snapshot.specs.Settings.{lastOf}
 use Rattle.snapshot.proofs.Laws.Merging.{over-assoc, over-none}
 use Rattle.snapshot.proofs.Laws.Settings.{last-append}
-use Rattle.camera.specs.declared.profile.Profile.{Profile}
+use Rattle.settings.specs.declared.profile.Profile.{Profile}
+use Rattle.settings.specs.Profile.{profileValid}
+use Rattle.settings.specs.Settings.{noSettings, kept}
 use Rattle.camera.specs.declared.record.Camera.{Camera}
-use Rattle.camera.specs.Profile.{profileValid}
-use Rattle.camera.specs.Record.{fresh, held, kept}
+use Rattle.camera.specs.Record.{fresh, held}
 use Rattle.camera.specs.Calls.{Call, next}
 use Rattle.demands.specs.Lists.{gives, leaves, flagAfter, given, settings, run}
 use Rattle.demands.specs.Records.{Ok}
-use Rattle.demands.proofs.Laws.Held.{fresh-held}
+use Rattle.demands.proofs.Laws.Held.{none-held}
 use Rattle.demands.proofs.Laws.Kept.{kept-formed}
 use Rattle.demands.proofs.Laws.Steps.{step}
 
@@ -29,11 +30,11 @@ module _ (p : Profile) where
   run-ok c o [] = o
   run-ok c o (x ∷ cs) = run-ok (next c x) (step p c o x .ok) cs
 
-  pub run-streaming : (c : Camera) → Ok p c → (cs : List Call) → run c cs .streaming ≡ flagAfter (c .streaming) cs
+  run-streaming : (c : Camera) → Ok p c → (cs : List Call) → run c cs .streaming ≡ flagAfter (c .streaming) cs
   run-streaming c o [] = refl
   run-streaming c o (x ∷ cs) = run-streaming (next c x) (step p c o x .ok) cs ∙ ap (λ f. flagAfter f cs) (step p c o x .streaming-after)
 
-  pub run-held : (c : Camera) → Ok p c → (cs : List Call) (k : ℕ) → held (run c cs) k ≡ over (held c k) (settings p (c .streaming) cs k)
+  run-held : (c : Camera) → Ok p c → (cs : List Call) (k : ℕ) → held (run c cs) k ≡ over (held c k) (settings p (c .streaming) cs k)
   run-held c o [] k = refl
   run-held c o (x ∷ cs) k =
       let s = step p c o x in
@@ -45,18 +46,14 @@ module _ (p : Profile) where
 -- from a fresh camera of a valid profile
 module _ (p : Profile) (v : profileValid p ≡ true) (f : Bool) where
   pub fresh-ok : Ok p (fresh p f)
-  unfolding fresh kept
-  fresh-ok = record { profile = refl; formed = kept-formed (fresh p f) v (λ k. rw (fresh-held p f k)); places = refl }
-
-  pub fresh-streaming : fresh p f .streaming ≡ f
-  unfolding fresh
-  fresh-streaming = refl
+  unfolding noSettings kept
+  fresh-ok = record { profile = refl; formed = kept-formed p noSettings v (λ k. rw (none-held k)); places = refl }
 
   pub held-after : (cs : List Call) → held (run (fresh p f) cs) ≡ settings p f cs
   held-after cs = fun-ext λ k.
       run-held p (fresh p f) fresh-ok cs k
-      ∙ ap₂ (λ o g. over o (settings p g cs k)) (fresh-held p f k) fresh-streaming
+      ∙ ap (λ o. over o (settings p f cs k)) (none-held k)
       ∙ over-none (settings p f cs k)
 
   pub flag-after : (cs : List Call) → run (fresh p f) cs .streaming ≡ flagAfter f cs
-  flag-after cs = run-streaming p (fresh p f) fresh-ok cs ∙ ap (λ g. flagAfter g cs) fresh-streaming
+  flag-after cs = run-streaming p (fresh p f) fresh-ok cs

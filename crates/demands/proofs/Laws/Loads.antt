@@ -1,6 +1,6 @@
 -- Loading a snapshot: what it answers and gives, record by record. Assumes nothing.
 use mathlib.Core.Path.{_≡_, refl, ap, ap₂, sym, _∙_}
-use mathlib.Core.List.{List}
+use mathlib.Core.List.{List, [], _∷_}
 use mathlib.Core.Option.{Option, none, some}
 use mathlib.Core.Bool.{Bool, true, false, cond, not, true≢false}
 use Prim.Native.Nat.{ℕ, zero, suc, _+_, _-_, _≤_, _<_}
@@ -10,7 +10,11 @@ use lib.Dec.{eqb, leb}
 use lib.ListN.{getD, drop}
 use lib.Seq.{getD-drop}
 use borrow.Author.Tests.{eq-eqb, ne-eqb, eqb-true, eqb-false, leb-true, leb-false}
-use Rattle.wire.specs.Rows.{firstOf}
+use Rattle.wire.specs.Endpoints.{firstAddress}
+use Rattle.wire.specs.Rows.{_⇒_, answers, firstOf}
+use Rattle.wire.specs.Uvc.{malformedSnapshot}
+use Rattle.wire.proofs.Laws.Rows.{quiet}
+use Rattle.snapshot.specs.Form.{keys}
 use Rattle.snapshot.specs.Form as form
 use Rattle.snapshot.specs.Records.{decode, GoodAt, Record}
 use Rattle.snapshot.specs.Merge.{over, merged}
@@ -22,24 +26,25 @@ use Rattle.snapshot.proofs.Laws.Settings.{last-append}
 use Rattle.controls.specs.declared.setting.Item.{Item}
 use Rattle.controls.specs.declared.setting.Item.the-variants.{Absent, Refused, Given}
 use Rattle.controls.specs.declared.setting.Setting.{Setting}
-use Rattle.controls.specs.Settings.{itemOf, settingOf, codeOf}
+use Rattle.controls.specs.Settings.{itemOf, settingOf, codeOf, firstRefusal}
 use Rattle.exposure.specs.Ev.{evItem}
 use Rattle.face.specs.Face.{faceItem}
 use Rattle.controls.specs.Metadata.{metadataItem}
 use Rattle.controls.specs.Hdr.{hdrItem}
 use Rattle.controls.specs.Throttle.{throttleItem}
 use Rattle.controls.proofs.Laws.Settings.{given-is}
-use Rattle.camera.specs.declared.profile.Profile.{Profile}
-use Rattle.camera.specs.Record.{keyOf, controlRefusal}
-use Rattle.camera.specs.Items.{givenOf, firstRefusal, allGiven, itemAt}
+use Rattle.settings.specs.declared.profile.Profile.{Profile}
+use Rattle.settings.specs.Settings.{keyOf}
+use Rattle.camera.specs.Requests.{controlRefusal}
+use Rattle.settings.specs.Items.{givenOf, allGiven, itemAt}
+use Rattle.controls.proofs.Laws.Items.{passes, none-refused}
+use Rattle.settings.specs.Selectors.{Control, ev, face, metadata, hdr, throttle}
 use Rattle.camera.specs.Snapshots.{selectorAt, recordItem, itemFor, loadItem, loadTests, loadGives}
-use Rattle.camera.proofs.Laws.Items.{refusal-none, none-refused}
-use Rattle.camera.specs.Selectors.{Control, ev, face, metadata, hdr, throttle}
-use Rattle.demands.proofs.Laws.Sets.{is-kind}
-use Rattle.demands.proofs.Laws.Steps.{isGiven, key-control}
+use Rattle.demands.proofs.Laws.Sets.{is-kind, row-number}
+use Rattle.demands.proofs.Laws.Steps.{not-off, isGiven, key-control}
 
 -- items whose settings stand under the number of the item
-abbrev pub Keyed : (ℕ → Item) → Type 0
+abbrev Keyed : (ℕ → Item) → Type 0
 Keyed item = (k : ℕ) (s : Setting) → item k ≡ Given s → keyOf s ≡ k
 
 -- the last setting that one item gives
@@ -104,7 +109,7 @@ taken code s e = rw (eq-eqb code 0 (sym (by-number code s) ∙ e))
 item-key : (p : Profile) (r : List ℕ) (s : Setting) (selector : ℕ) → Control selector → itemAt p selector (drop 4 r) 0 ≡ Given s → keyOf s ≡ form.keyFor selector (getD r 5 0)
 unfolding itemAt evItem faceItem metadataItem hdrItem throttleItem
 item-key p r s _ ev e = ap keyOf (sym (given-is _ _ s e .1))
-item-key p r s _ face e = ap keyOf (sym (given-is _ _ s e .1)) ∙ ap (λ (a : ℕ). a - 0x80) (getD-drop 4 r 1 0)
+item-key p r s _ face e = ap keyOf (sym (given-is _ _ s e .1)) ∙ ap (λ (a : ℕ). a - (firstAddress - 1)) (getD-drop 4 r 1 0)
 item-key p r s _ metadata e = ap keyOf (sym (given-is _ _ s e .1))
 item-key p r s _ hdr e = ap keyOf (sym (given-is _ _ s e .1))
 item-key p r s _ throttle e = ap keyOf (sym (given-is _ _ s e .1))
@@ -152,18 +157,18 @@ module _ (p : Profile) (streaming : Bool) where
       go (some r) g i = given r g (eqb (controlRefusal p streaming (selectorAt k)) 0) i
 
   -- behind the last key there is no record
-  load-end : (s : List ℕ) (k : ℕ) → 19 ≤ k → loadItem p streaming s k ≡ Absent
+  load-end : (s : List ℕ) (k : ℕ) → keys ≤ k → loadItem p streaming s k ≡ Absent
   unfolding itemFor
   load-end s k h = rw (none-above (decode s) (decode-good s) k h)
 
   -- what a load gives: each record's setting
   pub load-settings : (s : List ℕ) (k : ℕ) → lastOf (loadGives p streaming s) k ≡ settingOf (loadItem p streaming s k)
   unfolding loadGives
-  load-settings s k = go (leb 19 k) refl
+  load-settings s k = go (leb keys k) refl
     where
-      go : (b : Bool) → leb 19 k ≡ b → lastOf (allGiven 19 0 (loadItem p streaming s)) k ≡ settingOf (loadItem p streaming s k)
-      go true e = let h = leb-true 19 k e in last-above _ (load-keyed s) 19 0 k (omega arith) ∙ ap settingOf (sym (load-end s k h))
-      go false e = let h = leb-false 19 k e in last-all _ (load-keyed s) 19 0 k (omega arith) (omega arith)
+      go : (b : Bool) → leb keys k ≡ b → lastOf (allGiven keys 0 (loadItem p streaming s)) k ≡ settingOf (loadItem p streaming s k)
+      go true e = let h = leb-true keys k e in last-above _ (load-keyed s) keys 0 k (omega arith) ∙ ap settingOf (sym (load-end s k h))
+      go false e = let h = leb-false keys k e in last-all _ (load-keyed s) keys 0 k (omega arith) (omega arith)
 
   -- an accepted load: well formed, and no record is refused
   pub record Accepted (s : List ℕ) : Type 0 where
@@ -172,21 +177,18 @@ module _ (p : Profile) (streaming : Bool) where
 
   pub load-accepted : (s : List ℕ) → firstOf (loadTests p streaming s) ≡ 0 → Accepted s
   unfolding loadTests codeOf
-  load-accepted s e = go (form.wellFormed s) refl (eqb (firstRefusal 19 0 (loadItem p streaming s)) 0) refl e
+  load-accepted s e =
+      let n = firstRefusal keys 0 (loadItem p streaming s) in
+      let q = quiet ((not (form.wellFormed s) ⇒ malformedSnapshot) ∷ []) (answers n ∷ []) refl e in
+      record { formed = not-off (form.wellFormed s) (q .0 .0); each = λ k. go (sym (row-number n) ∙ q .1) k (leb keys k) refl }
     where
-      each : firstRefusal 19 0 (loadItem p streaming s) ≡ 0 → (k : ℕ) (b : Bool) → leb 19 k ≡ b → codeOf (loadItem p streaming s k) ≡ 0
-      each z k true q = ap codeOf (load-end s k (leb-true 19 k q))
-      each z k false q = let h = leb-false 19 k q in ap (λ (j : ℕ). codeOf (loadItem p streaming s j)) (sym (add-zero k)) ∙ none-refused 19 0 (loadItem p streaming s) z k h
-
-      go : (w : Bool) → form.wellFormed s ≡ w → (b : Bool) → eqb (firstRefusal 19 0 (loadItem p streaming s)) 0 ≡ b
-          → cond (not w) 0x22 (cond (not b) (firstRefusal 19 0 (loadItem p streaming s)) 0) ≡ 0 → Accepted s
-      go true q true r z = record { formed = q; each = λ k. each (eqb-true _ 0 r) k _ refl }
-      go true q false r z = absurd (eqb-false _ 0 r z)
-      go false q b r z = absurd (omega arith)
+      go : firstRefusal keys 0 (loadItem p streaming s) ≡ 0 → (k : ℕ) (b : Bool) → leb keys k ≡ b → codeOf (loadItem p streaming s k) ≡ 0
+      go z k true q = ap codeOf (load-end s k (leb-true keys k q))
+      go z k false q = let h = leb-false keys k q in ap (λ (j : ℕ). codeOf (loadItem p streaming s j)) (sym (add-zero k)) ∙ none-refused keys 0 (loadItem p streaming s) z k h
 
   pub accepted-load : (s : List ℕ) → Accepted s → firstOf (loadTests p streaming s) ≡ 0
   unfolding loadTests
-  accepted-load s a = rw (a .formed, refusal-none 19 0 (loadItem p streaming s) (λ j h. ap (λ (k : ℕ). codeOf (loadItem p streaming s k)) (add-zero j) ∙ a .each j))
+  accepted-load s a = rw (a .formed, passes (loadItem p streaming s) keys (λ j h. a .each j))
 
   -- of two records that are taken, the merge has one
   over-taken : (k : ℕ) (x y : Option (List ℕ)) → codeOf (itemFor p streaming k x) ≡ 0 → codeOf (itemFor p streaming k y) ≡ 0

@@ -1,22 +1,28 @@
 -- A camera's snapshot is no longer than 159 bytes: no more endpoints hold a setting than the profile lists. Assumes nothing.
 use mathlib.Core.Path.{_≡_, refl, ap, sym, _∙_}
-use mathlib.Core.List.{List}
+use mathlib.Core.List.{List, [], _∷_}
 use mathlib.Core.Option.{Option, none, some, Option·map}
-use mathlib.Core.Bool.{Bool, true, false, cond, _||_}
+use mathlib.Core.Bool.{Bool, true, false, cond, not, _||_}
 use Prim.Native.Nat.{ℕ, zero, suc, _+_, _-_, _≤_}
 use native.Mathlib.Nat.{zero-add, add-zero}
 use native.Mathlib.Omega.{arith}
 use lib.Dec.{eqb}
 use lib.ListN.{length, getD}
 use borrow.Author.Tests.{eqb-true, eqb-false}
+use Rattle.wire.specs.Endpoints.{firstAddress, places, endpointLimit}
+use Rattle.wire.specs.Flags.{choiceOf}
+use Rattle.wire.specs.Rows.{_⇒_}
+use Rattle.wire.specs.Uvc.{outOfRange, invalidValue}
+use Rattle.wire.proofs.Laws.Rows.{quiet}
 use Rattle.snapshot.specs.Records as records
 use Rattle.snapshot.proofs.Laws.Lengths.{encode-short}
-use Rattle.face.specs.declared.face.FaceLimits.{FaceLimits}
-use Rattle.face.specs.Face.{addressAt, offersAt, offersFrom, offersOf, endpoints}
+use Rattle.face.specs.declared.limits.FaceLimits.{FaceLimits}
+use Rattle.settings.specs.Settings.{valueRefusal}
+use Rattle.face.specs.Face.{addressAt, offersAt, offersFrom, offersOf, endpoints, isChoice, settingRefusal}
 use Rattle.controls.specs.declared.setting.Setting.{Setting}
 use Rattle.controls.specs.declared.setting.Setting.the-variants as S
 use Rattle.camera.specs.declared.record.Camera.{Camera}
-use Rattle.camera.specs.Record.{held, valueRefusal, wellFormed}
+use Rattle.camera.specs.Record.{held, wellFormed}
 use Rattle.camera.specs.Snapshots.{row, snapshot}
 use Rattle.demands.proofs.Laws.Held.{held-face, none-never}
 use Rattle.demands.proofs.Laws.Kept.{held-good}
@@ -60,17 +66,21 @@ tally-one (suc n) k f h = go (f k) refl (tally-one n (suc k) f h)
     go true e ih = omega (arith, tally-none n (suc k) f (λ j l. other e j l _ refl))
     go false e ih = omega arith
 
+-- the address of a key of face authentication
+abbrev addressOf : ℕ → ℕ
+addressOf k = firstAddress - 1 + k
+
 -- key k's address is among the first n places
 listed : FaceLimits → ℕ → ℕ → Bool
 listed l zero k = false
-listed l (suc n) k = listed l n k || eqb (addressAt l n) (0x80 + k)
+listed l (suc n) k = listed l n k || eqb (addressAt l n) (addressOf k)
 
 tally-listed : (l : FaceLimits) (n m k : ℕ) → tally m k (listed l n) ≤ n
 unfolding listed
 tally-listed l zero m k = let e = tally-none m k (λ j. false) (λ j h. refl) in omega arith
 tally-listed l (suc n) m k =
-    let one = tally-one m k (λ j. eqb (addressAt l n) (0x80 + j)) (λ i j p q. let a = eqb-true (addressAt l n) (0x80 + i) p in let b = eqb-true (addressAt l n) (0x80 + j) q in omega arith) in
-    let both = tally-or m k (listed l n) (λ j. eqb (addressAt l n) (0x80 + j)) in
+    let one = tally-one m k (λ j. eqb (addressAt l n) (addressOf j)) (λ i j p q. let a = eqb-true (addressAt l n) (addressOf i) p in let b = eqb-true (addressAt l n) (addressOf j) q in omega arith) in
+    let both = tally-or m k (listed l n) (λ j. eqb (addressAt l n) (addressOf j)) in
     omega (arith, tally-listed l n m k)
 
 -- what is among the first places is among more
@@ -80,45 +90,52 @@ listed-more l k n zero h = rw zero-add h
 listed-more l k n (suc m) h = let e : suc m + n ≡ suc (m + n) = omega arith in rw (e, listed-more l k n m h)
 
 -- an address whose look-up finds offers is listed
-found : (l : FaceLimits) (k n i : ℕ) → (offersFrom l (0x80 + k) n i ≡ 0 → ⊥) → listed l (n + i) k ≡ true
+found : (l : FaceLimits) (k n i : ℕ) → (offersFrom l (addressOf k) n i ≡ 0 → ⊥) → listed l (n + i) k ≡ true
 unfolding offersFrom listed
 found l k zero i h = absurd (h refl)
-found l k (suc n) i h = go (eqb (addressAt l i) (0x80 + k)) refl h (found l k n (suc i))
+found l k (suc n) i h = go (eqb (addressAt l i) (addressOf k)) refl h (found l k n (suc i))
   where
-    here : eqb (addressAt l i) (0x80 + k) ≡ true → (b : Bool) → b || eqb (addressAt l i) (0x80 + k) ≡ true
+    here : eqb (addressAt l i) (addressOf k) ≡ true → (b : Bool) → b || eqb (addressAt l i) (addressOf k) ≡ true
     here e true = refl
     here e false = e
 
-    go : (b : Bool) → eqb (addressAt l i) (0x80 + k) ≡ b → (cond b (offersAt l i) (offersFrom l (0x80 + k) n (suc i)) ≡ 0 → ⊥)
-        → ((offersFrom l (0x80 + k) n (suc i) ≡ 0 → ⊥) → listed l (n + suc i) k ≡ true) → listed l (suc n + i) k ≡ true
+    go : (b : Bool) → eqb (addressAt l i) (addressOf k) ≡ b → (cond b (offersAt l i) (offersFrom l (addressOf k) n (suc i)) ≡ 0 → ⊥)
+        → ((offersFrom l (addressOf k) n (suc i) ≡ 0 → ⊥) → listed l (n + suc i) k ≡ true) → listed l (suc n + i) k ≡ true
     go true e q ih = let p : n + suc i ≡ suc n + i = omega arith in rw (← p) (listed-more l k (suc i) n (here e (listed l i k)))
     go false e q ih = let p : n + suc i ≡ suc n + i = omega arith in rw (← p) (ih q)
+
+-- a setting that its SET takes is of an address that offers flags
+value-offered : (l : FaceLimits) (address flags : ℕ) → settingRefusal l address flags ≡ 0 → offersOf l address ≡ 0 → ⊥
+unfolding settingRefusal
+value-offered l address flags z =
+    let offers = offersOf l address in
+    let rows = (eqb offers 0 ⇒ outOfRange) ∷ (not (isChoice (choiceOf offers flags)) ⇒ invalidValue) ∷ [] in
+    eqb-false offers 0 (quiet rows [] refl z .0 .0)
 
 -- so is the address of every endpoint that a well-formed record holds a setting of
 module _ (c : Camera) (w : wellFormed c ≡ true) where
   abbrev limits : FaceLimits
   limits = c .profile .face
 
-  held-listed : (k : ℕ) (s : Setting) → 1 ≤ k → k ≤ 15 → held c k ≡ some s → listed limits (endpoints limits) k ≡ true
+  held-listed : (k : ℕ) (s : Setting) → 1 ≤ k → k ≤ places → held c k ≡ some s → listed limits (endpoints limits) k ≡ true
   unfolding offersOf valueRefusal
-  held-listed k s l h e = go (eqb (getD (c .face) (k - 1) 0) 0) refl (sym (held-face c k l h) ∙ e)
+  held-listed k s l h e = go (eqb (getD (c .settings .face) (k - 1) 0) 0) refl (sym (held-face (c .settings) k l h) ∙ e)
     where
-      offered : (b : Bool) (rest : ℕ) → eqb (offersOf limits (0x80 + k)) 0 ≡ b → cond b 0x04 rest ≡ 0 → offersOf limits (0x80 + k) ≡ 0 → ⊥
-      offered true rest p z = absurd (omega arith)
-      offered false rest p z = eqb-false (offersOf limits (0x80 + k)) 0 p
-
-      go : (b : Bool) → eqb (getD (c .face) (k - 1) 0) 0 ≡ b → cond b none (some (S.Face (0x80 + k) (getD (c .face) (k - 1) 0))) ≡ some s
+      go : (b : Bool) → eqb (getD (c .settings .face) (k - 1) 0) 0 ≡ b → cond b none (some (S.Face (firstAddress + (k - 1)) (getD (c .settings .face) (k - 1) 0))) ≡ some s
           → listed limits (endpoints limits) k ≡ true
       go true p q = absurd (none-never s q)
       go false p q =
-          let f : S.Face (0x80 + k) (getD (c .face) (k - 1) 0) ≡ s = cc in
-          let v : valueRefusal (c .profile) (S.Face (0x80 + k) (getD (c .face) (k - 1) 0)) ≡ 0 = ap (valueRefusal (c .profile)) f ∙ held-good c w k s e .1 .value in
-          ap (λ (n : ℕ). listed limits n k) (sym (add-zero (endpoints limits))) ∙ found limits k (endpoints limits) 0 (offered _ _ refl v)
+          let address = firstAddress + (k - 1) in
+          let flags = getD (c .settings .face) (k - 1) 0 in
+          let f : S.Face address flags ≡ s = cc in
+          let v : valueRefusal (c .profile) (S.Face address flags) ≡ 0 = ap (valueRefusal (c .profile)) f ∙ held-good (c .profile) (c .settings) w k s e .1 .value in
+          let a : address ≡ addressOf k = omega arith in
+          ap (λ (n : ℕ). listed limits n k) (sym (add-zero (endpoints limits))) ∙ found limits k (endpoints limits) 0 (rw a at (value-offered limits address flags v))
 
   abbrev rows : ℕ → Option (List ℕ)
   rows k = Option·map (row k) (held c k)
 
-  held-tally : (n k : ℕ) → 1 ≤ k → n + k ≤ 16 → records.recordCount n k rows ≤ tally n k (listed limits (endpoints limits))
+  held-tally : (n k : ℕ) → 1 ≤ k → n + k ≤ places + 1 → records.recordCount n k rows ≤ tally n k (listed limits (endpoints limits))
   unfolding records.recordCount tally
   held-tally zero k l h = omega arith
   held-tally (suc n) k l h = go (held c k) refl (held-tally n (suc k) (omega arith) (omega arith))
@@ -129,8 +146,8 @@ module _ (c : Camera) (w : wellFormed c ≡ true) where
       go (some s) e ih = rw (held-listed k s l (omega arith) e) (omega arith)
 
   -- at most eight endpoints hold a setting
-  pub few-held : records.recordCount 15 1 rows ≤ 8
-  few-held = omega (arith, held-tally 15 1 (omega arith) (omega arith), tally-listed limits (endpoints limits) 15 1)
+  few-held : records.recordCount places 1 rows ≤ endpointLimit
+  few-held = omega (arith, held-tally places 1 (omega arith) (omega arith), tally-listed limits (endpoints limits) places 1)
 
   pub snapshot-short : length (snapshot c) ≤ 159
   unfolding snapshot

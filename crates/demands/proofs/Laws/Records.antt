@@ -7,7 +7,9 @@ use Prim.Native.Nat.{ℕ, _+_, _-_}
 use native.Mathlib.Omega.{arith}
 use borrow.Author.Tests.{eq-eqb, ne-eqb, le-leb}
 use lib.ListN.{drop}
+use Rattle.wire.specs.Endpoints.{firstAddress, places}
 use Rattle.wire.specs.Number.{bytesOf}
+use Rattle.wire.specs.Selectors as selector
 use Rattle.snapshot.specs.Records.{Record, GoodAt}
 use Rattle.snapshot.specs.Records as records
 use Rattle.snapshot.proofs.Laws.Settings.{Rows}
@@ -15,20 +17,22 @@ use Rattle.snapshot.proofs.Laws.Controls.{record-ev, record-face, record-metada
 use Rattle.controls.specs.declared.setting.Setting.{Setting}
 use Rattle.controls.specs.declared.setting.Setting.the-variants as S
 use Rattle.exposure.specs.Ev.{evBytes}
-use Rattle.face.specs.Face.{entryOf}
+use Rattle.face.specs.Face.{entryOf, settingRefusal}
 use Rattle.controls.specs.Throttle.{throttleBytes}
 use Rattle.controls.specs.Settings.{itemOf}
 use Rattle.controls.specs.declared.setting.Item.the-variants.{Given}
 use Rattle.exposure.proofs.Laws.Ev.{ev-read}
 use Rattle.face.proofs.Laws.Face.{one-entry}
 use Rattle.controls.proofs.Laws.Plain.{metadata-read, hdr-read, throttle-read}
-use Rattle.camera.specs.declared.profile.Profile.{Profile}
+use Rattle.settings.specs.declared.profile.Profile.{Profile}
+use Rattle.settings.specs.Settings.{keyOf, selectorOf, valueRefusal}
+use Rattle.camera.specs.Requests.{controlRefusal}
+use Rattle.settings.specs.Items.{itemAt}
 use Rattle.camera.specs.declared.record.Camera.{Camera}
-use Rattle.camera.specs.Record.{keyOf, selectorOf, held, valueRefusal, controlRefusal, wellFormed}
-use Rattle.camera.specs.Items.{itemAt}
+use Rattle.camera.specs.Record.{held, wellFormed}
 use Rattle.camera.specs.Snapshots.{row, noLimits, selectorAt, recordItem}
 use Rattle.demands.proofs.Laws.Held.{Proper, Each}
-use Rattle.demands.proofs.Laws.Kept.{Good, held-good}
+use Rattle.demands.proofs.Laws.Kept.{Good, held-good, streaming-control}
 use Rattle.demands.proofs.Laws.Fits.{Fitting}
 
 -- a setting's record, under its key
@@ -36,9 +40,9 @@ pub row-record : (k : ℕ) (s : Setting) → keyOf s ≡ k → Proper s → Reco
 unfolding row evBytes throttleBytes bytesOf
 row-record k (S.Ev s) e p = subst (λ j. Record j (row k (S.Ev s))) e (record-ev _ _ _ _ _ _ _ _ _ _ _)
 row-record k (S.Face address flags) e p =
-    let f : 0x80 + (address - 0x80) ≡ address = omega arith in
+    let f : firstAddress - 1 + (address - (firstAddress - 1)) ≡ address = omega arith in
     subst (λ j. Record j (row k (S.Face address flags))) e
-    (subst (λ a. Record (address - 0x80) (13 ∷ 0 ∷ 6 ∷ 0 ∷ 1 ∷ entryOf a flags)) f (record-face (address - 0x80) _ _ _ _ _ _ _ (omega arith) (omega arith)))
+    (subst (λ a. Record (address - (firstAddress - 1)) (13 ∷ 0 ∷ selector.face ∷ 0 ∷ 1 ∷ entryOf a flags)) f (record-face (address - (firstAddress - 1)) _ _ _ _ _ _ _ (omega arith) (omega arith)))
 row-record k (S.Metadata n) e p = subst (λ j. Record j (row k (S.Metadata n))) e (record-metadata _ _ _ _)
 row-record k (S.Hdr n) e p = subst (λ j. Record j (row k (S.Hdr n))) e (record-hdr _ _ _ _)
 row-record k (S.Throttle s) e p = subst (λ j. Record j (row k (S.Throttle s))) e (record-throttle _ _ _ _ _ _ _ _)
@@ -53,11 +57,11 @@ held-rows c w k = go (held c k) refl
   where
     go : (o : Option Setting) → held c k ≡ o → GoodAt k (Option·map (row k) o)
     go none e = tt
-    go (some s) e = let g = held-good c w k s e in row-record k s (g .0) (g .1 .proper)
+    go (some s) e = let g = held-good (c .profile) (c .settings) w k s e in row-record k s (g .0) (g .1 .proper)
 
 -- the record's payload, read as a SET, comes to its setting by the value tests of that setting
 row-item : (p : Profile) (k : ℕ) (s : Setting) → Fitting s → itemAt p (selectorOf s) (drop 4 (row k s)) 0 ≡ itemOf (valueRefusal p s) s
-unfolding itemAt valueRefusal row bytesOf
+unfolding itemAt valueRefusal settingRefusal row bytesOf
 row-item p k (S.Ev s) f = ev-read s (f .0) (f .1) (p .ev)
 row-item p k (S.Face address flags) f = one-entry (p .face) address flags f
 row-item p k (S.Metadata n) f = metadata-read (p .metadata) n f
@@ -67,7 +71,7 @@ row-item p k (S.Throttle s) f = throttle-read s noLimits (p .throttle) (f .0) (f
 -- the selector of a setting's key is the setting's
 key-selector : (k : ℕ) (s : Setting) → keyOf s ≡ k → Proper s → selectorAt k ≡ selectorOf s
 key-selector k (S.Ev s) e p = rw (← e)
-key-selector k (S.Face address flags) e p = rw (ne-eqb k 0 (omega arith), le-leb k 15 (omega arith))
+key-selector k (S.Face address flags) e p = rw (ne-eqb k 0 (omega arith), le-leb k places (omega arith))
 key-selector k (S.Metadata n) e p = rw (← e)
 key-selector k (S.Hdr n) e p = rw (← e)
 key-selector k (S.Throttle s) e p = rw (← e)
@@ -76,5 +80,5 @@ key-selector k (S.Throttle s) e p = rw (← e)
 pub row-taken : (p : Profile) (k : ℕ) (s : Setting) → Fitting s → keyOf s ≡ k → Good p s → recordItem p true k (row k s) ≡ Given s
 unfolding recordItem itemOf
 row-taken p k s f e g =
-    rw (key-selector k s e (g .proper), eq-eqb (controlRefusal p true (selectorOf s)) 0 (g .control))
+    rw (key-selector k s e (g .proper), eq-eqb (controlRefusal p true (selectorOf s)) 0 (streaming-control p (selectorOf s) (g .control)))
     (row-item p k s f ∙ rw (eq-eqb (valueRefusal p s) 0 (g .value)))

@@ -8,6 +8,7 @@ use lib.Dec.{eqb}
 use lib.ListN.{length, getD}
 use lib.Seq.{ext-getD}
 use borrow.Author.Tests.{eqb-true}
+use Rattle.wire.specs.Endpoints.{firstAddress, places}
 use Rattle.controls.specs.declared.setting.Setting.{Setting}
 use Rattle.controls.specs.declared.setting.Setting.the-variants as S
 use Rattle.exposure.specs.declared.ev.Ev.{Ev}
@@ -16,9 +17,8 @@ use Rattle.controls.specs.declared.setting.Number.{Number}
 use Rattle.controls.specs.declared.setting.Number.the-variants as N
 use Rattle.controls.specs.declared.throttle.Throttle.{Throttle}
 use Rattle.controls.specs.declared.throttle.Throttle.the-variants as T
-use Rattle.camera.specs.declared.record.Camera.{Camera}
-use Rattle.camera.specs.Record.{evHeld, faceHeld, numberHeld, metadataHeld, hdrHeld, throttleHeld}
-use Rattle.demands.specs.Records.{Same}
+use Rattle.settings.specs.declared.settings.Settings.{Settings}
+use Rattle.settings.specs.Settings.{held, evHeld, faceHeld, numberHeld, metadataHeld, hdrHeld, throttleHeld}
 use Rattle.demands.proofs.Laws.Held.{none-never, held-face}
 
 pub ev-same : (a b : Ev) → evHeld a ≡ evHeld b → a ≡ b
@@ -55,14 +55,22 @@ face-same address m n e = go (eqb m 0) (eqb n 0) refl refl e
     go false true p q z = absurd (none-never (S.Face address m) (sym z))
     go false false p q z = cc
 
-module _ (c d : Camera) (s : Same c d) where
-  place-same : (i : ℕ) → i < 15 → getD (c .face) i 0 ≡ getD (d .face) i 0
-  place-same i h =
+-- so settings that hold the same of every key are the same
+module _ (g h : Settings) (same : (k : ℕ) → held g k ≡ held h k) (l : length (g .face) ≡ places) (m : length (h .face) ≡ places) where
+  place-same : (i : ℕ) → i < places → getD (g .face) i 0 ≡ getD (h .face) i 0
+  place-same i b =
       let k = 1 + i in
       let e : k - 1 ≡ i = omega arith in
-      let f : getD (c .face) (k - 1) 0 ≡ getD (d .face) (k - 1) 0 =
-      face-same (0x80 + k) _ _ (sym (held-face c k (omega arith) (omega arith)) ∙ s .settings k ∙ held-face d k (omega arith) (omega arith)) in
+      let f : getD (g .face) (k - 1) 0 ≡ getD (h .face) (k - 1) 0 =
+      face-same (firstAddress + (k - 1)) _ _ (sym (held-face g k (omega arith) (omega arith)) ∙ same k ∙ held-face h k (omega arith) (omega arith)) in
       rw e at f
 
-  pub face-places-same : length (c .face) ≡ 15 → length (d .face) ≡ 15 → c .face ≡ d .face
-  face-places-same l m = ext-getD 0 (c .face) (d .face) (l ∙ sym m) (λ i h. place-same i (omega arith))
+  pub settings-same : g ≡ h
+  unfolding held
+  settings-same =
+      let e = ev-same (g .ev) (h .ev) (same 0) in
+      let f = ext-getD 0 (g .face) (h .face) (l ∙ sym m) (λ i b. place-same i (omega arith)) in
+      let n = metadata-same (g .metadata) (h .metadata) (same (places + 1)) in
+      let o = hdr-same (g .hdr) (h .hdr) (same (places + 2)) in
+      let t = throttle-same (g .throttle) (h .throttle) (same (places + 3)) in
+      λ i. record { ev = e i; face = f i; metadata = n i; hdr = o i; throttle = t i }

@@ -1,32 +1,35 @@
 -- A snapshot's record in form, tested as a SET and taken as one. Assumes nothing.
 use mathlib.Core.Path.{_≡_, refl, ap, sym, _∙_}
 use mathlib.Core.List.{List, [], _∷_, append-nil}
-use mathlib.Core.Bool.{Bool, true, false, cond, not, _&&_, true≢false, and-eq-true-iff}
+use mathlib.Core.Bool.{Bool, true, false, cond, not, true≢false, and-eq-true-iff}
 use Prim.Native.Nat.{ℕ, _+_, _-_, _^_, _≤_, _<_}
 use native.Mathlib.Omega.{arith}
 use lib.Dec.{eqb}
 use lib.ListN.{length, getD, drop, length-drop}
 use lib.Seq.{getD-drop}
 use borrow.Author.Tests.{eq-eqb, ne-eqb, le-leb, eqb-true, eqb-false}
+use Rattle.wire.specs.Endpoints.{firstAddress, places}
 use Rattle.wire.specs.Number.{leAt, bytesOf}
-use Rattle.wire.specs.Rows.{_⇒_, firstOf}
+use Rattle.wire.specs.Rows.{Row, _⇒_, answers, firstOf}
+use Rattle.wire.specs.Selectors as selectors
+use Rattle.wire.specs.Uvc.{setCur, invalidControl, invalidRequest}
 use Rattle.wire.proofs.Laws.Bytes.{number-bytes}
 use Rattle.request.specs.Setup as setup
-use Rattle.request.specs.Tests.{requestTests}
+use Rattle.request.specs.Tests.{requestTests, valueTests, setAccepted, controlRefusal}
 use Rattle.snapshot.specs.Form as form
 use Rattle.snapshot.specs.Records.{Record}
 use Rattle.snapshot.proofs.Laws.Sound.{Sound, Kind, ev, face, metadata, hdr, throttle, kind-of, sound-address, stands-sound, stands-size}
 use Rattle.controls.specs.declared.setting.Item.{Item}
 use Rattle.controls.specs.declared.setting.Item.the-variants.{Absent, Refused, Given}
 use Rattle.face.proofs.Laws.Face.{takes-first, count-least}
-use Rattle.controls.specs.Settings.{codeOf}
-use Rattle.camera.specs.declared.profile.Profile.{Profile}
-use Rattle.camera.specs.Profile.{has, settable, takes, profileValid}
-use Rattle.camera.specs.Record.{controlRefusal}
-use Rattle.camera.specs.Items.{givenOf, firstRefusal, allGiven, itemCount, itemAt, setRefusal, setGives}
-use Rattle.camera.specs.Requests.{valueTests}
+use Rattle.controls.specs.Settings.{codeOf, firstRefusal}
+use Rattle.settings.specs.declared.profile.Profile.{Profile}
+use Rattle.settings.specs.Profile.{has, settable, takes, profileValid}
+use Rattle.camera.specs.Requests.{stateOf}
+use Rattle.camera.specs.Requests as camera
+use Rattle.settings.specs.Items.{givenOf, allGiven, itemCount, itemAt, setRefusal, setGives}
+use Rattle.settings.proofs.Laws.Profile.{valid-face}
 use Rattle.camera.specs.Snapshots.{selectorAt, recordItem}
-use Rattle.camera.proofs.Laws.Record.{valid-face}
 use Rattle.demands.specs.Lists.{gives}
 use Rattle.demands.specs.Loading.{setOf, setCode, AsSet}
 
@@ -46,7 +49,7 @@ refused-nothing (Refused code) e = refl
 refused-nothing (Given s) e = absurd (true≢false e)
 
 -- of face authentication, a sound record has one entry
-sound-count : (r : List ℕ) → Sound r → form.kindAt r ≡ 0x06 → getD r 4 0 ≡ 1
+sound-count : (r : List ℕ) → Sound r → form.kindAt r ≡ selectors.face → getD r 4 0 ≡ 1
 sound-count r s e =
     let f = rw e at (s .face) in
     let q = simp and-eq-true-iff at f in
@@ -57,12 +60,12 @@ key-kind : (k : ℕ) (r : List ℕ) → Sound r → form.keyAt r ≡ k → Kind 
 unfolding form.keyAt
 key-kind k r s e (ev q) = let z : 0 ≡ k = rw q at e in rw (← z, q)
 key-kind k r s e (face q) =
-    let z : getD r 5 0 - 0x80 ≡ k = rw q at e in
+    let z : getD r 5 0 - (firstAddress - 1) ≡ k = rw q at e in
     let b = sound-address r s q in
-    rw (q, ne-eqb k 0 (omega arith), le-leb k 15 (omega arith))
-key-kind k r s e (metadata q) = let z : 16 ≡ k = rw q at e in rw (← z, q)
-key-kind k r s e (hdr q) = let z : 17 ≡ k = rw q at e in rw (← z, q)
-key-kind k r s e (throttle q) = let z : 18 ≡ k = rw q at e in rw (← z, q)
+    rw (q, ne-eqb k 0 (omega arith), le-leb k places (omega arith))
+key-kind k r s e (metadata q) = let z : places + 1 ≡ k = rw q at e in rw (← z, q)
+key-kind k r s e (hdr q) = let z : places + 2 ≡ k = rw q at e in rw (← z, q)
+key-kind k r s e (throttle q) = let z : places + 3 ≡ k = rw q at e in rw (← z, q)
 
 module _ (k : ℕ) (r : List ℕ) (g : Record k r) where
   record-sound : Sound r
@@ -82,15 +85,15 @@ module _ (k : ℕ) (r : List ℕ) (g : Record k r) where
       omega (arith, record-sound .four)
 
   -- a face record has one entry
-  one-entry : selectorAt k ≡ 0x06 → getD (drop 4 r) 0 0 ≡ 1
+  one-entry : selectorAt k ≡ selectors.face → getD (drop 4 r) 0 0 ≡ 1
   one-entry e = getD-drop 4 r 0 0 ∙ sound-count r record-sound (sym is-kind ∙ e)
 
   -- so a SET of any record has one item
   one-item : itemCount (selectorAt k) (drop 4 r) ≡ 1
-  one-item = go (eqb (selectorAt k) 0x06) refl
+  one-item = go (eqb (selectorAt k) selectors.face) refl
     where
-      go : (b : Bool) → eqb (selectorAt k) 0x06 ≡ b → cond b (getD (drop 4 r) 0 0) 1 ≡ 1
-      go true e = one-entry (eqb-true (selectorAt k) 0x06 e)
+      go : (b : Bool) → eqb (selectorAt k) selectors.face ≡ b → cond b (getD (drop 4 r) 0 0) 1 ≡ 1
+      go true e = one-entry (eqb-true (selectorAt k) selectors.face e)
       go false e = refl
 
   set-refusal : (p : Profile) → setRefusal p (selectorAt k) (drop 4 r) ≡ codeOf (itemAt p (selectorAt k) (drop 4 r) 0)
@@ -111,14 +114,14 @@ module _ (k : ℕ) (r : List ℕ) (g : Record k r) where
   takes-payload p v h = go kind
     where
       go : Kind (selectorAt k) → takes p (selectorAt k) (drop 4 r) ≡ length (drop 4 r)
-      go (ev e) = rw e (omega (arith, payload-length 0x03 e))
+      go (ev e) = rw e (omega (arith, payload-length selectors.ev e))
       go (face e) =
-          let n = payload-length 0x06 e in
+          let n = payload-length selectors.face e in
           let few : 1 ≤ p .face .count = count-least (p .face) (valid-face p v (rw e at h)) in
           rw e (takes-first (p .face) (drop 4 r) (λ z. omega arith) ∙ rw (one-entry e, le-leb 1 (p .face .count) few) (omega arith))
-      go (metadata e) = rw e (omega (arith, payload-length 0x09 e))
-      go (hdr e) = rw e (omega (arith, payload-length 0x0D e))
-      go (throttle e) = rw e (omega (arith, payload-length 0x0E e))
+      go (metadata e) = rw e (omega (arith, payload-length selectors.metadata e))
+      go (hdr e) = rw e (omega (arith, payload-length selectors.hdr e))
+      go (throttle e) = rw e (omega (arith, payload-length selectors.throttle e))
 
   -- wLength says that length
   length-said : (p : Profile) → setup.wLengthOf (setOf p k r) ≡ length (drop 4 r)
@@ -126,42 +129,47 @@ module _ (k : ℕ) (r : List ℕ) (g : Record k r) where
   length-said p = number-bytes 2 (length (drop 4 r)) (go kind)
     where
       go : Kind (selectorAt k) → length (drop 4 r) < 256 ^ 2
-      go (ev e) = omega (arith, payload-length 0x03 e)
-      go (face e) = omega (arith, payload-length 0x06 e)
-      go (metadata e) = omega (arith, payload-length 0x09 e)
-      go (hdr e) = omega (arith, payload-length 0x0D e)
-      go (throttle e) = omega (arith, payload-length 0x0E e)
+      go (ev e) = omega (arith, payload-length selectors.ev e)
+      go (face e) = omega (arith, payload-length selectors.face e)
+      go (metadata e) = omega (arith, payload-length selectors.metadata e)
+      go (hdr e) = omega (arith, payload-length selectors.hdr e)
+      go (throttle e) = omega (arith, payload-length selectors.throttle e)
 
   -- tests 2 to 8
   module _ (p : Profile) (v : profileValid p ≡ true) (streaming : Bool) where
-    abbrev stopped : Bool
-    stopped = eqb (selectorAt k) 0x0E && not streaming
+    abbrev state : ℕ
+    state = stateOf streaming (selectorAt k) setCur
+
+    abbrev rows : ℕ → List Row
+    rows n = (not (has p (selectorAt k)) ⇒ invalidControl) ∷ (not (settable p (selectorAt k)) ⇒ invalidRequest) ∷ answers state ∷ answers n ∷ []
+
+    value : ℕ
+    value = codeOf (itemAt p (selectorAt k) (drop 4 r) 0)
 
     -- where the control is there, test 6 holds
-    set-tests : (b : Bool) → has p (selectorAt k) ≡ b → setCode p streaming k r
-        ≡ cond (not b) 0x06 (cond (not (settable p (selectorAt k))) 0x07 (cond stopped 0x02 (codeOf (itemAt p (selectorAt k) (drop 4 r) 0))))
-    unfolding requestTests valueTests bytesOf
+    set-tests : (b : Bool) → has p (selectorAt k) ≡ b → setCode p streaming k r ≡ firstOf (rows value)
+    unfolding requestTests valueTests bytesOf value
     set-tests true h =
         let z = takes-payload p v h in
         let w = length-said p in
         rw (eq-eqb (p .unit) (p .unit) refl, eq-eqb (p .interface) (p .interface) refl, h, w, z, eq-eqb (length (drop 4 r)) (length (drop 4 r)) refl, set-refusal p)
-        (ap (λ (n : ℕ). cond (not (settable p (selectorAt k))) 0x07 (cond stopped 0x02 n)) (row-number (codeOf (itemAt p (selectorAt k) (drop 4 r) 0))))
     set-tests false h = rw (eq-eqb (p .unit) (p .unit) refl, eq-eqb (p .interface) (p .interface) refl, h)
 
-    record-code : codeOf (recordItem p streaming k r)
-        ≡ cond (not (has p (selectorAt k))) 0x06 (cond (not (settable p (selectorAt k))) 0x07 (cond stopped 0x02 (codeOf (itemAt p (selectorAt k) (drop 4 r) 0))))
-    unfolding recordItem controlRefusal codeOf
-    record-code = go (has p (selectorAt k)) (settable p (selectorAt k)) stopped
+    record-code : codeOf (recordItem p streaming k r) ≡ firstOf (rows value)
+    unfolding recordItem controlRefusal codeOf value
+    record-code = go (has p (selectorAt k)) (settable p (selectorAt k)) state
       where
-        code : Bool → Bool → Bool → ℕ
-        code a b t = cond (not a) 0x06 (cond (not b) 0x07 (cond t 0x02 0))
+        code : Bool → Bool → ℕ → List Row → ℕ
+        code a b n rest = firstOf ((not a ⇒ invalidControl) ∷ (not b ⇒ invalidRequest) ∷ answers n ∷ rest)
 
-        go : (a b t : Bool) → codeOf (cond (eqb (code a b t) 0) (itemAt p (selectorAt k) (drop 4 r) 0) (Refused (code a b t)))
-            ≡ cond (not a) 0x06 (cond (not b) 0x07 (cond t 0x02 (codeOf (itemAt p (selectorAt k) (drop 4 r) 0))))
-        go true true true = refl
-        go true true false = refl
-        go true false t = refl
-        go false b t = refl
+        last : (n : ℕ) (b : Bool) → eqb n 0 ≡ b → codeOf (cond (eqb (cond (not b) n 0) 0) (itemAt p (selectorAt k) (drop 4 r) 0) (Refused (cond (not b) n 0))) ≡ cond (not b) n (firstOf (answers value ∷ []))
+        last n true e = sym (row-number value)
+        last n false e = rw e
+
+        go : (a b : Bool) (n : ℕ) → codeOf (cond (eqb (code a b n []) 0) (itemAt p (selectorAt k) (drop 4 r) 0) (Refused (code a b n []))) ≡ code a b n (answers value ∷ [])
+        go true true n = last n (eqb n 0) refl
+        go true false n = refl
+        go false b n = refl
 
     set-code : setCode p streaming k r ≡ codeOf (recordItem p streaming k r)
     set-code = set-tests (has p (selectorAt k)) refl ∙ sym record-code
@@ -172,7 +180,7 @@ module _ (k : ℕ) (r : List ℕ) (g : Record k r) where
     record-item e = go (eqb code 0) refl e
       where
         code : ℕ
-        code = controlRefusal p streaming (selectorAt k)
+        code = camera.controlRefusal p streaming (selectorAt k)
 
         go : (b : Bool) → eqb code 0 ≡ b → codeOf (cond b (itemAt p (selectorAt k) (drop 4 r) 0) (Refused code)) ≡ 0
             → cond b (itemAt p (selectorAt k) (drop 4 r) 0) (Refused code) ≡ itemAt p (selectorAt k) (drop 4 r) 0
@@ -184,5 +192,5 @@ module _ (k : ℕ) (r : List ℕ) (g : Record k r) where
     set-settings false e = sym (refused-nothing (recordItem p streaming k r) e)
 
     pub record-as-set : AsSet p streaming k r
-    unfolding gives
+    unfolding gives setAccepted
     record-as-set = record { code = set-code; settings = λ reply. rw set-code (set-settings _ refl) }

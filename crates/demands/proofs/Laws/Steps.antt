@@ -3,51 +3,66 @@ use mathlib.Core.Path.{_≡_, refl, ap, sym, _∙_, subst}
 use mathlib.Core.List.{List, [], _∷_, _++_}
 use mathlib.Core.Option.{Option, none, some}
 use mathlib.Core.Bool.{Bool, true, false, cond, not, _&&_, true≢false, and-eq-true-iff}
-use Prim.Native.Nat.{ℕ, suc}
-use native.Mathlib.Omega.{arith}
+use Prim.Native.Nat.{ℕ, _+_}
 use lib.Dec.{eqb, ltb, leb}
 use lib.ListN.{length, drop}
-use borrow.Author.Tests.{ne-eqb, eqb-true, eqb-false}
-use Rattle.wire.specs.Rows.{Row, _⇒_, firstOf}
+use borrow.Author.Tests.{ne-eqb, eqb-true}
+use Rattle.wire.specs.Endpoints.{places}
+use Rattle.wire.specs.Rows.{Row, _⇒_, firstOf, Quiet}
+use Rattle.wire.specs.Selectors as selectors
+use Rattle.wire.specs.Uvc.{malformedRecord, noRoom}
+use Rattle.wire.proofs.Laws.Rows.{quiet, quiet-own, own-coded, own-quiet}
 use Rattle.request.specs.Setup.{isSetRequest}
 use Rattle.request.specs.Setup as setup
-use Rattle.request.specs.Tests.{requestTests, addressed, understood, sized}
-use Rattle.request.proofs.Laws.Tests.{then-rows}
+use Rattle.request.specs.Table.{Table}
+use Rattle.request.specs.Tests.{requestTests, sized, sentCount, valueTests, requestRows}
+use Rattle.request.specs.Tests as tests
+use Rattle.snapshot.specs.Form.{keys}
 use Rattle.snapshot.specs.Records.{decode}
 use Rattle.snapshot.specs.Merge.{over}
 use Rattle.snapshot.specs.Settings.{lastOf}
 use Rattle.controls.specs.declared.setting.Item.{Item}
 use Rattle.controls.specs.declared.setting.Item.the-variants.{Absent, Refused, Given}
 use Rattle.controls.specs.declared.setting.Setting.{Setting}
-use Rattle.camera.specs.declared.profile.Profile.{Profile}
+use Rattle.settings.specs.declared.profile.Profile.{Profile}
+use Rattle.settings.specs.Profile.{has, settable, takes, profileValid, controlRefusal}
+use Rattle.settings.specs.Items.{itemCount, itemAt, setRefusal, setGives}
+use Rattle.settings.specs.Items as items
+use Rattle.settings.specs.Selectors.{Control, ev, face, metadata, hdr, throttle}
+use Rattle.settings.proofs.Laws.Kept.{control-kept}
+use Rattle.settings.proofs.Laws.Profile.{valid-presence}
+use Rattle.settings.proofs.Laws.Selectors.{control-known}
 use Rattle.camera.specs.declared.record.Camera.{Camera}
 use Rattle.camera.specs.declared.calls.Outcome.{Outcome}
-use Rattle.camera.specs.Profile.{has, settable, takes, table, profileValid}
-use Rattle.camera.specs.Record.{withStreaming, held, controlRefusal, wellFormed}
-use Rattle.camera.specs.Items.{puts, itemCount, itemAt, setRefusal, setGives}
-use Rattle.camera.specs.Requests.{sentCount, valueTests, requestRows, requestCode, refused, outcomeBy, requestDone, requested}
+use Rattle.camera.specs.Record.{held, wellFormed, puts}
+use Rattle.camera.specs.Requests.{requestCode, refused, outcomeBy, requestDone, requested, rules, table}
+use Rattle.camera.specs.Requests as camera
 use Rattle.camera.specs.Snapshots.{selectorAt, snapshot, recordItem, itemFor, loadItem, loadTests, loadCode, loadGives, loaded, written, writeCode}
-use Rattle.camera.specs.Calls.{streamed, sensed, Call, request, stream, load, write, sense, outcome, next}
+use Rattle.camera.specs.Calls.{sensed, Call, request, stream, load, write, sense, outcome, next}
+use Rattle.camera.proofs.Laws.Record.{formed-profile, streamed-done}
 use Rattle.demands.specs.Lists.{setAccepted, gives, leaves}
 use Rattle.demands.specs.Records.{Ok}
-use Rattle.camera.specs.Selectors.{Control, ev, face, metadata, hdr, throttle}
-use Rattle.camera.proofs.Laws.Selectors.{control-known}
-use Rattle.demands.proofs.Laws.Held.{Each, puts-held, puts-length, puts-profile, puts-streaming}
-use Rattle.camera.proofs.Laws.Record.{valid-presence, formed-profile}
-use Rattle.demands.proofs.Laws.Kept.{Good, control-streaming, item-good, all-good, each-proper, puts-formed, kept-formed, formed-kept}
+use Rattle.demands.proofs.Laws.Held.{Each, puts-held, puts-length}
+use Rattle.demands.proofs.Laws.Kept.{Good, control-streaming, item-good, all-good, each-proper, puts-formed}
 
 -- rows whose tests all fail add nothing
 first-quiet : (a b : List Row) → firstOf b ≡ 0 → firstOf (a ++ b) ≡ firstOf a
 first-quiet [] b e = e
 first-quiet ((test ⇒ code) ∷ a) b e = ap (cond test code) (first-quiet a b e)
 
+-- tests 2 to 8
+abbrev testsOf : Profile → Bool → List ℕ → List ℕ → List Row
+testsOf p streaming s payload = requestTests (rules p streaming) s payload ++ valueTests (rules p streaming) s payload
+
 -- the number of a SET, on a well-formed record
 set-code : (c : Camera) (s payload : List ℕ) (room : ℕ) → wellFormed c ≡ true → isSetRequest s ≡ true
-    → requestCode c s payload room ≡ firstOf (requestTests (table (c .profile)) s payload ++ valueTests (c .profile) (c .streaming) s payload)
-unfolding requestCode requestRows
+    → requestCode c s payload room ≡ firstOf (testsOf (c .profile) (c .streaming) s payload)
+unfolding tests.requestCode requestRows requestTests valueTests
 set-code c s payload room w e =
-    let last : firstOf ((not (isSetRequest s) && ltb room (sentCount c s) ⇒ 0x20) ∷ []) ≡ 0 = rw e in
-    rw w (first-quiet (requestTests (table (c .profile)) s payload ++ valueTests (c .profile) (c .streaming) s payload) _ last)
+    let last = (not (isSetRequest s) && ltb room (sentCount (table c) s) ⇒ noRoom) ∷ [] in
+    let z : firstOf last ≡ 0 = rw e in
+    ap (λ b. cond (not b) malformedRecord (firstOf (testsOf (c .profile) (c .streaming) s payload ++ last))) w
+    ∙ first-quiet (testsOf (c .profile) (c .streaming) s payload) last z
 
 -- a call's number is that of its tests
 pub outcome-code : (code : ℕ) (c : Camera) (done : Outcome) → done .code ≡ 0 → outcomeBy code c done .code ≡ code
@@ -60,7 +75,7 @@ outcome-code code c done z = go (eqb code 0) refl
 -- a SET is accepted where the request answers 0
 pub set-answer : (c : Camera) (s payload : List ℕ) (room : ℕ) → wellFormed c ≡ true → isSetRequest s ≡ true
     → setAccepted (c .profile) (c .streaming) s payload ≡ eqb (requested c s payload room .code) 0
-unfolding requested requestDone
+unfolding requested requestDone tests.setAccepted
 set-answer c s payload room w e =
     let done : Outcome = record { code = 0; count = 0; camera = puts c (setGives (c .profile) (setup.selectorOf s) payload) } in
     rw e (ap (λ (n : ℕ). eqb n 0) (sym (outcome-code (requestCode c s payload room) c done refl ∙ set-code c s payload room w e)))
@@ -73,7 +88,7 @@ load-answer c s w =
 
 -- a refused call gives no setting
 pub refused-none : (c : Camera) → wellFormed c ≡ true → (call : Call) → (outcome c call .code ≡ 0 → ⊥) → gives (c .profile) (c .streaming) call ≡ []
-unfolding gives
+unfolding gives tests.setAccepted
 refused-none c w (request s payload reply) n = go (isSetRequest s) refl
   where
     go : (b : Bool) → isSetRequest s ≡ b → gives (c .profile) (c .streaming) (request s payload reply) ≡ []
@@ -87,7 +102,7 @@ refused-none c w sense n = refl
 -- what a request leaves of the record
 pub request-next : (c : Camera) (s payload reply : List ℕ) → wellFormed c ≡ true
     → requested c s payload (length reply) .camera ≡ puts c (gives (c .profile) (c .streaming) (request s payload reply))
-unfolding requested requestDone gives puts
+unfolding requested requestDone gives items.puts tests.setAccepted
 request-next c s payload reply w = go (isSetRequest s) refl
   where
     set : ℕ → Bool → Outcome
@@ -104,12 +119,12 @@ request-next c s payload reply w = go (isSetRequest s) refl
     go : (b : Bool) → isSetRequest s ≡ b → requested c s payload (length reply) .camera ≡ puts c (gives (c .profile) (c .streaming) (request s payload reply))
     go true e =
         let n = set-code c s payload (length reply) w e in
-        let code = firstOf (requestTests (table (c .profile)) s payload ++ valueTests (c .profile) (c .streaming) s payload) in
+        let code = firstOf (testsOf (c .profile) (c .streaming) s payload) in
         rw (e, n) (taken code (eqb code 0))
-    go false e = rw e (get (eqb (requestCode c s payload (length reply)) 0) (record { code = 0; count = sentCount c s; camera = c }) (refused (requestCode c s payload (length reply)) c) refl refl)
+    go false e = rw e (get (eqb (requestCode c s payload (length reply)) 0) (record { code = 0; count = sentCount (table c) s; camera = c }) (refused (requestCode c s payload (length reply)) c) refl refl)
 
 pub load-next : (c : Camera) (s : List ℕ) → wellFormed c ≡ true → loaded c s .camera ≡ puts c (gives (c .profile) (c .streaming) (load s))
-unfolding loaded loadCode gives puts
+unfolding loaded loadCode gives items.puts
 load-next c s w = rw w (go (eqb (firstOf (loadTests (c .profile) (c .streaming) s)) 0))
   where
     go : (b : Bool)
@@ -126,77 +141,53 @@ write-next c out = go (eqb (writeCode c (length out)) 0)
     go true = refl
     go false = refl
 
-stream-next : (c : Camera) (on : Bool) → wellFormed c ≡ true → streamed c on .camera ≡ withStreaming c on
-unfolding streamed
-stream-next c on w = rw w
-
--- where no row answers, the first row's test fails and so do the others'
-first-off : (test : Bool) (code : ℕ) (rows : List Row) → firstOf ((test ⇒ suc code) ∷ rows) ≡ 0 → (test ≡ false) × (firstOf rows ≡ 0)
-first-off true code rows e = absurd (omega arith)
-first-off false code rows e = (refl, e)
-
-not-off : (b : Bool) → not b ≡ false → b ≡ true
+pub not-off : (b : Bool) → not b ≡ false → b ≡ true
 not-off true e = refl
 not-off false e = absurd (true≢false e)
 
 -- what tests 2 to 8 of an accepted SET say
 module _ (p : Profile) (streaming : Bool) (s payload : List ℕ) (a : setAccepted p streaming s payload ≡ true) where
-  pub accepted-set : isSetRequest s ≡ true
-  accepted-set = and-eq-true-iff (isSetRequest s) _ .0 a .0
+  abbrev t : Table
+  t = rules p streaming
 
-  accepted-tests : (firstOf (requestTests (table p) s payload) ≡ 0) × (firstOf (valueTests p streaming s payload) ≡ 0)
-  accepted-tests = go (eqb (firstOf (requestTests (table p) s payload)) 0) refl (sym (then-rows (table p) s payload (valueTests p streaming s payload)) ∙ eqb-true _ 0 (and-eq-true-iff (isSetRequest s) _ .0 a .1))
-    where
-      go : (b : Bool) → eqb (firstOf (requestTests (table p) s payload)) 0 ≡ b
-          → cond b (firstOf (valueTests p streaming s payload)) (firstOf (requestTests (table p) s payload)) ≡ 0
-          → (firstOf (requestTests (table p) s payload) ≡ 0) × (firstOf (valueTests p streaming s payload) ≡ 0)
-      go true e z = (eqb-true _ 0 e, z)
-      go false e z = absurd (eqb-false _ 0 e z)
+  abbrev selector : ℕ
+  selector = setup.selectorOf s
 
-  accepted-rows : (has p (setup.selectorOf s) ≡ true) × (understood (table p) s ≡ true) × (sized (takes p (setup.selectorOf s) payload) s payload ≡ true)
+  accepted-zero : (isSetRequest s ≡ true) × (firstOf (testsOf p streaming s payload) ≡ 0)
+  unfolding tests.setAccepted
+  accepted-zero = let q = and-eq-true-iff (isSetRequest s) _ .0 a in (q .0, eqb-true _ 0 (q .1))
+
+  accepted-set : isSetRequest s ≡ true
+  accepted-set = accepted-zero .0
+
+  accepted-quiet : Quiet (requestTests t s payload) × (firstOf (valueTests t s payload) ≡ 0)
   unfolding requestTests
-  accepted-rows =
-      let t = table p in
-      let last = (not (sized (takes p (setup.selectorOf s) payload) s payload) ⇒ 0xFF) ∷ [] in
-      let fifth = (not (understood t s) ⇒ 0x07) ∷ last in
-      let fourth = (not (has p (setup.selectorOf s)) ⇒ 0x06) ∷ fifth in
-      let q2 = first-off (not (eqb (length s) 8)) 0xFE ((not (addressed t s) ⇒ 0x05) ∷ fourth) (accepted-tests .0) in
-      let q3 = first-off (not (addressed t s)) 0x04 fourth (q2 .1) in
-      let q4 = first-off (not (has p (setup.selectorOf s))) 0x05 fifth (q3 .1) in
-      let q5 = first-off (not (understood t s)) 0x06 last (q4 .1) in
-      let q6 = first-off (not (sized (takes p (setup.selectorOf s) payload) s payload)) 0xFE [] (q5 .1) in
-      (not-off (has p (setup.selectorOf s)) (q4 .0), not-off (understood t s) (q5 .0), not-off (sized (takes p (setup.selectorOf s) payload) s payload) (q6 .0))
+  accepted-quiet = quiet (requestTests t s payload) (valueTests t s payload) refl (accepted-zero .1)
 
   -- its control is there and takes a SET
-  pub accepted-control : (has p (setup.selectorOf s) ≡ true) × (settable p (setup.selectorOf s) ≡ true)
+  pub accepted-control : (has p selector ≡ true) × (settable p selector ≡ true)
+  unfolding requestTests
   accepted-control =
-      let u = and-eq-true-iff (eqb (setup.valueLow s) 0) _ .0 (accepted-rows .1) .1 in
-      (accepted-rows .0, rw accepted-set at u)
+      let q = accepted-quiet .0 .1 .1 in
+      let u = and-eq-true-iff (eqb (setup.valueLow s) 0) _ .0 (not-off _ (q .1 .0)) .1 in
+      (not-off _ (q .0), rw accepted-set at u)
 
   -- the payload has the control's length
-  pub accepted-length : length payload ≡ takes p (setup.selectorOf s) payload
+  pub accepted-length : length payload ≡ takes p selector payload
+  unfolding requestTests
   accepted-length =
-      let z = rw accepted-set at (accepted-rows .2) in
+      let z = rw accepted-set at (not-off (sized (takes p selector payload) s payload) (accepted-quiet .0 .1 .1 .1 .1 .0)) in
       eqb-true (length payload) _ (and-eq-true-iff (eqb (length payload) (setup.wLengthOf s)) _ .0 z .1)
 
   -- and no value test refuses it
-  pub accepted-values : setRefusal p (setup.selectorOf s) payload ≡ 0
+  pub accepted-values : setRefusal p selector payload ≡ 0
   unfolding valueTests
-  accepted-values = go (eqb (setup.selectorOf s) 0x0E && not streaming) (eqb (setRefusal p (setup.selectorOf s) payload) 0) refl (rw accepted-set at (accepted-tests .1))
-    where
-      go : (b e : Bool) → eqb (setRefusal p (setup.selectorOf s) payload) 0 ≡ e
-          → cond b 0x02 (cond (not e) (setRefusal p (setup.selectorOf s) payload) 0) ≡ 0 → setRefusal p (setup.selectorOf s) payload ≡ 0
-      go true e q z = absurd (omega arith)
-      go false true q z = eqb-true _ 0 q
-      go false false q z = z
+  accepted-values =
+      let v = quiet-own (valueTests t s payload) (own-coded _, (own-coded _, tt)) (accepted-quiet .1) in
+      rw accepted-set at (own-quiet (cond (isSetRequest s) (setRefusal p selector payload) 0) (v .1 .0))
 
-  pub set-control : controlRefusal p true (setup.selectorOf s) ≡ 0
-  unfolding controlRefusal
-  set-control = rw (accepted-control .0, accepted-control .1) (go (eqb (setup.selectorOf s) 0x0E))
-    where
-      go : (b : Bool) → cond {A = ℕ} (b && false) 2 0 ≡ 0
-      go true = refl
-      go false = refl
+  pub set-control : controlRefusal p selector ≡ 0
+  set-control = eqb-true _ 0 (control-kept p selector ∙ rw (accepted-control .0, accepted-control .1))
 
 -- which items give a setting
 unfoldable pub isGiven : Item → Bool
@@ -206,9 +197,9 @@ isGiven (Given s) = true
 
 -- a key's records are of one of the five controls
 pub key-control : (k : ℕ) → Control (selectorAt k)
-key-control k = go (eqb k 0) (leb k 15) (eqb k 16) (eqb k 17)
+key-control k = go (eqb k 0) (leb k places) (eqb k (places + 1)) (eqb k (places + 2))
   where
-    go : (a b c d : Bool) → Control (cond a 0x03 (cond b 0x06 (cond c 0x09 (cond d 0x0D 0x0E))))
+    go : (a b c d : Bool) → Control (cond a selectors.ev (cond b selectors.face (cond c selectors.metadata (cond d selectors.hdr selectors.throttle))))
     go true b c d = ev
     go false true c d = face
     go false false true d = metadata
@@ -219,16 +210,18 @@ key-control k = go (eqb k 0) (leb k 15) (eqb k 16) (eqb k 17)
 module _ (p : Profile) (v : profileValid p ≡ true) where
   record-good : (streaming : Bool) (k : ℕ) (r : List ℕ) (s : Setting) → recordItem p streaming k r ≡ Given s → Good p s
   unfolding recordItem isGiven
-  record-good streaming k r s e = go (eqb (controlRefusal p streaming (selectorAt k)) 0) refl e
+  record-good streaming k r s e = go (eqb code 0) refl e
     where
-      go : (b : Bool) → eqb (controlRefusal p streaming (selectorAt k)) 0 ≡ b
-          → cond b (itemAt p (selectorAt k) (drop 4 r) 0) (Refused (controlRefusal p streaming (selectorAt k))) ≡ Given s → Good p s
-      go true q i = item-good p v (drop 4 r) 0 s (selectorAt k) (key-control k) (control-streaming p streaming (selectorAt k) (eqb-true _ 0 q)) i
+      code : ℕ
+      code = camera.controlRefusal p streaming (selectorAt k)
+
+      go : (b : Bool) → eqb code 0 ≡ b → cond b (itemAt p (selectorAt k) (drop 4 r) 0) (Refused code) ≡ Given s → Good p s
+      go true q i = item-good p v (drop 4 r) 0 s (selectorAt k) (key-control k) (control-streaming p (selectorAt k) streaming (eqb-true code 0 q)) i
       go false q i = absurd (true≢false (sym (ap isGiven i)))
 
   load-good : (streaming : Bool) (s : List ℕ) → Each (Good p) (loadGives p streaming s)
   unfolding loadGives itemFor isGiven
-  load-good streaming s = all-good p 19 0 (loadItem p streaming s) (λ k t e. go k t (decode s k) e)
+  load-good streaming s = all-good p keys 0 (loadItem p streaming s) (λ k t e. go k t (decode s k) e)
     where
       go : (k : ℕ) (t : Setting) (o : Option (List ℕ)) → itemFor p streaming k o ≡ Given t → Good p t
       go k t none e = absurd (true≢false (sym (ap isGiven e)))
@@ -267,26 +260,13 @@ module _ (p : Profile) (c : Camera) (o : Ok p c) (call : Call) where
 
   puts-ok : Ok p (puts c given)
   puts-ok = record {
-    profile = puts-profile c given ∙ o .profile;
-    formed = puts-formed c given (o .formed) (o .places) given-good;
-    places = puts-length c given (each-proper (c .profile) given given-good) ∙ o .places;
+    profile = o .profile;
+    formed = puts-formed (c .profile) (c .settings) (o .formed) given (o .places) given-good;
+    places = puts-length (c .settings) given ∙ o .places;
   }
 
   given-held : (k : ℕ) → held (puts c given) k ≡ over (held c k) (lastOf given k)
-  given-held = puts-held c given (each-proper (c .profile) given given-good) (o .places)
-
--- the flag says nothing of the settings
-streaming-held : (c : Camera) (on : Bool) (k : ℕ) → held (withStreaming c on) k ≡ held c k
-unfolding withStreaming held
-streaming-held c on k = refl
-
-streaming-ok : (p : Profile) (c : Camera) (on : Bool) → Ok p c → Ok p (withStreaming c on)
-unfolding withStreaming
-streaming-ok p c on o = record {
-  profile = o .profile;
-  formed = kept-formed (withStreaming c on) (formed-profile c (o .formed)) (λ k. rw (streaming-held c on k) (formed-kept c (o .formed) k));
-  places = o .places;
-}
+  given-held = puts-held (c .settings) given (each-proper (c .profile) given given-good) (o .places)
 
 -- What one call leaves of such a record.
 pub record Step (p : Profile) (c : Camera) (call : Call) : Type 0 where
@@ -299,19 +279,19 @@ puts-step : (p : Profile) (c : Camera) (o : Ok p c) (call : Call) → next c cal
 puts-step p c o call e f = record {
   ok = subst (Ok p) (sym e) (puts-ok p c o call);
   held-after = λ k. ap (λ d. held d k) e ∙ given-held p c o call k ∙ ap (λ q. over (held c k) (lastOf (gives q (c .streaming) call) k)) (o .profile);
-  streaming-after = ap (λ d. d .streaming) e ∙ puts-streaming c (gives (c .profile) (c .streaming) call) ∙ f;
+  streaming-after = ap (λ d. d .streaming) e ∙ f;
 }
 
 pub step : (p : Profile) (c : Camera) → Ok p c → (call : Call) → Step p c call
-unfolding gives puts sensed withStreaming
+unfolding gives items.puts sensed
 step p c o (request s payload reply) = puts-step p c o (request s payload reply) (request-next c s payload reply (o .formed)) refl
 step p c o (load s) = puts-step p c o (load s) (load-next c s (o .formed)) refl
 step p c o (write out) = puts-step p c o (write out) (write-next c out) refl
 step p c o sense = puts-step p c o sense refl refl
 step p c o (stream on) =
-    let e = stream-next c on (o .formed) in
+    let e = ap (λ r. r .camera) (streamed-done c (o .formed) on) in
     record {
-      ok = subst (Ok p) (sym e) (streaming-ok p c on o);
-      held-after = λ k. ap (λ d. held d k) e ∙ streaming-held c on k;
+      ok = subst (Ok p) (sym e) (record { profile = o .profile; formed = o .formed; places = o .places });
+      held-after = λ k. ap (λ d. held d k) e;
       streaming-after = ap (λ d. d .streaming) e;
     }

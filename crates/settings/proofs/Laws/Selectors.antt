@@ -1,7 +1,7 @@
 -- A valid profile has no control but the five. Assumes nothing.
 use mathlib.Core.Path.{_≡_, refl, sym, _∙_, subst}
 use mathlib.Core.Bool.{Bool, true, false, cond, not, _&&_, _||_, true≢false, and-eq-true-iff}
-use Prim.Native.Nat.{ℕ, zero, suc, _+_, _-_, _^_, _≤_, _<_}
+use Prim.Native.Nat.{ℕ, suc, _+_, _-_, _^_, _≤_}
 use native.Mathlib.Omega.{arith}
 use lib.Dec.{eqb, leb, ltb}
 use borrow.Author.Tests.{eqb-true, leb-true, leb-false, ltb-true}
@@ -12,12 +12,6 @@ use Rattle.face.specs.Face.{allBelow}
 use Rattle.face.proofs.Laws.Face.{all-at}
 use Rattle.settings.specs.Selectors.{Control, ev, face, metadata, hdr, throttle}
 use Rattle.settings.specs.Profile.{presenceValid}
-
--- what holds of each number below n holds of all
-pub below-all : (n : ℕ) (f : ℕ → Bool) → ((k : ℕ) → k < n → f k ≡ true) → allBelow n f ≡ true
-unfolding allBelow
-below-all zero f h = refl
-below-all (suc n) f h = rw (below-all n f (λ k l. h k (omega arith)), h n (omega arith))
 
 -- a test that is computed for both truth values
 every : (Bool → Bool) → Bool
