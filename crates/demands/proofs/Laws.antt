@@ -11,3 +11,4 @@ pub mod Same
 pub mod Sensor
 pub mod Sets
 pub mod Steps
+pub mod Typed

@@ -5,5 +5,6 @@ pub mod Demand1
 pub mod Demand2
 pub mod Demand3
 pub mod Loading
+pub mod Programs
 pub mod Bench
 pub mod Table

@@ -138,7 +138,7 @@ none-held k = go (eqb k 0) (leb k places) (eqb k (places + 1)) (eqb k (places + 
     go false false false false false p q = refl
 
 -- what is held of a key stands under that key, and is proper
-some-is : (P : Setting → Type 0) (x s : Setting) → some x ≡ some s → P x → P s
+pub some-is : (P : Setting → Type 0) (x s : Setting) → some x ≡ some s → P x → P s
 some-is P x s e p = let q : x ≡ s = cc in subst P q p
 
 pub none-never : (s : Setting) → none ≡ some s → ⊥
