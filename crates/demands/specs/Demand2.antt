@@ -23,7 +23,7 @@ use Rattle.controls.specs.declared.setting.EvSetting.{EvSetting}
 use Rattle.exposure.specs.declared.ev.Ev.the-variants as E
 use Rattle.controls.specs.declared.throttle.ThrottleSetting.{ThrottleSetting}
 use Rattle.controls.specs.declared.setting.Setting.the-variants as S
-use Rattle.exposure.specs.Ev.{divisor, evBytes}
+use Rattle.exposure.specs.Ev.{divisor, evBytes, unitsPerStop}
 use Rattle.face.specs.Face.{endpoints, addressAt, entryAddress, entryFlags, entryOf, heldAt, flagsAt}
 use Rattle.controls.specs.Throttle.{throttleBytes}
 use Rattle.controls.specs.Settings.{settingOf}
@@ -53,9 +53,9 @@ pub record Twelfths (c : Camera) (s : EvSetting) : Type 0 where
   pub place : ℕ
   pub offered : choiceOf (c .profile .ev .steps) (s .flags) ≡ At place
   pub flag : s .flags < 2 ^ 56 → (s .flags ≡ 2 ^ place) × (place < 5)
-  pub value : sensed c .value ≡ s .value *ℤ pos (12 / divisor place)
-  pub whole : divisor place * (12 / divisor place) ≡ 12
-  pub exact : sensed c .value *ℤ pos (divisor place) ≡ s .value *ℤ pos 12
+  pub value : sensed c .value ≡ s .value *ℤ pos (unitsPerStop / divisor place)
+  pub whole : divisor place * (unitsPerStop / divisor place) ≡ unitsPerStop
+  pub exact : sensed c .value *ℤ pos (divisor place) ≡ s .value *ℤ pos unitsPerStop
 
 -- What the sensor is handed, exactly; 0 while no setting is held.
 pub record SensorExact (c : Camera) : Type 0 where

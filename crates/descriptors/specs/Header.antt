@@ -14,7 +14,7 @@ use Rattle.descriptors.specs.declared.header.Parent.{Parent}
 use Rattle.descriptors.specs.declared.header.Parent.the-variants.{Set, Configuration, Function}
 use Rattle.descriptors.specs.declared.header.Descriptor.{Descriptor}
 use Rattle.descriptors.specs.declared.header.Descriptor.the-variants.{Refused, Opaque, Property, Subset}
-use Rattle.descriptors.specs.Codes.{pastParent, badType, badLength, badField}
+use Rattle.descriptors.specs.Codes.{pastParent, badType, badLength, badField, configuration, function, firstFeature, property, lastFeature}
 
 -- wLength and wDescriptorType of the descriptor at an offset
 abbrev pub lengthAt : List ℕ → ℕ → ℕ
@@ -47,20 +47,20 @@ nameEndAt s at = leAt 2 s (at + 6 + nameLengthAt s at)
 abbrev pub dataLengthAt : List ℕ → ℕ → ℕ
 dataLengthAt s at = leAt 2 s (at + 8 + nameLengthAt s at)
 
--- types: 1 configuration subset, 2 function subset, 4 property; 3 and 5 to 8 are features that are not looked into
+-- features but the property are not looked into
 abbrev pub isFeature : ℕ → Bool
-isFeature t = leb 3 t && leb t 8
+isFeature t = leb firstFeature t && leb t lastFeature
 
 abbrev pub isSubset : ℕ → Bool
-isSubset t = eqb t 1 || eqb t 2
+isSubset t = eqb t configuration || eqb t function
 
 abbrev pub isProperty : ℕ → Bool
-isProperty t = eqb t 4
+isProperty t = eqb t property
 
 -- the set holds configuration subsets and features, a configuration function subsets and features, a function features only
 unfoldable pub allowed : Parent → ℕ → Bool
-allowed Set t = eqb t 1 || isFeature t
-allowed Configuration t = eqb t 2 || isFeature t
+allowed Set t = eqb t configuration || isFeature t
+allowed Configuration t = eqb t function || isFeature t
 allowed (Function i) t = isFeature t
 
 -- what a property's fields must be, one test for each: data type 1 to 7, a name of an even length of at least 2 that ends in a zero pair,

@@ -10,7 +10,7 @@ use Rattle.descriptors.specs.declared.header.Parent.the-variants.{Set}
 use Rattle.descriptors.specs.declared.header.Descriptor.{Descriptor}
 use Rattle.descriptors.specs.declared.header.Descriptor.the-variants.{Refused, Opaque, Property, Subset}
 use Rattle.descriptors.specs.declared.set.Fault.{Fault}
-use Rattle.descriptors.specs.Codes.{badSetHeader}
+use Rattle.descriptors.specs.Codes.{badSetHeader, setHeader}
 use Rattle.wire.specs.Rows.{allOf}
 use Rattle.descriptors.specs.Header.{lengthAt, typeAt, interfaceOf, descriptorAt}
 use Rattle.wire.specs.Number.{leAt}
@@ -63,7 +63,7 @@ goodHeader s =
     allOf
     (leb 10 (length s)
     ∷ eqb (lengthAt s 0) 10
-    ∷ eqb (typeAt s 0) 0
+    ∷ eqb (typeAt s 0) setHeader
     ∷ eqb (leAt 2 s 8) (length s)
     ∷ [])
 

@@ -1,4 +1,4 @@
-// Document 01's refusals of a descriptor set; 0x00 is a sound one. specs/Codes.antt has the same numbers.
+// Document 01's refusals of a descriptor set; 0x00 is a sound one. And the types of descriptors. specs/Codes.antt has the same numbers.
 
 // The set's own header is wrong.
 pub const BAD_SET_HEADER: u8 = 0x30;
@@ -12,3 +12,16 @@ pub const BAD_LENGTH: u8 = 0x33;
 pub const BAD_FIELD: u8 = 0x34;
 // The set has fewer properties.
 pub const NO_PROPERTY: u8 = 0x35;
+
+// Types: the set's header, the two subsets, and features from the first to the last, of which the property is looked into.
+pub(crate) const SET_HEADER: usize = 0;
+
+pub(crate) const CONFIGURATION: usize = 1;
+
+pub(crate) const FUNCTION: usize = 2;
+
+pub(crate) const FIRST_FEATURE: usize = 3;
+
+pub(crate) const PROPERTY: usize = 4;
+
+pub(crate) const LAST_FEATURE: usize = 8;

@@ -2,7 +2,12 @@
 use crate::codes::BAD_FIELD;
 use crate::codes::BAD_LENGTH;
 use crate::codes::BAD_TYPE;
+use crate::codes::CONFIGURATION;
+use crate::codes::FIRST_FEATURE;
+use crate::codes::FUNCTION;
+use crate::codes::LAST_FEATURE;
 use crate::codes::PAST_PARENT;
+use crate::codes::PROPERTY;
 use crate::word::word;
 ghost use mathlib.Core.Path.{_≡_};
 ghost use Prim.Native.Nat.{_+_, _≤_, _<_};
@@ -35,12 +40,12 @@ pub enum Descriptor {
 fn may_stand(p: Parent, t: usize) -> bool
     ensures { λ r. ⌜ r ≡ allowed p t ⌝ }
 {
-    if 3 <= t {
-        return t <= 8;
+    if FIRST_FEATURE <= t {
+        return t <= LAST_FEATURE;
     }
     match p {
-        Parent::Set => t == 1,
-        Parent::Configuration => t == 2,
+        Parent::Set => t == CONFIGURATION,
+        Parent::Configuration => t == FUNCTION,
         Parent::Function(_) => false,
     }
 }
@@ -98,10 +103,10 @@ pub(crate) fn look(s: &[u8], p: Parent, at: usize, end: usize) -> Descriptor
     if !may_stand(p, t) {
         return Descriptor::Refused(BAD_TYPE);
     }
-    if t == 4 {
+    if t == PROPERTY {
         return Descriptor::Property(len);
     }
-    if 2 < t {
+    if FUNCTION < t {
         return Descriptor::Opaque(len);
     }
     subset_at(s, p, at, left, len)

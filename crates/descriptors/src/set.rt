@@ -1,5 +1,6 @@
 // The whole set: its own header, and then the walk.
 use crate::codes::BAD_SET_HEADER;
+use crate::codes::SET_HEADER;
 use crate::header::Parent;
 use crate::walk::walk;
 use crate::word::word;
@@ -22,7 +23,7 @@ pub(crate) fn good_header(set: &[u8]) -> bool
     if set.len() < 10 {
         return false;
     }
-    (word(set, 0) == 10) & (word(set, 2) == 0) & (word(set, 8) == set.len())
+    (word(set, 0) == 10) & (word(set, 2) == SET_HEADER) & (word(set, 8) == set.len())
 }
 
 // The first refusal of the set, lowest offset first.

@@ -36,6 +36,17 @@ pub(crate) fn has_control(p: Profile, selector: u8) -> bool
     request::has_control(p.controls, selector)
 }
 
+// The controls' bits, of which that of selector s is bit s - 1.
+const EV_BIT: u32 = 1 << (EV - 1);
+
+const FACE_BIT: u32 = 1 << (FACE - 1);
+
+const METADATA_BIT: u32 = 1 << (METADATA - 1);
+
+const HDR_BIT: u32 = 1 << (HDR - 1);
+
+const THROTTLE_BIT: u32 = 1 << (THROTTLE - 1);
+
 // What the bit of a selector adds to a number.
 fn bit_at(bits: u32, selector: u8, worth: u32) -> u32
     ensures { λ r. ⌜ (r ≡ cond (hasControl bits selector) worth 0) × (r ≤ worth) ⌝ }
@@ -52,11 +63,11 @@ fn presence_valid(bits: u32) -> bool
     ensures { λ r. ⌜ r ≡ presenceValid bits ⌝ }
 {
     bits
-        == bit_at(bits, EV, 0x04)
-            + bit_at(bits, FACE, 0x20)
-            + bit_at(bits, METADATA, 0x100)
-            + bit_at(bits, HDR, 0x1000)
-            + bit_at(bits, THROTTLE, 0x2000)
+        == bit_at(bits, EV, EV_BIT)
+            + bit_at(bits, FACE, FACE_BIT)
+            + bit_at(bits, METADATA, METADATA_BIT)
+            + bit_at(bits, HDR, HDR_BIT)
+            + bit_at(bits, THROTTLE, THROTTLE_BIT)
 }
 
 fn is_settable(p: Profile, selector: u8) -> bool
