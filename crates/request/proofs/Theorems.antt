@@ -1,11 +1,13 @@
 -- What holds of every unit's requests. Assumes nothing.
 use mathlib.Core.Path.{_≡_, refl, subst}
-use mathlib.Core.List.{List}
+use mathlib.Core.List.{List, [], _∷_}
+use mathlib.Core.Option.{none}
+use mathlib.Core.Bool.{true, false}
 use Prim.Native.Nat.{ℕ, suc}
 use native.Mathlib.Omega.{arith}
 use lib.ListN.{length}
 use borrow.Author.Tests.{eq-eqb, ne-eqb}
-use Rattle.wire.specs.Rows.{Row, AnswersAt, Quiet}
+use Rattle.wire.specs.Rows.{Row, _⇒_, firstOf, firstFrom, AnswersAt, Quiet}
 use Rattle.wire.proofs.Laws.Rows.{Coded, quiet-own, own-coded, answers-at, answers-none}
 use Rattle.request.specs.Table.{Table}
 use Rattle.request.specs.Answers.{answerBy}
@@ -27,8 +29,14 @@ module _ (t : Table) (setup payload : List ℕ) (room : ℕ) where
   unfolding requestCode
   request-quiet = quiet-own rows rows-coded
 
+-- no row's place is found where none answers
+none-answers : (k : ℕ) (l : List Row) → firstFrom k l ≡ none → firstOf l ≡ 0
+none-answers k [] e = refl
+none-answers k ((true ⇒ code) ∷ l) e = let z : _≡_ {A = ℕ} 0 1 = cc in absurd (omega arith)
+none-answers k ((false ⇒ code) ∷ l) e = none-answers (suc k) l e
+
 pub ordered : AllOrdered
-unfolding requestRows requestTests valueTests testNumber
+unfolding requestRows requestTests valueTests testNumber requestCode
 ordered t setup payload room = record {
   nine = refl;
   answered = λ i e.
@@ -37,6 +45,7 @@ ordered t setup payload room = record {
       subst (AnswersAt (rows t setup payload room)) q (r .1 .1);
   from-one = λ e. let r = answers-at 1 (rows t setup payload room) 0 e in omega (arith, r .1 .0);
   accepted = λ e. answers-none 1 (rows t setup payload room) (request-quiet t setup payload room e);
+  none-fails = none-answers 1 (rows t setup payload room);
 }
 
 pub refusals : Refusals

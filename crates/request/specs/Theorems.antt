@@ -20,6 +20,7 @@ pub record Ordered (t : Table) (setup payload : List ℕ) (room : ℕ) : Type 0 
   pub answered : (i : ℕ) → testNumber t setup payload room ≡ some (suc i) → AnswersAt (requestRows t setup payload room) i
   pub from-one : testNumber t setup payload room ≡ some 0 → ⊥
   pub accepted : requestCode t setup payload room ≡ 0 → testNumber t setup payload room ≡ none
+  pub none-fails : testNumber t setup payload room ≡ none → requestCode t setup payload room ≡ 0
 
 abbrev pub AllOrdered : Type 0
 AllOrdered = (t : Table) (setup payload : List ℕ) (room : ℕ) → Ordered t setup payload room
