@@ -2,8 +2,8 @@
 // count, the sensor's twelfths, the reply and the snapshot (01's settings sheet); the paper's metadata blocks; and 004's two
 // descriptor sets. `demands` has the rows marked (p) as a theorem over the definitions.
 mod blocks;
+mod device;
 mod print;
-mod profile;
 mod requests;
 mod sets;
 

@@ -1,4 +1,5 @@
 // Requests to the bench camera, a line for what is sent and answered and a line for the snapshot then.
+use crate::device::bench;
 use crate::print::bytes;
 use crate::print::code;
 use crate::print::end;
@@ -6,7 +7,6 @@ use crate::print::fill;
 use crate::print::label;
 use crate::print::number;
 use crate::print::text;
-use crate::profile::bench;
 use camera::Camera;
 use controls::EvSetting;
 

@@ -3,8 +3,8 @@ use Prim.Native.Nat.{ℕ}
 use mathlib.Core.List.{List}
 use mathlib.Core.Option.{Option}
 use mathlib.Core.Bool.{Bool}
-use Rattle.controls.specs.declared.setting.Setting.{Setting}
-use Rattle.settings.specs.declared.profile.Profile.{Profile}
+use Rattle.controls.specs.declared.Setting.{Setting}
+use Rattle.profile.specs.declared.Profile.{Profile}
 use Rattle.settings.specs.declared.settings.Settings.{Settings}
 use Rattle.settings.specs.Settings.{noSettings}
 use Rattle.settings.specs.Settings as settings

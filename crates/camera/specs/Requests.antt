@@ -9,12 +9,13 @@ use Rattle.request.specs.Setup.{isSetRequest, selectorOf}
 use Rattle.request.specs.Table.{Table}
 use Rattle.request.specs.Tests as request
 use Rattle.request.specs.Requests as request-leaves
-use Rattle.settings.specs.declared.profile.Profile.{Profile}
+use Rattle.profile.specs.declared.Profile.{Profile}
 use Rattle.settings.specs.declared.settings.Settings.{Settings}
-use Rattle.settings.specs.Profile.{has, settable, takes, lengthOf}
+use Rattle.profile.specs.Profile.{has, settable, takes, lengthOf}
 use Rattle.settings.specs.Settings.{noSettings}
 use Rattle.settings.specs.Settings as settings
-use Rattle.settings.specs.Items.{setRefusal, setGives}
+use Rattle.profile.specs.Items.{setRefusal}
+use Rattle.settings.specs.Items.{setGives}
 use Rattle.settings.specs.Answers.{infoOf, valueOf}
 use Rattle.camera.specs.declared.record.Camera.{Camera}
 use Rattle.camera.specs.declared.calls.Outcome.{Outcome}

@@ -5,28 +5,23 @@ use mathlib.Core.Option.{Option, none, some}
 use mathlib.Core.Bool.{Bool, cond, not}
 use lib.Dec.{leb, ltb, eqb}
 use lib.ListN.{length, drop}
-use Rattle.wire.specs.Number.{bytesOf}
 use Rattle.wire.specs.Rows.{Row, _⇒_, answers, firstOf}
 use Rattle.wire.specs.Endpoints.{places}
 use Rattle.wire.specs.Selectors as selector
 use Rattle.wire.specs.Uvc.{malformedRecord, malformedSnapshot, noRoom}
 use Rattle.snapshot.specs.Form as form
 use Rattle.snapshot.specs.Records.{decode}
-use Rattle.snapshot.specs.Settings.{snapshotOf}
-use Rattle.controls.specs.declared.setting.Item.{Item}
-use Rattle.controls.specs.declared.setting.Item.the-variants.{Absent, Refused}
-use Rattle.controls.specs.declared.setting.Setting.{Setting}
-use Rattle.controls.specs.declared.setting.Setting.the-variants as S
-use Rattle.controls.specs.declared.throttle.ThrottleLimits.{ThrottleLimits}
-use Rattle.exposure.specs.Ev.{evBytes}
-use Rattle.face.specs.Face.{entryOf}
-use Rattle.controls.specs.Throttle.{throttleBytes}
+use Rattle.controls.specs.declared.Item.{Item}
+use Rattle.controls.specs.declared.Item.the-variants.{Absent, Refused}
+use Rattle.controls.specs.declared.Setting.{Setting}
 use Rattle.controls.specs.Settings.{firstRefusal}
-use Rattle.settings.specs.declared.profile.Profile.{Profile}
-use Rattle.settings.specs.Items.{allGiven, itemAt}
+use Rattle.profile.specs.declared.Profile.{Profile}
+use Rattle.profile.specs.Items.{itemAt}
+use Rattle.settings.specs.Items.{allGiven}
+use Rattle.encoding.specs.Encoding.{encoded}
 use Rattle.camera.specs.declared.record.Camera.{Camera}
 use Rattle.camera.specs.declared.calls.Outcome.{Outcome}
-use Rattle.camera.specs.Record.{held, puts, wellFormed}
+use Rattle.camera.specs.Record.{puts, wellFormed}
 use Rattle.camera.specs.Requests.{controlRefusal, outcomeBy}
 
 -- the selector of a key, which is the kind of its records
@@ -71,24 +66,9 @@ loaded c s =
     outcomeBy (loadCode c s) c
     (record { code = 0; count = 0; camera = puts c (loadGives (c .profile) (c .streaming) s) })
 
--- a record: its length and its kind, two bytes each, then a SET payload
-abbrev pub framed : ℕ → List ℕ → List ℕ
-framed kind payload = bytesOf 2 (4 + length payload) ++ bytesOf 2 kind ++ payload
-
--- the record of a setting; a throttle's tail is zero
-abbrev pub noLimits : ThrottleLimits
-noLimits = record { minimum = 0; maximum = 0; step = 0 }
-
-unfoldable pub row : ℕ → Setting → List ℕ
-row k (S.Ev s) = framed selector.ev (evBytes s)
-row k (S.Face address flags) = framed selector.face (1 ∷ entryOf address flags)
-row k (S.Metadata n) = framed selector.metadata (bytesOf 4 n)
-row k (S.Hdr n) = framed selector.hdr (bytesOf 4 n)
-row k (S.Throttle s) = framed selector.throttle (throttleBytes s noLimits)
-
--- a camera's snapshot: a record for each setting held and no other, in ascending order of the keys
+-- a camera's snapshot
 unfoldable pub snapshot : Camera → List ℕ
-snapshot c = snapshotOf row (held c)
+snapshot c = encoded (c .settings)
 
 unfoldable pub writeCode : Camera → ℕ → ℕ
 writeCode c room = firstOf ((not (wellFormed c) ⇒ malformedRecord) ∷ (ltb room (length (snapshot c)) ⇒ noRoom) ∷ [])

@@ -1,21 +1,18 @@
 -- What the code's steps go by, which its private functions' promises cite. No statement and no public promise depends on this file.
 use Prim.Native.Nat.{ℕ}
-use mathlib.Core.List.{List, []}
-use mathlib.Core.Option.{Option, none, some, Option·map}
+use mathlib.Core.List.{List}
 use Rattle.request.specs.Setup.{wLengthOf}
 use Rattle.request.specs.Reply.{sentOf}
 use Rattle.request.specs.Tests.{asked}
-use Rattle.controls.specs.declared.setting.Setting.{Setting}
 use Rattle.controls.specs.Settings.{firstRefusal}
 use Rattle.snapshot.specs.Form.{keys}
-use Rattle.settings.specs.declared.settings.Settings.{Settings}
-use Rattle.settings.specs.Settings.{held}
-use Rattle.settings.specs.Items.{setRefusal, setGives}
+use Rattle.profile.specs.Items.{setRefusal}
+use Rattle.settings.specs.Items.{setGives}
 use Rattle.camera.specs.declared.record.Camera.{Camera}
 use Rattle.camera.specs.declared.calls.Outcome.{Outcome}
 use Rattle.camera.specs.Record.{puts}
 use Rattle.camera.specs.Requests.{table, outcomeBy}
-use Rattle.camera.specs.Snapshots.{loadItem, loadGives, row}
+use Rattle.camera.specs.Snapshots.{loadItem, loadGives}
 
 -- past test 7: a SET of a selector, and a GET
 unfoldable pub setDone : Camera → ℕ → List ℕ → Outcome
@@ -33,12 +30,3 @@ unfoldable pub loadDone : Camera → List ℕ → Outcome
 loadDone c s =
     outcomeBy (firstRefusal keys 0 (loadItem (c .profile) (c .streaming) s)) c
     (record { code = 0; count = 0; camera = puts c (loadGives (c .profile) (c .streaming) s) })
-
--- the record of what a key holds, of no bytes where that is nothing
-abbrev pub rowHeld : ℕ → Option Setting → List ℕ
-rowHeld k none = []
-rowHeld k (some s) = row k s
-
--- the records of settings by their keys
-abbrev pub rowsOf : Settings → ℕ → Option (List ℕ)
-rowsOf s k = Option·map (row k) (held s k)

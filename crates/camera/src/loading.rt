@@ -4,7 +4,7 @@ use crate::record::Camera;
 use crate::requests::control_refusal;
 use controls::Item;
 use controls::code_of;
-use settings::Profile;
+use profile::Profile;
 use snapshot::KEYS;
 use wire::Part;
 use wire::endpoints::PLACES;
@@ -51,7 +51,7 @@ fn record_item(p: Profile, streaming: bool, key: usize, r: &[u8]) -> Item
     if code != 0 {
         return Item::Refused(code);
     }
-    settings::item(p, selector, wire::tail(r, 4))
+    p.item(selector, wire::tail(r, 4))
 }
 
 impl Camera {

@@ -1,5 +1,5 @@
 // The camera record: the profile, the streaming flag, and the settings.
-use settings::Profile;
+use profile::Profile;
 use settings::Settings;
 ghost use mathlib.Core.Path.{_≡_};
 ghost use Rattle.camera.specs.Record.{fresh, withStreaming, withSettings};
@@ -26,9 +26,13 @@ impl Camera {
     pub(crate) fn with_streaming(self, on: bool) -> Camera
         ensures { λ r. ⌜ r ≡ withStreaming self on ⌝ }
     {
-        let mut next = self;
-        next.streaming = on;
-        next
+        let profile = self.profile;
+        let settings = self.settings;
+        Camera {
+            profile,
+            streaming: on,
+            settings,
+        }
     }
 
     pub(crate) fn with_settings(self, settings: Settings) -> Camera

@@ -1,7 +1,7 @@
 // Requests to the extension unit: document 01's nine tests, then a SET or a GET.
 use crate::calls::Outcome;
 use crate::record::Camera;
-use settings::Profile;
+use profile::Profile;
 use wire::selectors::THROTTLE;
 use wire::uvc::MALFORMED_RECORD;
 use wire::uvc::SET_CUR;

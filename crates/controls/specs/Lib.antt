@@ -1,5 +1,2 @@
--- What document 01 says of metadata, HDR and throttle, and of settings and answers, whichever control they are of.
+-- Settings and what an item of a SET comes to, whichever control they are of.
 pub mod Settings
-pub mod Metadata
-pub mod Hdr
-pub mod Throttle

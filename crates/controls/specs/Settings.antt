@@ -3,11 +3,11 @@ use Prim.Native.Nat.{ℕ, zero, suc}
 use mathlib.Core.Option.{Option, none, some}
 use mathlib.Core.Bool.{cond}
 use lib.Dec.{eqb}
-use Rattle.controls.specs.declared.setting.Number.{Number}
-use Rattle.controls.specs.declared.setting.Number.the-variants.{Unset, Held}
-use Rattle.controls.specs.declared.setting.Setting.{Setting}
-use Rattle.controls.specs.declared.setting.Item.{Item}
-use Rattle.controls.specs.declared.setting.Item.the-variants.{Absent, Refused, Given}
+use Rattle.controls.specs.declared.Number.{Number}
+use Rattle.controls.specs.declared.Number.the-variants.{Unset, Held}
+use Rattle.controls.specs.declared.Setting.{Setting}
+use Rattle.controls.specs.declared.Item.{Item}
+use Rattle.controls.specs.declared.Item.the-variants.{Absent, Refused, Given}
 
 -- what an item comes to by the number that its tests give: 0 is acceptance
 unfoldable pub itemOf : ℕ → Setting → Item

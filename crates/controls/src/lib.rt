@@ -1,14 +1,72 @@
-// Controls of the Microsoft extension unit: settings and GET's answers, whichever control they are of, and the three controls that are
-// plain numbers, one module each: limits, SET's value tests, the setting that a SET gives, and GET's answers. Document 01, "The five
-// controls"; 001 decides for metadata, HDR and throttle. `exposure` and `face` have the other two.
-// Nothing here knows of a camera: each function goes by its control's limits, the setting held and the payload.
-pub mod hdr;
-pub mod metadata;
-mod setting;
-pub mod throttle;
+// Settings of the Microsoft extension unit, whichever of its five controls they are of, and what an item of a SET comes to: the words that the
+// crates of the controls share. Document 01, "The five controls".
+// Each control has a crate of its own: `exposure`, `face`, `metadata`, `hdr` and `throttle`. Nothing in them knows of a camera: each function
+// goes by its control's limits, the setting held and the payload.
+ghost use mathlib.Core.Path.{_≡_};
+ghost use Rattle.controls.specs.Settings.{itemOf, codeOf, numberOr};
 
-pub use setting::EvSetting;
-pub use setting::Item;
-pub use setting::Number;
-pub use setting::Setting;
-pub use setting::code_of;
+// The flag of a step, and a number of such steps.
+pub struct EvSetting {
+    pub flags: u8,
+    pub value: i32,
+}
+
+pub struct ThrottleSetting {
+    pub mode: u32,
+    pub percent: u32,
+}
+
+// One setting, as a SET gives it. A face setting names its endpoint by the address.
+pub enum Setting {
+    Ev(EvSetting),
+    Face { address: u8, flags: u8 },
+    Metadata(u32),
+    Hdr(u32),
+    Throttle(ThrottleSetting),
+}
+
+// What one item of a SET or one record of a snapshot comes to.
+pub enum Item {
+    // no record of that key
+    Absent,
+    // document 01's number
+    Refused(u8),
+    Given(Setting),
+}
+
+// The setting held of a control whose payload is one number, or none.
+pub enum Number {
+    Unset,
+    Held(u32),
+}
+
+// What an item comes to by the number that its tests give.
+pub fn item_of(code: u8, s: Setting) -> Item
+    ensures { λ r. ⌜ r ≡ itemOf code s ⌝ }
+{
+    if code == 0 {
+        return Item::Given(s);
+    }
+    Item::Refused(code)
+}
+
+// The number of an item, 0 where it is taken or absent.
+pub fn code_of(item: Item) -> u8
+    ensures { λ r. ⌜ r ≡ codeOf item ⌝ }
+{
+    match item {
+        Item::Absent => 0,
+        Item::Refused(code) => code,
+        Item::Given(_) => 0,
+    }
+}
+
+// The number held, or n while there is none.
+pub fn number_or(n: u32, held: Number) -> u32
+    ensures { λ r. ⌜ r ≡ numberOr n held ⌝ }
+{
+    match held {
+        Number::Unset => n,
+        Number::Held(m) => m,
+    }
+}

@@ -22,34 +22,35 @@ use Rattle.request.specs.Tests as tests
 use Rattle.request.proofs.Laws.Tests.{at-get}
 use Rattle.request.proofs.Theorems.{len-answers}
 use Rattle.request.proofs.Theorems as requests
-use Rattle.controls.specs.declared.setting.EvSetting.{EvSetting}
-use Rattle.controls.specs.declared.setting.Number.{Number}
-use Rattle.controls.specs.declared.setting.Number.the-variants as N
-use Rattle.controls.specs.declared.setting.Setting.the-variants as S
-use Rattle.controls.specs.declared.throttle.Throttle.{Throttle}
-use Rattle.controls.specs.declared.throttle.Throttle.the-variants as T
+use Rattle.controls.specs.declared.EvSetting.{EvSetting}
+use Rattle.controls.specs.declared.Number.{Number}
+use Rattle.controls.specs.declared.Number.the-variants as N
+use Rattle.controls.specs.declared.Setting.the-variants as S
+use Rattle.throttle.specs.declared.Throttle.{Throttle}
+use Rattle.throttle.specs.declared.Throttle.the-variants as T
 use Rattle.exposure.specs.declared.ev.Ev.{Ev}
 use Rattle.exposure.specs.declared.ev.Ev.the-variants as E
 use Rattle.face.specs.declared.limits.FaceLimits.{FaceLimits}
 use Rattle.controls.specs.Settings.{numberOr, settingOf}
 use Rattle.exposure.specs.Ev as ev
 use Rattle.face.specs.Face.{endpoints, addressAt, entryAddress, entryFlags, entryOf, heldAt, flagsAt, faceAnswer, entriesPut}
-use Rattle.controls.specs.Metadata.{metadataAt}
-use Rattle.controls.specs.Hdr.{hdrAt}
-use Rattle.controls.specs.Throttle as throttle
+use Rattle.metadata.specs.Metadata.{metadataAt}
+use Rattle.hdr.specs.Hdr.{hdrAt}
+use Rattle.throttle.specs.Throttle as throttle
 use Rattle.exposure.proofs.Laws.Ev.{accepts, scaled-is}
 use Rattle.face.proofs.Laws.Face.{place-listed, fresh-answer, len-taken, len-longest}
-use Rattle.settings.specs.declared.profile.Profile.{Profile}
-use Rattle.settings.specs.Selectors.{Control}
-use Rattle.settings.specs.Selectors as selectors
-use Rattle.settings.specs.Profile.{has, takes, controlRefusal}
+use Rattle.profile.specs.declared.Profile.{Profile}
+use Rattle.profile.specs.Selectors.{Control}
+use Rattle.profile.specs.Selectors as selectors
+use Rattle.profile.specs.Profile.{has, takes, controlRefusal}
 use Rattle.settings.specs.Settings.{evHeld, metadataHeld, hdrHeld, throttleHeld, valueRefusal}
 use Rattle.settings.specs.Settings as settings
-use Rattle.settings.specs.Items.{allGiven, setRefusal, setGives}
+use Rattle.profile.specs.Items.{setRefusal}
+use Rattle.settings.specs.Items.{allGiven, setGives}
 use Rattle.settings.specs.Items as items
 use Rattle.settings.specs.Answers.{valueOf}
-use Rattle.settings.proofs.Laws.Profile.{valid-presence, valid-ev, valid-face}
-use Rattle.settings.proofs.Laws.Selectors.{control-known}
+use Rattle.profile.proofs.Laws.Profile.{valid-presence, valid-ev, valid-face}
+use Rattle.profile.proofs.Laws.Selectors.{control-known}
 use Rattle.camera.specs.declared.record.Camera.{Camera}
 use Rattle.camera.specs.Record.{fresh, held, puts, wellFormed}
 use Rattle.camera.specs.Requests.{stateOf, table, answerOf, requestCode, requestDone, requested}

@@ -21,14 +21,15 @@ use Rattle.snapshot.proofs.Laws.Merging.{over-assoc, over-none}
 use Rattle.snapshot.proofs.Laws.Answers.{Answer}
 use Rattle.snapshot.proofs.Laws.Answers as answers
 use Rattle.snapshot.proofs.Laws.Settings.{Rows, rows-append, snapshot-append}
-use Rattle.controls.specs.declared.setting.Setting.{Setting}
+use Rattle.controls.specs.declared.Setting.{Setting}
 use Rattle.controls.specs.Settings.{settingOf, codeOf}
-use Rattle.settings.specs.declared.profile.Profile.{Profile}
-use Rattle.settings.specs.Profile.{profileValid}
+use Rattle.profile.specs.declared.Profile.{Profile}
+use Rattle.profile.specs.Profile.{profileValid}
 use Rattle.camera.specs.declared.record.Camera.{Camera}
 use Rattle.camera.specs.declared.calls.Outcome.{Outcome}
 use Rattle.camera.specs.Record.{fresh, held, wellFormed, puts}
-use Rattle.camera.specs.Snapshots.{loadTests, loadCode, loadGives, loaded, itemFor, row, snapshot, writeCode, written, writtenOut}
+use Rattle.encoding.specs.Encoding.{row}
+use Rattle.camera.specs.Snapshots.{loadTests, loadCode, loadGives, loaded, itemFor, snapshot, writeCode, written, writtenOut}
 use Rattle.camera.specs.Calls.{Call, load}
 use Rattle.demands.specs.Lists.{gives, leaves, flagAfter, given, snapshotAfter, run}
 use Rattle.demands.specs.Records.{Ok, Typed, handed, Written}

@@ -14,17 +14,18 @@ use Rattle.snapshot.specs.Records.{decode, GoodAt, Record, Entry, recordsOf}
 use Rattle.snapshot.specs.Records as records
 use Rattle.snapshot.proofs.Laws.Maps.{decode-good}
 use Rattle.snapshot.proofs.Laws.Entries.{entryAt, entries, records-entries}
-use Rattle.controls.specs.declared.setting.Setting.{Setting}
+use Rattle.controls.specs.declared.Setting.{Setting}
 use Rattle.controls.specs.Settings.{codeOf, firstRefusal}
-use Rattle.settings.specs.declared.profile.Profile.{Profile}
-use Rattle.settings.specs.Profile.{profileValid}
+use Rattle.profile.specs.declared.Profile.{Profile}
+use Rattle.profile.specs.Profile.{profileValid}
 use Rattle.settings.specs.Settings.{kept}
 use Rattle.settings.specs.Items as items
 use Rattle.settings.specs.Items.{givenOf, allGiven}
 use Rattle.settings.proofs.Laws.Items.{puts-append}
 use Rattle.camera.specs.declared.record.Camera.{Camera}
 use Rattle.camera.specs.Record.{held, wellFormed, puts, withSettings}
-use Rattle.camera.specs.Snapshots.{itemFor, loadItem, loadTests, loadGives, loaded, row}
+use Rattle.encoding.specs.Encoding.{row}
+use Rattle.camera.specs.Snapshots.{itemFor, loadItem, loadTests, loadGives, loaded}
 use Rattle.camera.specs.Calls.{request, load, next}
 use Rattle.camera.proofs.Laws.Record.{formed-profile}
 use Rattle.demands.specs.Lists.{gives, given, run}

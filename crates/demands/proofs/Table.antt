@@ -7,14 +7,16 @@ use Rattle.request.specs.Tests.{requestTests, valueTests, requestRows, requestC
 use Rattle.controls.specs.Settings.{itemOf, codeOf, firstRefusal}
 use Rattle.exposure.specs.Ev.{signed32, bits32, inRange, refusalAt, evRefusal, evItem, evBytes, scaledAt, scaledOf, compensation}
 use Rattle.face.specs.Face.{allBelow, addressBefore, endpointValid, faceValid}
-use Rattle.controls.specs.Hdr.{hdrRefusal, hdrItem}
-use Rattle.controls.specs.Throttle.{throttleRefusal, throttleItem, throttleBytes}
+use Rattle.hdr.specs.Hdr.{hdrRefusal, hdrItem}
+use Rattle.throttle.specs.Throttle.{throttleRefusal, throttleItem, throttleBytes}
 use Rattle.snapshot.specs.Records.{records, encode}
-use Rattle.settings.specs.Profile.{presenceValid, profileValid, controlRefusal}
+use Rattle.profile.specs.Profile.{presenceValid, profileValid, controlRefusal}
 use Rattle.settings.specs.Settings.{noSettings, held, put, valueRefusal, kept, wellFormed}
-use Rattle.settings.specs.Items.{givenOf, allGiven, puts, itemAt, setRefusal, setGives}
+use Rattle.profile.specs.Items.{itemAt, setRefusal}
+use Rattle.settings.specs.Items.{givenOf, allGiven, puts, setGives}
 use Rattle.camera.specs.Requests.{requestDone, requested}
-use Rattle.camera.specs.Snapshots.{row, snapshot}
+use Rattle.encoding.specs.Encoding.{row}
+use Rattle.camera.specs.Snapshots.{snapshot}
 use Rattle.camera.specs.Calls.{sensed}
 use Rattle.frame.specs.Ids.{isKnown}
 use Rattle.frame.specs.Items.{refusal, headOf, itemsIn, itemsFrom, itemsOf}

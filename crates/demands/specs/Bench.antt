@@ -2,7 +2,7 @@
 use mathlib.Core.Bool.{true, false}
 use mathlib.Core.List.{[], _∷_}
 use lib.IntN.{pos, negsuc}
-use Rattle.settings.specs.declared.profile.Profile.{Profile}
+use Rattle.profile.specs.declared.Profile.{Profile}
 use Rattle.camera.specs.declared.record.Camera.{Camera}
 use Rattle.camera.specs.Record.{fresh}
 

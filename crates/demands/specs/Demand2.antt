@@ -19,22 +19,23 @@ use Rattle.snapshot.specs.Form as form
 use Rattle.snapshot.specs.Records.{decode}
 use Rattle.snapshot.specs.Merge.{over}
 use Rattle.snapshot.specs.Settings.{lastOf}
-use Rattle.controls.specs.declared.setting.EvSetting.{EvSetting}
+use Rattle.controls.specs.declared.EvSetting.{EvSetting}
 use Rattle.exposure.specs.declared.ev.Ev.the-variants as E
-use Rattle.controls.specs.declared.throttle.ThrottleSetting.{ThrottleSetting}
-use Rattle.controls.specs.declared.setting.Setting.the-variants as S
+use Rattle.controls.specs.declared.ThrottleSetting.{ThrottleSetting}
+use Rattle.controls.specs.declared.Setting.the-variants as S
 use Rattle.exposure.specs.Ev.{divisor, evBytes, unitsPerStop}
 use Rattle.face.specs.Face.{endpoints, addressAt, entryAddress, entryFlags, entryOf, heldAt, flagsAt}
-use Rattle.controls.specs.Throttle.{throttleBytes}
+use Rattle.throttle.specs.Throttle.{throttleBytes}
 use Rattle.controls.specs.Settings.{settingOf}
-use Rattle.settings.specs.declared.profile.Profile.{Profile}
-use Rattle.settings.specs.Selectors.{Control}
-use Rattle.settings.specs.Profile.{has, takes}
+use Rattle.profile.specs.declared.Profile.{Profile}
+use Rattle.profile.specs.Selectors.{Control}
+use Rattle.profile.specs.Profile.{has, takes}
 use Rattle.settings.specs.Settings.{keyOf}
 use Rattle.camera.specs.declared.record.Camera.{Camera}
 use Rattle.camera.specs.Record.{held}
 use Rattle.camera.specs.Requests.{answerOf}
-use Rattle.camera.specs.Snapshots.{loadItem, row, snapshot}
+use Rattle.encoding.specs.Encoding.{row}
+use Rattle.camera.specs.Snapshots.{loadItem, snapshot}
 use Rattle.camera.specs.Calls.{sensed, Call, request, outcome, left, next}
 use Rattle.demands.specs.Lists.{gives, leaves}
 use Rattle.demands.specs.Records.{Written}

@@ -6,7 +6,7 @@ use mathlib.Core.Bool.{Bool, true}
 use lib.ListN.{length, drop}
 use Rattle.snapshot.specs.Form as form
 use Rattle.snapshot.specs.Merge.{merged, mergeCode, mergeLen, mergeOut}
-use Rattle.settings.specs.declared.profile.Profile.{Profile}
+use Rattle.profile.specs.declared.Profile.{Profile}
 use Rattle.camera.specs.declared.record.Camera.{Camera}
 use Rattle.camera.specs.Record.{fresh, held, wellFormed}
 use Rattle.camera.specs.Snapshots.{loaded, snapshot}

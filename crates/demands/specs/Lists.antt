@@ -8,12 +8,13 @@ use Rattle.wire.specs.Rows.{firstOf}
 use Rattle.request.specs.Setup.{selectorOf}
 use Rattle.request.specs.Tests as tests
 use Rattle.snapshot.specs.Settings.{lastOf, snapshotOf}
-use Rattle.controls.specs.declared.setting.Setting.{Setting}
-use Rattle.settings.specs.declared.profile.Profile.{Profile}
+use Rattle.controls.specs.declared.Setting.{Setting}
+use Rattle.profile.specs.declared.Profile.{Profile}
 use Rattle.settings.specs.Items.{setGives}
 use Rattle.camera.specs.declared.record.Camera.{Camera}
 use Rattle.camera.specs.Requests.{rules}
-use Rattle.camera.specs.Snapshots.{loadTests, loadGives, row}
+use Rattle.encoding.specs.Encoding.{row}
+use Rattle.camera.specs.Snapshots.{loadTests, loadGives}
 use Rattle.camera.specs.Calls.{Call, request, stream, load, write, sense, next}
 
 -- a SET is accepted by tests 2 to 8, with the profile and the flag at that place; they look at no setting that is held

@@ -11,14 +11,15 @@ use Rattle.wire.specs.Rows.{firstOf}
 use Rattle.wire.specs.Uvc.{setCur}
 use Rattle.request.specs.Tests.{requestTests, valueTests}
 use Rattle.snapshot.specs.Records.{Entry, recordsOf, Each}
-use Rattle.controls.specs.declared.setting.Setting.{Setting}
+use Rattle.controls.specs.declared.Setting.{Setting}
 use Rattle.controls.specs.Settings.{codeOf}
-use Rattle.settings.specs.declared.profile.Profile.{Profile}
+use Rattle.profile.specs.declared.Profile.{Profile}
 use Rattle.settings.specs.Items.{givenOf}
 use Rattle.camera.specs.declared.record.Camera.{Camera}
 use Rattle.camera.specs.Record.{held, wellFormed}
 use Rattle.camera.specs.Requests.{rules}
-use Rattle.camera.specs.Snapshots.{selectorAt, recordItem, loaded, row}
+use Rattle.encoding.specs.Encoding.{row}
+use Rattle.camera.specs.Snapshots.{selectorAt, recordItem, loaded}
 use Rattle.camera.specs.Calls.{Call, request, load}
 use Rattle.demands.specs.Lists.{setAccepted, gives, given, run}
 

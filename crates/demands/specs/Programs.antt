@@ -6,7 +6,7 @@ use mathlib.Core.List.{List}
 use mathlib.Core.Bool.{true}
 use Rattle.wire.proofs.Laws.Numbers.{Bytes}
 use Rattle.request.specs.Setup.{isSetRequest, selectorOf}
-use Rattle.settings.specs.Profile.{profileValid}
+use Rattle.profile.specs.Profile.{profileValid}
 use Rattle.camera.specs.declared.record.Camera.{Camera}
 use Rattle.camera.specs.Record.{wellFormed}
 use Rattle.camera.specs.Snapshots.{loaded}

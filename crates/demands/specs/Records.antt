@@ -6,9 +6,9 @@ use mathlib.Core.Option.{some}
 use mathlib.Core.Bool.{true}
 use lib.ListN.{length, take, drop}
 use Rattle.wire.specs.Endpoints as endpoint
-use Rattle.controls.specs.declared.setting.Setting.{Setting}
-use Rattle.controls.specs.declared.setting.Setting.the-variants as S
-use Rattle.settings.specs.declared.profile.Profile.{Profile}
+use Rattle.controls.specs.declared.Setting.{Setting}
+use Rattle.controls.specs.declared.Setting.the-variants as S
+use Rattle.profile.specs.declared.Profile.{Profile}
 use Rattle.camera.specs.declared.record.Camera.{Camera}
 use Rattle.camera.specs.Record.{held, wellFormed}
 use Rattle.camera.specs.Snapshots.{written, writtenOut}

@@ -8,7 +8,7 @@ ghost use mathlib.Core.Option.{some};
 ghost use Prim.Native.Nat.{ℕ, _<_, _^_};
 ghost use lib.ListN.{length, getD};
 ghost use Rattle.wire.specs.Endpoints.{places};
-ghost use Rattle.controls.specs.declared.setting.Setting.{Setting};
+ghost use Rattle.controls.specs.declared.Setting.{Setting};
 ghost use Rattle.settings.specs.Settings.{evHeld};
 ghost use Rattle.demands.specs.Records.{flagsOf};
 ghost use Rattle.demands.specs.Programs.{OfProgram};

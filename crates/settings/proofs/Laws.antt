@@ -1,5 +1,3 @@
-pub mod Profile
-pub mod Selectors
 pub mod Kept
 pub mod Items
 pub mod Answers

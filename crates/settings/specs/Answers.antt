@@ -8,12 +8,12 @@ use Rattle.wire.specs.Selectors.{ev, face, metadata, hdr}
 use Rattle.request.specs.Answers.{answerBy}
 use Rattle.exposure.specs.Ev.{evAt, evBytes}
 use Rattle.face.specs.Face.{faceValue}
-use Rattle.controls.specs.Metadata.{metadataAt, metadataInfo}
-use Rattle.controls.specs.Hdr.{hdrAt}
-use Rattle.controls.specs.Throttle.{throttleAt, throttleBytes}
-use Rattle.settings.specs.declared.profile.Profile.{Profile}
+use Rattle.metadata.specs.Metadata.{metadataAt, metadataInfo}
+use Rattle.hdr.specs.Hdr.{hdrAt}
+use Rattle.throttle.specs.Throttle.{throttleAt, throttleBytes}
+use Rattle.profile.specs.declared.Profile.{Profile}
 use Rattle.settings.specs.declared.settings.Settings.{Settings}
-use Rattle.settings.specs.Profile.{lengthOf}
+use Rattle.profile.specs.Profile.{lengthOf}
 
 -- INFO's byte
 abbrev pub infoOf : Profile → ℕ → ℕ

@@ -9,22 +9,22 @@ use Rattle.wire.specs.Selectors as selector
 use Rattle.snapshot.specs.Form.{keyFor, keys}
 use Rattle.exposure.specs.declared.ev.Ev.{Ev}
 use Rattle.exposure.specs.declared.ev.Ev.the-variants as E
-use Rattle.controls.specs.declared.throttle.Throttle.{Throttle}
-use Rattle.controls.specs.declared.throttle.Throttle.the-variants as T
-use Rattle.controls.specs.declared.setting.Number.{Number}
-use Rattle.controls.specs.declared.setting.Number.the-variants as N
-use Rattle.controls.specs.declared.setting.Item.{Item}
-use Rattle.controls.specs.declared.setting.Item.the-variants.{Absent, Given}
-use Rattle.controls.specs.declared.setting.Setting.{Setting}
-use Rattle.controls.specs.declared.setting.Setting.the-variants as S
+use Rattle.throttle.specs.declared.Throttle.{Throttle}
+use Rattle.throttle.specs.declared.Throttle.the-variants as T
+use Rattle.controls.specs.declared.Number.{Number}
+use Rattle.controls.specs.declared.Number.the-variants as N
+use Rattle.controls.specs.declared.Item.{Item}
+use Rattle.controls.specs.declared.Item.the-variants.{Absent, Given}
+use Rattle.controls.specs.declared.Setting.{Setting}
+use Rattle.controls.specs.declared.Setting.the-variants as S
 use Rattle.exposure.specs.Ev.{evRefusal}
 use Rattle.face.specs.Face.{allBelow, settingRefusal, putFace}
-use Rattle.controls.specs.Metadata.{metadataRefusal}
-use Rattle.controls.specs.Hdr.{hdrRefusal}
-use Rattle.controls.specs.Throttle.{throttleRefusal}
-use Rattle.settings.specs.declared.profile.Profile.{Profile}
+use Rattle.metadata.specs.Metadata.{metadataRefusal}
+use Rattle.hdr.specs.Hdr.{hdrRefusal}
+use Rattle.throttle.specs.Throttle.{throttleRefusal}
+use Rattle.profile.specs.declared.Profile.{Profile}
 use Rattle.settings.specs.declared.settings.Settings.{Settings}
-use Rattle.settings.specs.Profile.{profileValid, controlRefusal}
+use Rattle.profile.specs.Profile.{profileValid, controlRefusal}
 
 unfoldable pub noSettings : Settings
 noSettings = record { ev = E.Unset; face = replicate places 0; metadata = N.Unset; hdr = N.Unset; throttle = T.Unset }

@@ -1,6 +1,6 @@
 // A GET's full answer, control by control.
-use crate::profile::Profile;
 use crate::settings::Settings;
+use profile::Profile;
 use request::Answer;
 use wire::selectors::EV;
 use wire::selectors::FACE;
@@ -24,13 +24,13 @@ impl Settings {
         }
         if selector == METADATA {
             let held = self.metadata;
-            return controls::metadata::answer(p.metadata, held, code);
+            return metadata::answer(p.metadata, held, code);
         }
         if selector == HDR {
             let held = self.hdr;
-            return controls::hdr::answer(p.auto, held, code);
+            return hdr::answer(p.auto, held, code);
         }
         let held = self.throttle;
-        controls::throttle::answer(p.throttle, held, code)
+        throttle::answer(p.throttle, held, code)
     }
 }

@@ -1,10 +1,10 @@
 // Whether settings keep their rules, control by control.
-use crate::profile::Profile;
-use crate::profile::has_control;
 use crate::settings::Settings;
 use controls::Number;
-use controls::throttle::Throttle;
 use exposure::Ev;
+use profile::Profile;
+use request::has_control;
+use throttle::Throttle;
 use wire::selectors::EV;
 use wire::selectors::FACE;
 use wire::selectors::HDR;
@@ -18,7 +18,8 @@ fn ev_kept(p: Profile, held: Ev) -> bool
 {
     match held {
         Ev::Unset => true,
-        Ev::Held(s) => has_control(p, EV) & (exposure::refusal(p.ev, s.flags as u64, s.value) == 0),
+        Ev::Held(s) => has_control(p.controls, EV)
+            & (exposure::refusal(p.ev, s.flags as u64, s.value) == 0),
     }
 }
 
@@ -27,9 +28,9 @@ fn metadata_kept(p: Profile, held: Number) -> bool
 {
     match held {
         Number::Unset => true,
-        Number::Held(n) => has_control(p, METADATA)
+        Number::Held(n) => has_control(p.controls, METADATA)
             & p.metadata.writable
-            & (controls::metadata::refusal(p.metadata, n) == 0),
+            & (metadata::refusal(p.metadata, n) == 0),
     }
 }
 
@@ -38,7 +39,7 @@ fn hdr_kept(p: Profile, held: Number) -> bool
 {
     match held {
         Number::Unset => true,
-        Number::Held(n) => has_control(p, HDR) & (controls::hdr::refusal(p.auto, n) == 0),
+        Number::Held(n) => has_control(p.controls, HDR) & (hdr::refusal(p.auto, n) == 0),
     }
 }
 
@@ -47,8 +48,8 @@ fn throttle_kept(p: Profile, held: Throttle) -> bool
 {
     match held {
         Throttle::Unset => true,
-        Throttle::Held(t) => has_control(p, THROTTLE)
-            & (controls::throttle::refusal(p.throttle, t.mode, t.percent) == 0),
+        Throttle::Held(t) => has_control(p.controls, THROTTLE)
+            & (throttle::refusal(p.throttle, t.mode, t.percent) == 0),
     }
 }
 
@@ -64,7 +65,7 @@ impl Settings {
         let throttle = self.throttle;
         p.valid()
             & ev_kept(p, ev)
-            & face::kept(p.face, has_control(p, FACE), face)
+            & face::kept(p.face, has_control(p.controls, FACE), face)
             & metadata_kept(p, metadata)
             & hdr_kept(p, hdr)
             & throttle_kept(p, throttle)

@@ -1,8 +1,8 @@
 // The settings of the five controls, of face authentication one for each endpoint: the last that was accepted, or none.
 use controls::Number;
 use controls::Setting;
-use controls::throttle::Throttle;
 use exposure::Ev;
+use throttle::Throttle;
 use wire::endpoints::PLACES;
 ghost use mathlib.Core.Path.{_≡_};
 ghost use Rattle.settings.specs.Settings.{noSettings, put};

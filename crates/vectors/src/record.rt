@@ -7,15 +7,15 @@ use crate::words::word;
 use camera::Camera;
 use controls::EvSetting;
 use controls::Number;
-use controls::metadata::MetadataLimits;
-use controls::throttle::Throttle;
-use controls::throttle::ThrottleLimits;
-use controls::throttle::ThrottleSetting;
+use controls::ThrottleSetting;
 use exposure::Ev;
 use exposure::EvLimits;
 use face::FaceLimits;
-use settings::Profile;
+use metadata::MetadataLimits;
+use profile::Profile;
 use settings::Settings;
+use throttle::Throttle;
+use throttle::ThrottleLimits;
 
 fn flag(w: &[u8]) -> bool {
     octet(w, 0) != 0

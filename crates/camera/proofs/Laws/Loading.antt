@@ -15,13 +15,14 @@ use Rattle.snapshot.specs.Form.{keys, sizeOf}
 use Rattle.snapshot.specs.Form as form
 use Rattle.snapshot.specs.Records.{keyOf, decode}
 use Rattle.snapshot.proofs.Laws.Walk.{At, first-at, none-before, record-at, next-at, next-above, next-within, none-between}
-use Rattle.controls.specs.declared.setting.Item.{Item}
-use Rattle.controls.specs.declared.setting.Item.the-variants.{Absent, Refused}
+use Rattle.controls.specs.declared.Item.{Item}
+use Rattle.controls.specs.declared.Item.the-variants.{Absent, Refused}
 use Rattle.controls.specs.Settings.{codeOf, firstRefusal}
 use Rattle.controls.proofs.Laws.Items.{stops, passes}
-use Rattle.settings.specs.declared.profile.Profile.{Profile}
+use Rattle.profile.specs.declared.Profile.{Profile}
 use Rattle.settings.specs.declared.settings.Settings.{Settings}
-use Rattle.settings.specs.Items.{givenOf, allGiven, puts, itemAt}
+use Rattle.profile.specs.Items.{itemAt}
+use Rattle.settings.specs.Items.{givenOf, allGiven, puts}
 use Rattle.settings.proofs.Laws.Items.{given-next, puts-next}
 use Rattle.camera.specs.declared.record.Camera.{Camera}
 use Rattle.camera.specs.declared.calls.Outcome.{Outcome}

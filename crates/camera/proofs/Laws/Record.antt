@@ -3,7 +3,7 @@ use mathlib.Core.Path.{_≡_}
 use mathlib.Core.Bool.{Bool, true, false, and-eq-true-iff}
 use lib.IntN.{pos}
 use Rattle.exposure.specs.Ev.{compensation}
-use Rattle.settings.specs.Profile.{profileValid}
+use Rattle.profile.specs.Profile.{profileValid}
 use Rattle.settings.specs.Settings as settings
 use Rattle.camera.specs.declared.record.Camera.{Camera}
 use Rattle.camera.specs.Record.{withStreaming, wellFormed}

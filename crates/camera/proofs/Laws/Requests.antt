@@ -16,11 +16,12 @@ use Rattle.request.specs.Tests as request
 use Rattle.request.specs.Reply.{replyOf}
 use Rattle.request.specs.Requests as leaves
 use Rattle.request.proofs.Laws.Tests.{at-unformed, at-tests, at-state, at-set, at-get, set-replied, get-sent}
-use Rattle.settings.specs.declared.profile.Profile.{Profile}
+use Rattle.profile.specs.declared.Profile.{Profile}
 use Rattle.settings.specs.declared.items.Taken.{Taken}
-use Rattle.settings.specs.Profile.{has, settable}
-use Rattle.settings.specs.Profile as profile
-use Rattle.settings.specs.Items.{setRefusal, setGives, setTaken}
+use Rattle.profile.specs.Profile.{has, settable}
+use Rattle.profile.specs.Profile as profile
+use Rattle.profile.specs.Items.{setRefusal}
+use Rattle.settings.specs.Items.{setGives, setTaken}
 use Rattle.camera.specs.declared.record.Camera.{Camera}
 use Rattle.camera.specs.declared.calls.Outcome.{Outcome}
 use Rattle.camera.specs.Record.{puts, withSettings, wellFormed}

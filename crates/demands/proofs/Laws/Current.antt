@@ -15,23 +15,23 @@ use Rattle.request.specs.Tests as tests
 use Rattle.settings.specs.Answers.{valueOf}
 use Rattle.settings.specs.Settings.{keyOf}
 use Rattle.settings.specs.Settings as settings
-use Rattle.controls.specs.declared.setting.Setting.the-variants as S
+use Rattle.controls.specs.declared.Setting.the-variants as S
 use Rattle.exposure.specs.declared.ev.Ev.the-variants as E
-use Rattle.controls.specs.declared.setting.EvSetting.{EvSetting}
-use Rattle.controls.specs.declared.setting.Number.the-variants as N
-use Rattle.controls.specs.declared.throttle.Throttle.the-variants as T
-use Rattle.controls.specs.declared.throttle.ThrottleSetting.{ThrottleSetting}
+use Rattle.controls.specs.declared.EvSetting.{EvSetting}
+use Rattle.controls.specs.declared.Number.the-variants as N
+use Rattle.throttle.specs.declared.Throttle.the-variants as T
+use Rattle.controls.specs.declared.ThrottleSetting.{ThrottleSetting}
 use Rattle.request.specs.Answers.{answerBy}
 use Rattle.controls.specs.Settings.{numberOr}
 use Rattle.exposure.specs.Ev.{evBytes, evCurrent, evAt}
 use Rattle.face.specs.Face.{endpoints, addressAt, entryOf, heldAt}
-use Rattle.controls.specs.Metadata.{metadataAt}
-use Rattle.controls.specs.Hdr.{hdrAt}
-use Rattle.controls.specs.Throttle.{throttleBytes, throttleCurrent, throttleAt}
+use Rattle.metadata.specs.Metadata.{metadataAt}
+use Rattle.hdr.specs.Hdr.{hdrAt}
+use Rattle.throttle.specs.Throttle.{throttleBytes, throttleCurrent, throttleAt}
 use Rattle.face.proofs.Laws.Face.{place-listed}
-use Rattle.settings.specs.Profile.{has}
+use Rattle.profile.specs.Profile.{has}
 use Rattle.settings.specs.Settings.{faceHeld}
-use Rattle.settings.proofs.Laws.Profile.{valid-face}
+use Rattle.profile.proofs.Laws.Profile.{valid-face}
 use Rattle.camera.specs.declared.record.Camera.{Camera}
 use Rattle.camera.specs.Record.{held, wellFormed}
 use Rattle.camera.specs.Requests.{answerOf}

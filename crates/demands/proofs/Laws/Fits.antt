@@ -10,16 +10,18 @@ use mir.Syntax.{w32}
 use mir.Val.{SFits}
 use borrow.Author.Tests.{leb-true}
 use Rattle.wire.specs.Selectors as selector
-use Rattle.controls.specs.declared.setting.Setting.{Setting}
-use Rattle.controls.specs.declared.setting.Setting.the-variants as S
+use Rattle.controls.specs.declared.Setting.{Setting}
+use Rattle.controls.specs.declared.Setting.the-variants as S
 use Rattle.exposure.proofs.Laws.Ev.{accepts, range-small}
-use Rattle.controls.proofs.Laws.Plain.{metadata-within, hdr-within, throttle-within}
-use Rattle.settings.specs.declared.profile.Profile.{Profile}
-use Rattle.settings.specs.Profile.{has, profileValid}
+use Rattle.metadata.proofs.Laws.Metadata.{metadata-within}
+use Rattle.hdr.proofs.Laws.Hdr.{hdr-within}
+use Rattle.throttle.proofs.Laws.Throttle.{throttle-within}
+use Rattle.profile.specs.declared.Profile.{Profile}
+use Rattle.profile.specs.Profile.{has, profileValid}
 use Rattle.settings.specs.Settings.{valueRefusal}
 use Rattle.camera.specs.declared.record.Camera.{Camera}
 use Rattle.camera.specs.Record.{held, wellFormed}
-use Rattle.settings.proofs.Laws.Profile.{valid-ev}
+use Rattle.profile.proofs.Laws.Profile.{valid-ev}
 use Rattle.camera.proofs.Laws.Record.{formed-profile}
 use Rattle.demands.specs.Records.{flagsOf, Typed}
 use Rattle.demands.proofs.Laws.Kept.{Good, control-there, held-good}

@@ -18,25 +18,26 @@ use Rattle.wire.proofs.Laws.Rows.{quiet}
 use Rattle.snapshot.specs.Form.{keys}
 use Rattle.snapshot.specs.Merge.{over}
 use Rattle.snapshot.specs.Settings.{lastOf}
-use Rattle.controls.specs.declared.setting.Item.{Item}
-use Rattle.controls.specs.declared.setting.Item.the-variants.{Absent, Refused, Given}
-use Rattle.controls.specs.declared.setting.Setting.{Setting}
-use Rattle.controls.specs.declared.setting.Setting.the-variants as S
+use Rattle.controls.specs.declared.Item.{Item}
+use Rattle.controls.specs.declared.Item.the-variants.{Absent, Refused, Given}
+use Rattle.controls.specs.declared.Setting.{Setting}
+use Rattle.controls.specs.declared.Setting.the-variants as S
 use Rattle.controls.specs.Settings.{itemOf}
 use Rattle.exposure.specs.Ev.{evItem, evFlags, evValue}
 use Rattle.face.specs.Face.{allBelow, faceValid, entryAddress, entryFlags, seenBefore, offersOf, isChoice, entryRefusal, settingRefusal, faceItem}
-use Rattle.controls.specs.Metadata.{metadataItem}
-use Rattle.controls.specs.Hdr.{hdrItem}
-use Rattle.controls.specs.Throttle.{throttleItem}
+use Rattle.metadata.specs.Metadata.{metadataItem}
+use Rattle.hdr.specs.Hdr.{hdrItem}
+use Rattle.throttle.specs.Throttle.{throttleItem}
 use Rattle.controls.proofs.Laws.Settings.{given-is}
 use Rattle.face.proofs.Laws.Face.{all-at, all-of, listed}
-use Rattle.settings.specs.declared.profile.Profile.{Profile}
+use Rattle.profile.specs.declared.Profile.{Profile}
 use Rattle.settings.specs.declared.settings.Settings.{Settings}
-use Rattle.settings.specs.Profile.{has, settable, profileValid, controlRefusal}
+use Rattle.profile.specs.Profile.{has, settable, profileValid, controlRefusal}
 use Rattle.settings.specs.Settings.{keyOf, selectorOf, held, valueRefusal, kept, wellFormed}
-use Rattle.settings.specs.Items.{givenOf, allGiven, itemAt, puts}
-use Rattle.settings.specs.Selectors.{Control, ev, face, metadata, hdr, throttle}
-use Rattle.settings.proofs.Laws.Profile.{valid-face}
+use Rattle.profile.specs.Items.{itemAt}
+use Rattle.settings.specs.Items.{givenOf, allGiven, puts}
+use Rattle.profile.specs.Selectors.{Control, ev, face, metadata, hdr, throttle}
+use Rattle.profile.proofs.Laws.Profile.{valid-face}
 use Rattle.settings.proofs.Laws.Kept.{control-kept}
 use Rattle.camera.specs.Requests as camera
 use Rattle.camera.proofs.Laws.Requests.{control-refused, control-state}

@@ -7,8 +7,8 @@ use Rattle.snapshot.specs.Merge.{over}
 use Rattle.snapshot.specs.Settings.{lastOf}
 use Rattle.snapshot.proofs.Laws.Merging.{over-assoc, over-none}
 use Rattle.snapshot.proofs.Laws.Settings.{last-append}
-use Rattle.settings.specs.declared.profile.Profile.{Profile}
-use Rattle.settings.specs.Profile.{profileValid}
+use Rattle.profile.specs.declared.Profile.{Profile}
+use Rattle.profile.specs.Profile.{profileValid}
 use Rattle.settings.specs.Settings.{noSettings, kept}
 use Rattle.camera.specs.declared.record.Camera.{Camera}
 use Rattle.camera.specs.Record.{fresh, held}

@@ -23,22 +23,23 @@ use Rattle.snapshot.proofs.Laws.Sound.{stands-sound}
 use Rattle.snapshot.proofs.Laws.Maps.{decode-good, none-above}
 use Rattle.snapshot.proofs.Laws.Merging.{decode-merged, merged-formed, over-none}
 use Rattle.snapshot.proofs.Laws.Settings.{last-append}
-use Rattle.controls.specs.declared.setting.Item.{Item}
-use Rattle.controls.specs.declared.setting.Item.the-variants.{Absent, Refused, Given}
-use Rattle.controls.specs.declared.setting.Setting.{Setting}
+use Rattle.controls.specs.declared.Item.{Item}
+use Rattle.controls.specs.declared.Item.the-variants.{Absent, Refused, Given}
+use Rattle.controls.specs.declared.Setting.{Setting}
 use Rattle.controls.specs.Settings.{itemOf, settingOf, codeOf, firstRefusal}
 use Rattle.exposure.specs.Ev.{evItem}
 use Rattle.face.specs.Face.{faceItem}
-use Rattle.controls.specs.Metadata.{metadataItem}
-use Rattle.controls.specs.Hdr.{hdrItem}
-use Rattle.controls.specs.Throttle.{throttleItem}
+use Rattle.metadata.specs.Metadata.{metadataItem}
+use Rattle.hdr.specs.Hdr.{hdrItem}
+use Rattle.throttle.specs.Throttle.{throttleItem}
 use Rattle.controls.proofs.Laws.Settings.{given-is}
-use Rattle.settings.specs.declared.profile.Profile.{Profile}
+use Rattle.profile.specs.declared.Profile.{Profile}
 use Rattle.settings.specs.Settings.{keyOf}
 use Rattle.camera.specs.Requests.{controlRefusal}
-use Rattle.settings.specs.Items.{givenOf, allGiven, itemAt}
+use Rattle.profile.specs.Items.{itemAt}
+use Rattle.settings.specs.Items.{givenOf, allGiven}
 use Rattle.controls.proofs.Laws.Items.{passes, none-refused}
-use Rattle.settings.specs.Selectors.{Control, ev, face, metadata, hdr, throttle}
+use Rattle.profile.specs.Selectors.{Control, ev, face, metadata, hdr, throttle}
 use Rattle.camera.specs.Snapshots.{selectorAt, recordItem, itemFor, loadItem, loadTests, loadGives}
 use Rattle.demands.proofs.Laws.Sets.{is-kind, row-number}
 use Rattle.demands.proofs.Laws.Steps.{not-off, isGiven, key-control}

@@ -19,11 +19,12 @@ use Rattle.snapshot.proofs.Laws.Lengths.{encode-short}
 use Rattle.face.specs.declared.limits.FaceLimits.{FaceLimits}
 use Rattle.settings.specs.Settings.{valueRefusal}
 use Rattle.face.specs.Face.{addressAt, offersAt, offersFrom, offersOf, endpoints, isChoice, settingRefusal}
-use Rattle.controls.specs.declared.setting.Setting.{Setting}
-use Rattle.controls.specs.declared.setting.Setting.the-variants as S
+use Rattle.controls.specs.declared.Setting.{Setting}
+use Rattle.controls.specs.declared.Setting.the-variants as S
 use Rattle.camera.specs.declared.record.Camera.{Camera}
 use Rattle.camera.specs.Record.{held, wellFormed}
-use Rattle.camera.specs.Snapshots.{row, snapshot}
+use Rattle.encoding.specs.Encoding.{row}
+use Rattle.camera.specs.Snapshots.{snapshot}
 use Rattle.demands.proofs.Laws.Held.{held-face, none-never}
 use Rattle.demands.proofs.Laws.Kept.{held-good}
 use Rattle.demands.proofs.Laws.Records.{held-rows}

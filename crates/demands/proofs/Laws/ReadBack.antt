@@ -17,30 +17,31 @@ use Rattle.wire.proofs.Laws.Bytes.{bytes-at}
 use Rattle.wire.proofs.Laws.Numbers.{Bytes}
 use Rattle.request.specs.Answers.{answerBy}
 use Rattle.request.specs.Tests as tests
-use Rattle.controls.specs.declared.setting.Item.{Item}
-use Rattle.controls.specs.declared.setting.Item.the-variants.{Given}
-use Rattle.controls.specs.declared.setting.Setting.{Setting}
-use Rattle.controls.specs.declared.setting.Setting.the-variants as S
+use Rattle.controls.specs.declared.Item.{Item}
+use Rattle.controls.specs.declared.Item.the-variants.{Given}
+use Rattle.controls.specs.declared.Setting.{Setting}
+use Rattle.controls.specs.declared.Setting.the-variants as S
 use Rattle.controls.specs.Settings.{itemOf, numberOr, codeOf, firstRefusal}
 use Rattle.exposure.specs.Ev.{evFlags, evValue, evItem, evCurrent, evAt}
 use Rattle.face.specs.declared.limits.FaceLimits.{FaceLimits}
 use Rattle.face.specs.Face.{endpoints, addressAt, offersAt, offersFrom, offersOf, takesFace, entryAddress, entryFlags, seenIn, seenBefore}
 use Rattle.face.specs.Face.{entryOf, heldAt, flagsAt, entriesOf, faceValue, putFace, entriesPut, facesTaken}
-use Rattle.controls.specs.Metadata.{metadataItem, metadataAt}
-use Rattle.controls.specs.Hdr.{hdrItem, hdrAt}
-use Rattle.controls.specs.Throttle.{throttleItem, throttleCurrent, throttleAt, throttleBytes}
+use Rattle.metadata.specs.Metadata.{metadataItem, metadataAt}
+use Rattle.hdr.specs.Hdr.{hdrItem, hdrAt}
+use Rattle.throttle.specs.Throttle.{throttleItem, throttleCurrent, throttleAt, throttleBytes}
 use Rattle.controls.proofs.Laws.Items.{none-refused}
-use Rattle.controls.proofs.Laws.Plain.{word-bytes}
+use Rattle.wire.proofs.Laws.Bytes.{word-bytes}
 use Rattle.exposure.proofs.Laws.Ev.{ev-bytes}
 use Rattle.face.proofs.Laws.Entries.{taken-entries}
 use Rattle.face.proofs.Laws.Face.{accepted, length-entries}
 use Rattle.face.proofs.Laws.Places.{length-put}
-use Rattle.settings.specs.declared.profile.Profile.{Profile}
+use Rattle.profile.specs.declared.Profile.{Profile}
 use Rattle.settings.specs.declared.settings.Settings.{Settings}
-use Rattle.settings.specs.Selectors.{Control, ev, face, metadata, hdr, throttle}
-use Rattle.settings.specs.Profile.{settable, takes, profileValid, controlRefusal}
+use Rattle.profile.specs.Selectors.{Control, ev, face, metadata, hdr, throttle}
+use Rattle.profile.specs.Profile.{settable, takes, profileValid, controlRefusal}
 use Rattle.settings.specs.Settings.{faceHeld, held, put}
-use Rattle.settings.specs.Items.{givenOf, allGiven, puts, itemAt, setRefusal, setGives, setTaken}
+use Rattle.profile.specs.Items.{itemAt, setRefusal}
+use Rattle.settings.specs.Items.{givenOf, allGiven, puts, setGives, setTaken}
 use Rattle.settings.specs.Answers.{valueOf}
 use Rattle.settings.proofs.Laws.Items.{face-set}
 use Rattle.camera.specs.declared.record.Camera.{Camera}

@@ -14,23 +14,26 @@ use Rattle.snapshot.specs.Records.{Record, GoodAt}
 use Rattle.snapshot.specs.Records as records
 use Rattle.snapshot.proofs.Laws.Settings.{Rows}
 use Rattle.snapshot.proofs.Laws.Controls.{record-ev, record-face, record-metadata, record-hdr, record-throttle}
-use Rattle.controls.specs.declared.setting.Setting.{Setting}
-use Rattle.controls.specs.declared.setting.Setting.the-variants as S
+use Rattle.controls.specs.declared.Setting.{Setting}
+use Rattle.controls.specs.declared.Setting.the-variants as S
 use Rattle.exposure.specs.Ev.{evBytes}
 use Rattle.face.specs.Face.{entryOf, settingRefusal}
-use Rattle.controls.specs.Throttle.{throttleBytes}
+use Rattle.throttle.specs.Throttle.{throttleBytes}
 use Rattle.controls.specs.Settings.{itemOf}
-use Rattle.controls.specs.declared.setting.Item.the-variants.{Given}
+use Rattle.controls.specs.declared.Item.the-variants.{Given}
 use Rattle.exposure.proofs.Laws.Ev.{ev-read}
 use Rattle.face.proofs.Laws.Face.{one-entry}
-use Rattle.controls.proofs.Laws.Plain.{metadata-read, hdr-read, throttle-read}
-use Rattle.settings.specs.declared.profile.Profile.{Profile}
+use Rattle.metadata.proofs.Laws.Metadata.{metadata-read}
+use Rattle.hdr.proofs.Laws.Hdr.{hdr-read}
+use Rattle.throttle.proofs.Laws.Throttle.{throttle-read}
+use Rattle.profile.specs.declared.Profile.{Profile}
 use Rattle.settings.specs.Settings.{keyOf, selectorOf, valueRefusal}
 use Rattle.camera.specs.Requests.{controlRefusal}
-use Rattle.settings.specs.Items.{itemAt}
+use Rattle.profile.specs.Items.{itemAt}
 use Rattle.camera.specs.declared.record.Camera.{Camera}
 use Rattle.camera.specs.Record.{held, wellFormed}
-use Rattle.camera.specs.Snapshots.{row, noLimits, selectorAt, recordItem}
+use Rattle.encoding.specs.Encoding.{row, noLimits}
+use Rattle.camera.specs.Snapshots.{selectorAt, recordItem}
 use Rattle.demands.proofs.Laws.Held.{Proper, Each}
 use Rattle.demands.proofs.Laws.Kept.{Good, held-good, streaming-control}
 use Rattle.demands.proofs.Laws.Fits.{Fitting}

@@ -9,14 +9,14 @@ use lib.ListN.{length, getD}
 use lib.Seq.{ext-getD}
 use borrow.Author.Tests.{eqb-true}
 use Rattle.wire.specs.Endpoints.{firstAddress, places}
-use Rattle.controls.specs.declared.setting.Setting.{Setting}
-use Rattle.controls.specs.declared.setting.Setting.the-variants as S
+use Rattle.controls.specs.declared.Setting.{Setting}
+use Rattle.controls.specs.declared.Setting.the-variants as S
 use Rattle.exposure.specs.declared.ev.Ev.{Ev}
 use Rattle.exposure.specs.declared.ev.Ev.the-variants as E
-use Rattle.controls.specs.declared.setting.Number.{Number}
-use Rattle.controls.specs.declared.setting.Number.the-variants as N
-use Rattle.controls.specs.declared.throttle.Throttle.{Throttle}
-use Rattle.controls.specs.declared.throttle.Throttle.the-variants as T
+use Rattle.controls.specs.declared.Number.{Number}
+use Rattle.controls.specs.declared.Number.the-variants as N
+use Rattle.throttle.specs.declared.Throttle.{Throttle}
+use Rattle.throttle.specs.declared.Throttle.the-variants as T
 use Rattle.settings.specs.declared.settings.Settings.{Settings}
 use Rattle.settings.specs.Settings.{held, evHeld, faceHeld, numberHeld, metadataHeld, hdrHeld, throttleHeld}
 use Rattle.demands.proofs.Laws.Held.{none-never, held-face}

@@ -19,16 +19,17 @@ use Rattle.request.specs.Tests.{requestTests, valueTests, setAccepted, controlR
 use Rattle.snapshot.specs.Form as form
 use Rattle.snapshot.specs.Records.{Record}
 use Rattle.snapshot.proofs.Laws.Sound.{Sound, Kind, ev, face, metadata, hdr, throttle, kind-of, sound-address, stands-sound, stands-size}
-use Rattle.controls.specs.declared.setting.Item.{Item}
-use Rattle.controls.specs.declared.setting.Item.the-variants.{Absent, Refused, Given}
+use Rattle.controls.specs.declared.Item.{Item}
+use Rattle.controls.specs.declared.Item.the-variants.{Absent, Refused, Given}
 use Rattle.face.proofs.Laws.Face.{takes-first, count-least}
 use Rattle.controls.specs.Settings.{codeOf, firstRefusal}
-use Rattle.settings.specs.declared.profile.Profile.{Profile}
-use Rattle.settings.specs.Profile.{has, settable, takes, profileValid}
+use Rattle.profile.specs.declared.Profile.{Profile}
+use Rattle.profile.specs.Profile.{has, settable, takes, profileValid}
 use Rattle.camera.specs.Requests.{stateOf}
 use Rattle.camera.specs.Requests as camera
-use Rattle.settings.specs.Items.{givenOf, allGiven, itemCount, itemAt, setRefusal, setGives}
-use Rattle.settings.proofs.Laws.Profile.{valid-face}
+use Rattle.profile.specs.Items.{itemCount, itemAt, setRefusal}
+use Rattle.settings.specs.Items.{givenOf, allGiven, setGives}
+use Rattle.profile.proofs.Laws.Profile.{valid-face}
 use Rattle.camera.specs.Snapshots.{selectorAt, recordItem}
 use Rattle.demands.specs.Lists.{gives}
 use Rattle.demands.specs.Loading.{setOf, setCode, AsSet}

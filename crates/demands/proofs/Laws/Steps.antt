@@ -21,17 +21,18 @@ use Rattle.snapshot.specs.Form.{keys}
 use Rattle.snapshot.specs.Records.{decode}
 use Rattle.snapshot.specs.Merge.{over}
 use Rattle.snapshot.specs.Settings.{lastOf}
-use Rattle.controls.specs.declared.setting.Item.{Item}
-use Rattle.controls.specs.declared.setting.Item.the-variants.{Absent, Refused, Given}
-use Rattle.controls.specs.declared.setting.Setting.{Setting}
-use Rattle.settings.specs.declared.profile.Profile.{Profile}
-use Rattle.settings.specs.Profile.{has, settable, takes, profileValid, controlRefusal}
-use Rattle.settings.specs.Items.{itemCount, itemAt, setRefusal, setGives}
+use Rattle.controls.specs.declared.Item.{Item}
+use Rattle.controls.specs.declared.Item.the-variants.{Absent, Refused, Given}
+use Rattle.controls.specs.declared.Setting.{Setting}
+use Rattle.profile.specs.declared.Profile.{Profile}
+use Rattle.profile.specs.Profile.{has, settable, takes, profileValid, controlRefusal}
+use Rattle.profile.specs.Items.{itemCount, itemAt, setRefusal}
+use Rattle.settings.specs.Items.{setGives}
 use Rattle.settings.specs.Items as items
-use Rattle.settings.specs.Selectors.{Control, ev, face, metadata, hdr, throttle}
+use Rattle.profile.specs.Selectors.{Control, ev, face, metadata, hdr, throttle}
 use Rattle.settings.proofs.Laws.Kept.{control-kept}
-use Rattle.settings.proofs.Laws.Profile.{valid-presence}
-use Rattle.settings.proofs.Laws.Selectors.{control-known}
+use Rattle.profile.proofs.Laws.Profile.{valid-presence}
+use Rattle.profile.proofs.Laws.Selectors.{control-known}
 use Rattle.camera.specs.declared.record.Camera.{Camera}
 use Rattle.camera.specs.declared.calls.Outcome.{Outcome}
 use Rattle.camera.specs.Record.{held, wellFormed, puts}

@@ -6,12 +6,12 @@ use Prim.Native.Nat.{ℕ, _+_, _-_, _^_, _<_}
 use lib.Dec.{eqb, leb, lit<}
 use lib.ListN.{getD}
 use Rattle.wire.specs.Endpoints.{firstAddress, places}
-use Rattle.controls.specs.declared.setting.Setting.{Setting}
-use Rattle.controls.specs.declared.setting.Setting.the-variants as S
-use Rattle.controls.specs.declared.setting.Number.{Number}
-use Rattle.controls.specs.declared.setting.Number.the-variants as N
-use Rattle.controls.specs.declared.throttle.Throttle.{Throttle}
-use Rattle.controls.specs.declared.throttle.Throttle.the-variants as T
+use Rattle.controls.specs.declared.Setting.{Setting}
+use Rattle.controls.specs.declared.Setting.the-variants as S
+use Rattle.controls.specs.declared.Number.{Number}
+use Rattle.controls.specs.declared.Number.the-variants as N
+use Rattle.throttle.specs.declared.Throttle.{Throttle}
+use Rattle.throttle.specs.declared.Throttle.the-variants as T
 use Rattle.settings.specs.declared.settings.Settings.{Settings}
 use Rattle.settings.specs.Settings.{evHeld, faceHeld, numberHeld, metadataHeld, hdrHeld, throttleHeld, held}
 use Rattle.demands.specs.Records.{flagsOf}

@@ -19,9 +19,9 @@ use Rattle.wire.specs.declared.flags.Choice.the-variants.{At, Refused}
 use Rattle.wire.proofs.Laws.Bits.{chosen-below}
 use Rattle.wire.proofs.Laws.Numbers.{Bytes, below}
 use Rattle.exposure.specs.declared.ev.EvLimits.{EvLimits}
-use Rattle.controls.specs.declared.setting.EvSetting.{EvSetting}
+use Rattle.controls.specs.declared.EvSetting.{EvSetting}
 use Rattle.exposure.specs.declared.ev.Ev.{Ev}
-use Rattle.controls.specs.declared.setting.Setting.the-variants as S
+use Rattle.controls.specs.declared.Setting.the-variants as S
 use Rattle.controls.specs.Settings.{itemOf}
 use Rattle.exposure.specs.Ev.{evValid, signed32, bits32, divisor, inRange, refusalAt, evRefusal, evFlags, evValue, evItem, evBytes, evAt, evAnswer, unitsPerStop, scaledAt, scaledOf}
 use Rattle.exposure.proofs.Laws.Signed.{mag-mul, between, bits-below, signed-bits, bits-signed}

@@ -12,9 +12,9 @@ use borrow.Author.Tests.{ne-eqb, eqb-true, eqb-false}
 use Rattle.wire.specs.Endpoints.{endpointLimit}
 use Rattle.wire.specs.Number.{leAt}
 use Rattle.wire.specs.Uvc.{outOfRange}
-use Rattle.controls.specs.declared.setting.Item.the-variants.{Refused, Given}
-use Rattle.controls.specs.declared.setting.Setting.{Setting}
-use Rattle.controls.specs.declared.setting.Setting.the-variants as S
+use Rattle.controls.specs.declared.Item.the-variants.{Refused, Given}
+use Rattle.controls.specs.declared.Setting.{Setting}
+use Rattle.controls.specs.declared.Setting.the-variants as S
 use Rattle.controls.specs.Settings.{itemOf, codeOf, firstRefusal}
 use Rattle.controls.proofs.Laws.Settings as settings
 use Rattle.controls.proofs.Laws.Items.{none-refused, stops, passes}

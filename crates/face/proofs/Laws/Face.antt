@@ -16,8 +16,8 @@ use Rattle.wire.specs.Rows.{_⇒_, firstOf}
 use Rattle.wire.specs.Overlay.{overlay}
 use Rattle.wire.proofs.Laws.Overlay.{append}
 use Rattle.face.specs.declared.limits.FaceLimits.{FaceLimits}
-use Rattle.controls.specs.declared.setting.Item.the-variants.{Given}
-use Rattle.controls.specs.declared.setting.Setting.the-variants as S
+use Rattle.controls.specs.declared.Item.the-variants.{Given}
+use Rattle.controls.specs.declared.Setting.the-variants as S
 use Rattle.controls.specs.Settings.{itemOf}
 use Rattle.request.specs.Answers.{answerBy, longest}
 use Rattle.face.specs.Face.{endpoints, addressAt, offersAt, allBelow, offersValid, addressBefore, endpointValid, faceValid, offersFrom, offersOf, takesFace, entryAddress, entryFlags, seenIn, seenBefore, isChoice, faceRefusal, entryRefusal, faceItem, entryOf, heldAt, flagsAt, entriesOf, faceValue, faceAnswer}

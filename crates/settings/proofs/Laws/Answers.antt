@@ -11,11 +11,11 @@ use Rattle.request.proofs.Laws.Answers.{answer-length}
 use Rattle.exposure.specs.Ev.{evAt, evBytes}
 use Rattle.face.specs.Face.{faceValue}
 use Rattle.face.proofs.Laws.Face.{value-length}
-use Rattle.controls.specs.Metadata.{metadataAt}
-use Rattle.controls.specs.Hdr.{hdrAt}
-use Rattle.controls.specs.Throttle.{throttleAt, throttleBytes}
-use Rattle.controls.proofs.Laws.Plain.{throttle-length}
-use Rattle.settings.specs.declared.profile.Profile.{Profile}
+use Rattle.metadata.specs.Metadata.{metadataAt}
+use Rattle.hdr.specs.Hdr.{hdrAt}
+use Rattle.throttle.specs.Throttle.{throttleAt, throttleBytes}
+use Rattle.throttle.proofs.Laws.Throttle.{throttle-length}
+use Rattle.profile.specs.declared.Profile.{Profile}
 use Rattle.settings.specs.declared.settings.Settings.{Settings}
 use Rattle.settings.specs.Answers.{valueOf, answerOf}
 

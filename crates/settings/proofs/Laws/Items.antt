@@ -10,19 +10,20 @@ use lib.Dec.{eqb}
 use lib.ListN.{getD}
 use borrow.Author.Tests.{ne-eqb, eqb-true}
 use Rattle.wire.specs.Selectors.{face}
-use Rattle.controls.specs.declared.setting.Item.{Item}
-use Rattle.controls.specs.declared.setting.Item.the-variants.{Absent, Refused, Given}
-use Rattle.controls.specs.declared.setting.Setting.{Setting}
-use Rattle.controls.specs.declared.setting.Setting.the-variants as S
+use Rattle.controls.specs.declared.Item.{Item}
+use Rattle.controls.specs.declared.Item.the-variants.{Absent, Refused, Given}
+use Rattle.controls.specs.declared.Setting.{Setting}
+use Rattle.controls.specs.declared.Setting.the-variants as S
 use Rattle.controls.specs.Settings.{codeOf, firstRefusal}
 use Rattle.face.specs.declared.entries.Taken.{Taken}
 use Rattle.face.specs.Face.{entryAddress, entryFlags, faceItem, entriesPut, facesTaken}
 use Rattle.face.proofs.Laws.Entries.{taken-entries}
-use Rattle.settings.specs.declared.profile.Profile.{Profile}
+use Rattle.profile.specs.declared.Profile.{Profile}
 use Rattle.settings.specs.declared.settings.Settings.{Settings}
 use Rattle.settings.specs.declared.items.Taken as own
 use Rattle.settings.specs.Settings.{put}
-use Rattle.settings.specs.Items.{givenOf, allGiven, puts, itemAt, setRefusal, setGives, setTaken}
+use Rattle.profile.specs.Items.{itemAt, setRefusal}
+use Rattle.settings.specs.Items.{givenOf, allGiven, puts, setGives, setTaken}
 
 -- one item more
 pub given-next : (i k : ℕ) (item : ℕ → Item) → allGiven (suc i) k item ≡ allGiven i k item ++ givenOf (item (i + k))

@@ -12,14 +12,14 @@ use borrow.Author.Tests.{ne-eqb, le-leb}
 use Rattle.wire.specs.Endpoints.{firstAddress, places}
 use Rattle.wire.specs.Rows.{_⇒_, firstOf}
 use Rattle.wire.specs.Selectors.{face, metadata}
-use Rattle.controls.specs.declared.setting.Setting.{Setting}
-use Rattle.controls.specs.declared.setting.Setting.the-variants as S
-use Rattle.controls.specs.Metadata.{metadataRefusal}
+use Rattle.controls.specs.declared.Setting.{Setting}
+use Rattle.controls.specs.declared.Setting.the-variants as S
+use Rattle.metadata.specs.Metadata.{metadataRefusal}
 use Rattle.face.specs.Face.{allBelow, settingRefusal, faceKept, facesKept}
 use Rattle.face.proofs.Laws.Face.{all-same}
-use Rattle.settings.specs.declared.profile.Profile.{Profile}
+use Rattle.profile.specs.declared.Profile.{Profile}
 use Rattle.settings.specs.declared.settings.Settings.{Settings}
-use Rattle.settings.specs.Profile.{has, settable, profileValid, controlRefusal}
+use Rattle.profile.specs.Profile.{has, settable, profileValid, controlRefusal}
 use Rattle.settings.specs.Settings.{selectorOf, evHeld, metadataHeld, hdrHeld, throttleHeld, held, valueRefusal, kept, wellFormed}
 
 module _ (p : Profile) where

@@ -7,7 +7,7 @@ use native.Mathlib.Nat.{pow-suc, mod-eq-of-lt, div-eq-of-lt}
 use native.Mathlib.Omega.{arith}
 use lib.Dec.{ltb, lit<}
 use lib.ListN.{length, getD, take, drop, length-take, length-drop, List·getD-eq-default}
-use lib.Seq.{take-at, drop-at, take-length, getD-take}
+use lib.Seq.{take-at, take-all, drop-at, take-length, getD-take}
 use mir.Syntax.{w8}
 use mir.Val.{Fits}
 use borrow.Author.Tests.{ltb-true, ltb-false}
@@ -66,3 +66,11 @@ module _ (s t : List ℕ) where
 pub bytes-byte : (k n : ℕ) → n < 256 → bytesOf (suc k) n ≡ n ∷ bytesOf k 0
 unfolding bytesOf
 bytes-byte k n h = rw (mod-eq-of-lt h, div-eq-of-lt h)
+
+-- a payload of one number of four bytes reads back as it, and is that of the number it reads as
+pub word-read : (n : ℕ) → n < 2 ^ 32 → leAt 4 (bytesOf 4 n) 0 ≡ n
+unfolding leAt bytesOf
+word-read n h = number-bytes 4 n h
+
+pub word-bytes : (payload : List ℕ) → length payload ≡ 4 → Bytes payload → bytesOf 4 (leAt 4 payload 0) ≡ payload
+word-bytes payload n b = bytes-at 4 payload 0 (omega arith) b ∙ take-all 4 payload (omega arith)

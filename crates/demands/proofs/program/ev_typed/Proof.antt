@@ -3,8 +3,8 @@ use Prim.Native.Nat.{_^_, _<_}
 use mir.Syntax.{w8}
 use mir.Val.{Fits}
 use borrow.Author.Needs.{needs}
-use Rattle.controls.specs.declared.setting.Setting.{Setting}
-use Rattle.controls.specs.declared.setting.Setting.the-variants as S
+use Rattle.controls.specs.declared.Setting.{Setting}
+use Rattle.controls.specs.declared.Setting.the-variants as S
 use Rattle.settings.specs.Settings.{evHeld}
 use Rattle.demands.specs.Records.{flagsOf}
 use Rattle.demands.proofs.Laws.Held.{none-never, some-is}

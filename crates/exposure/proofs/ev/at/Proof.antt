@@ -5,7 +5,7 @@ use mir.Val.{SFits, toZ, ofZ}
 use mir.Facts.{toZ-ofZ}
 use borrow.Author.Needs.{needs}
 use borrow.Author.Tests.{ne-eqb}
-use Rattle.controls.specs.declared.setting.EvSetting.{EvSetting}
+use Rattle.controls.specs.declared.EvSetting.{EvSetting}
 use Rattle.exposure.specs.Ev.{evAt, evCurrent}
 use Rattle.exposure.proofs.ev.at.Statement.{statement}
 use Rattle.exposure.proofs.ev.at.Tie as tie

@@ -7,9 +7,9 @@ use mir.Val.{SFits, toZ, ofZ}
 use mir.Facts.{toZ-ofZ}
 use borrow.Author.Needs.{needs}
 use Rattle.exposure.specs.declared.ev.EvLimits.{EvLimits}
-use Rattle.controls.specs.declared.setting.Item.{Item}
-use Rattle.controls.specs.declared.setting.Item.the-variants.{Refused, Given}
-use Rattle.controls.specs.declared.setting.Setting.the-variants.{Ev}
+use Rattle.controls.specs.declared.Item.{Item}
+use Rattle.controls.specs.declared.Item.the-variants.{Refused, Given}
+use Rattle.controls.specs.declared.Setting.the-variants.{Ev}
 use Rattle.exposure.specs.Ev.{signed32, evFlags, evValue, evRefusal, evItem}
 use Rattle.controls.proofs.Laws.Settings.{item-given, item-refused}
 use Rattle.exposure.proofs.Laws.Ev.{accepted-below}

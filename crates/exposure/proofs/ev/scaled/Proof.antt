@@ -13,7 +13,7 @@ use borrow.Author.Tests.{not-true, not-false}
 use Rattle.wire.specs.Flags.{choiceOf}
 use Rattle.wire.specs.declared.flags.Choice.the-variants.{At}
 use Rattle.exposure.specs.declared.ev.EvLimits.{EvLimits}
-use Rattle.controls.specs.declared.setting.EvSetting.{EvSetting}
+use Rattle.controls.specs.declared.EvSetting.{EvSetting}
 use Rattle.exposure.specs.Ev.{evValid, divisor, inRange, unitsPerStop}
 use Rattle.exposure.proofs.Laws.Signed.{product-fits, product-is}
 use Rattle.exposure.proofs.Laws.Ev.{divisor-pos, range-small, scaled-invalid, scaled-flags, scaled-value, scaled-is}

@@ -3,7 +3,7 @@ use mir.Syntax.{w32}
 use mir.Val.{SFits}
 use mir.Facts.{toZ-ofZ}
 use Rattle.exposure.specs.Ev.{evRefusal}
-use Rattle.controls.specs.declared.setting.Setting.the-variants as S
+use Rattle.controls.specs.declared.Setting.the-variants as S
 use Rattle.settings.specs.Settings.{evHeld, valueRefusal, kept}
 use Rattle.settings.proofs.Laws.Kept.{kept-settable}
 use borrow.Author.Needs.{needs}

@@ -7,7 +7,7 @@ use Rattle.wire.specs.Rows.{firstOf}
 use Rattle.request.specs.Setup.{selectorOf, codeOf}
 use Rattle.request.specs.Table.{tableOf}
 use Rattle.request.specs.Tests.{requestTests}
-use Rattle.settings.specs.Profile.{unitOf, controlOf}
+use Rattle.profile.specs.Profile.{unitOf, controlOf}
 use Rattle.camera.specs.Record.{wellFormed}
 use Rattle.camera.specs.Requests.{stateOf, table, refused}
 use Rattle.camera.specs.Steps.{setDone}

@@ -35,8 +35,8 @@ returns-2 c =
     let r = write-no-room (m .before .before .before .before .args .self) _ (formed (m .before)) (m .measure .ensures) (d .if2 .taken) in
     (c .refuse2 .ensures ∙ r .0, r .1)
 
-write-all-requires : tie.Need-write-all-requires
-write-all-requires c κs = search needs
+write-requires : tie.Need-write-requires
+write-requires c κs = search needs
 
 same-length : tie.Need-same-length
 same-length c = search needs
@@ -46,7 +46,7 @@ returns-3 c =
     let v = c .before .before in
     let d = v .before .before in
     let m = d .before in
-    write-done (m .before .before .before .before .args .self) _ (formed (m .before)) (m .measure .ensures) (d .if2 .left) (v .write-all .ensures)
+    write-done (m .before .before .before .before .args .self) _ (formed (m .before)) (m .measure .ensures) (d .if2 .left) (v .write .ensures)
 
 pub write-spec : {M : Type 1} → statement M
 write-spec =
@@ -58,6 +58,6 @@ write-spec =
     measure-requires
     refuse-requires-2
     returns-2
-    write-all-requires
+    write-requires
     same-length
     returns-3)

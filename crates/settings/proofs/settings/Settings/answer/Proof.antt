@@ -1,9 +1,9 @@
 use borrow.Author.Tests.{ne-eqb}
 use Rattle.exposure.specs.Ev.{evAnswer}
 use Rattle.face.specs.Face.{faceAnswer}
-use Rattle.controls.specs.Metadata.{metadataAnswer}
-use Rattle.controls.specs.Hdr.{hdrAnswer}
-use Rattle.controls.specs.Throttle.{throttleAnswer}
+use Rattle.metadata.specs.Metadata.{metadataAnswer}
+use Rattle.hdr.specs.Hdr.{hdrAnswer}
+use Rattle.throttle.specs.Throttle.{throttleAnswer}
 use Rattle.settings.specs.Answers.{valueOf, answerOf}
 use borrow.Author.Needs.{needs}
 use Rattle.settings.proofs.settings.Settings.answer.Statement.{statement}

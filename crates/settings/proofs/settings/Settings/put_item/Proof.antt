@@ -1,6 +1,6 @@
 use mathlib.Core.Path.{ap, sym, _∙_}
 use borrow.Author.Needs.{needs}
-use Rattle.controls.specs.declared.setting.Item.{Item}
+use Rattle.controls.specs.declared.Item.{Item}
 use Rattle.settings.specs.Items.{givenOf, puts}
 use Rattle.settings.specs.Settings.{put}
 use Rattle.settings.proofs.settings.Settings.put_item.Statement.{statement}

@@ -1,0 +1,188 @@
+-- Writing a snapshot key by key, as far as the lent buffer reaches. Assumes nothing.
+use mathlib.Core.Path.{_≡_, refl, ap, ap₂, sym, _∙_}
+use mathlib.Core.List.{List, [], _++_, append-nil}
+use mathlib.Core.Option.{Option, none, some, Option·map}
+use mathlib.Core.Bool.{Bool, true, false, cond}
+use Prim.Native.Nat.{ℕ, suc, _+_, _-_, _*_, _≤_, _<_}
+use native.Mathlib.Nat.{zero-add, add-zero}
+use native.Mathlib.Numerals.{add-one, sub-one}
+use native.Mathlib.Omega.{arith}
+use lib.Dec.{eqb, lit≤}
+use lib.ListN.{length, getD, take, drop, length-append, take-append-drop}
+use lib.Seq.{take-all}
+use borrow.Author.Tests.{ne-eqb, le-leb}
+use Rattle.wire.specs.Number.{bytesOf}
+use Rattle.wire.specs.Overlay.{overlay}
+use Rattle.wire.specs.Endpoints.{firstAddress, places}
+use Rattle.wire.proofs.Laws.Overlay.{no-bytes, append, same-length}
+use Rattle.snapshot.specs.Form.{keys}
+use Rattle.snapshot.specs.Records.{bytes, records, encode}
+use Rattle.snapshot.proofs.Laws.Maps.{records-split}
+use Rattle.controls.specs.declared.Setting.{Setting}
+use Rattle.controls.specs.declared.Setting.the-variants as S
+use Rattle.controls.specs.declared.Item.{Item}
+use Rattle.exposure.specs.Ev.{evBytes}
+use Rattle.throttle.specs.Throttle.{throttleBytes}
+use Rattle.controls.specs.Settings.{settingOf}
+use Rattle.settings.specs.declared.settings.Settings.{Settings}
+use Rattle.settings.specs.Settings.{held, itemHeld, faceHeld}
+use Rattle.encoding.specs.Encoding.{row, encoded}
+use Rattle.encoding.specs.Steps.{rowHeld}
+
+-- a setting's record does not go by the key
+row-key : (j k : ℕ) (s : Setting) → row j s ≡ row k s
+unfolding row
+row-key j k (S.Ev s) = refl
+row-key j k (S.Face address flags) = refl
+row-key j k (S.Metadata n) = refl
+row-key j k (S.Hdr n) = refl
+row-key j k (S.Throttle s) = refl
+
+row-short : (k : ℕ) (s : Setting) → length (row k s) ≤ 24
+unfolding row bytesOf evBytes throttleBytes
+row-short k (S.Ev s) = lit≤ tt
+row-short k (S.Face address flags) = lit≤ tt
+row-short k (S.Metadata n) = lit≤ tt
+row-short k (S.Hdr n) = lit≤ tt
+row-short k (S.Throttle s) = lit≤ tt
+
+lit-nil : (n : ℕ) → length {A = ℕ} [] ≤ n
+lit-nil n = omega arith
+
+-- nothing laid over a buffer leaves it
+pub nothing-laid : (d : List ℕ) (i : ℕ) → overlay d i [] ≡ d
+unfolding overlay
+nothing-laid d i = rw (take-all {A = ℕ} (length d - i) [] (lit-nil (length d - i)), add-zero i) (ap (λ l. l ++ drop i d) (append-nil (take i d)) ∙ take-append-drop i d)
+
+-- what a place of face authentication holds
+held-place : (s : Settings) (i : ℕ) → i < places → held s (i + 1) ≡ faceHeld (firstAddress + i) (getD (s .face) i 0)
+unfolding held
+held-place s i h = rw (add-one i, ne-eqb (suc i) 0 (omega arith), le-leb (suc i) places (omega arith), sub-one)
+
+place-length : (address flags : ℕ) → cond (eqb flags 0) 0 13 ≡ length (rowHeld 0 (faceHeld address flags))
+unfolding row bytesOf
+place-length address flags = go (eqb flags 0)
+  where
+    go : (b : Bool) → cond {A = ℕ} b 0 13 ≡ length (rowHeld 0 (cond b none (some (S.Face address flags))))
+    go true = refl
+    go false = refl
+
+-- the records of settings by their keys
+abbrev rowsOf : Settings → ℕ → Option (List ℕ)
+rowsOf s k = Option·map (row k) (held s k)
+
+-- the records of the keys below k, and that of key k
+abbrev pub below : Settings → ℕ → List ℕ
+below s k = records k 0 (rowsOf s)
+
+piece : Settings → ℕ → List ℕ
+piece s k = bytes (rowsOf s k)
+
+pub below-all : (s : Settings) → below s keys ≡ encoded s
+unfolding encode
+below-all s = refl
+
+below-next : (s : Settings) (k : ℕ) → below s (k + 1) ≡ below s k ++ piece s k
+unfolding records piece
+below-next s k = records-split (rowsOf s) k 1 0 ∙ ap (λ l. below s k ++ l) (append-nil _ ∙ ap (λ j. bytes (rowsOf s j)) (add-zero k))
+
+piece-short : (s : Settings) (k : ℕ) → length (piece s k) ≤ 24
+unfolding piece
+piece-short s k = go (held s k)
+  where
+    go : (o : Option Setting) → length (bytes (Option·map (row k) o)) ≤ 24
+    go none = lit≤ tt
+    go (some t) = row-short k t
+
+piece-held : (s : Settings) (k : ℕ) → rowHeld 0 (held s k) ≡ piece s k
+unfolding piece
+piece-held s k = go (held s k)
+  where
+    go : (o : Option Setting) → rowHeld 0 o ≡ bytes (Option·map (row k) o)
+    go none = refl
+    go (some t) = row-key 0 k t
+
+setting-held : (o : Option Setting) → settingOf (itemHeld o) ≡ o
+setting-held none = refl
+setting-held (some s) = refl
+
+-- what stands before key k: how long the records of the keys below it are, and in a buffer, that they are written
+pub record Measured (s : Settings) (n k : ℕ) : Type 0 where
+  pub short : n ≤ 24 * k
+  pub long : n ≡ length (below s k)
+
+pub record Progress (s : Settings) (old out : List ℕ) (n k : ℕ) : Type 0 where
+  pub measured : Measured s n k
+  pub is : out ≡ overlay old 0 (below s k)
+
+-- a turn, by what the calls ensure
+module _ (s : Settings) {n k len : ℕ} (w : Measured s n k) (is-len : len ≡ length (piece s k)) where
+  measure-next : Measured s (n + len) (k + 1)
+  measure-next = record {
+    short = omega (arith, is-len, piece-short s k, w .short);
+    long = omega (arith, is-len, w .long, ap length (below-next s k), length-append (below s k) (piece s k));
+  }
+
+module _ (s : Settings) (old : List ℕ) {out after l : List ℕ} {n k : ℕ} (w : Progress s old out n k) (is-row : l ≡ piece s k)
+    (is-written : after ≡ overlay out n l) where
+  write-turn : after ≡ overlay old 0 (below s (k + 1))
+  write-turn =
+      is-written
+      ∙ ap (overlay out n) is-row
+      ∙ ap₂ (λ o m. overlay o m (piece s k)) (w .is) (w .measured .long)
+      ∙ append old (below s k) (piece s k)
+      ∙ ap (overlay old 0) (sym (below-next s k))
+
+  write-next : {len : ℕ} → len ≡ length (piece s k) → Progress s old after (n + len) (k + 1)
+  write-next e = record { measured = measure-next s (w .measured) e; is = write-turn }
+
+-- a key's own record: by its item, or of a place by its address and flags
+module _ (s : Settings) (k : ℕ) {i : Item} (is-item : i ≡ itemHeld (held s k)) where
+  item-row : rowHeld 0 (settingOf i) ≡ piece s k
+  item-row = ap (λ j. rowHeld 0 (settingOf j)) is-item ∙ ap (rowHeld 0) (setting-held (held s k)) ∙ piece-held s k
+
+  module _ {n len : ℕ} (is-len : len ≡ length (rowHeld 0 (settingOf i))) where
+    pub item-measured : Measured s n k → Measured s (n + len) (k + 1)
+    item-measured w = measure-next s w (is-len ∙ ap length item-row)
+
+    pub item-written : {old out after : List ℕ} → Progress s old out n k → after ≡ overlay out n (rowHeld 0 (settingOf i)) → Progress s old after (n + len) (k + 1)
+    item-written w e = write-next s _ w item-row e (is-len ∙ ap length item-row)
+
+  pub item-last : {n : ℕ} {old out after : List ℕ} → Progress s old out n k → after ≡ overlay out n (rowHeld 0 (settingOf i)) → after ≡ overlay old 0 (below s (k + 1))
+  item-last w e = write-turn s _ w item-row e
+
+module _ (s : Settings) (i : ℕ) (h : i < places) {face : List ℕ} (is-face : face ≡ s .face) {len : ℕ} (is-len : len ≡ cond (eqb (getD face i 0) 0) 0 13) where
+  place-row : rowHeld 0 (faceHeld (firstAddress + i) (getD face i 0)) ≡ piece s (i + 1)
+  place-row = ap (λ (l : List ℕ). rowHeld 0 (faceHeld (firstAddress + i) (getD l i 0))) is-face ∙ ap (rowHeld 0) (sym (held-place s i h)) ∙ piece-held s (i + 1)
+
+  place-length-is : len ≡ length (piece s (i + 1))
+  place-length-is = is-len ∙ place-length (firstAddress + i) (getD face i 0) ∙ ap length place-row
+
+  pub place-measured : {n : ℕ} → Measured s n (i + 1) → Measured s (n + len) (i + 1 + 1)
+  place-measured w = measure-next s w place-length-is
+
+  pub place-written : {n : ℕ} {old out after : List ℕ} → Progress s old out n (i + 1) → after ≡ overlay out n (rowHeld 0 (faceHeld (firstAddress + i) (getD face i 0))) → Progress s old after (n + len) (i + 1 + 1)
+  place-written w e = write-next s _ w place-row e place-length-is
+
+none-measured : (s : Settings) → Measured s 0 0
+unfolding records
+none-measured s = record { short = omega arith; long = refl }
+
+none-written : (s : Settings) (old : List ℕ) → Progress s old old 0 0
+unfolding records
+none-written s old = record { measured = none-measured s; is = sym (no-bytes old) }
+
+-- the first key's
+module _ (s : Settings) {i : Item} (is-item : i ≡ itemHeld (held s 0)) {len : ℕ} (is-len : len ≡ length (rowHeld 0 (settingOf i))) where
+  pub first-measured : Measured s len 1
+  first-measured = rw zero-add at (item-measured s 0 is-item {n = 0} is-len (none-measured s))
+
+  pub first-written : {old after : List ℕ} → after ≡ overlay old 0 (rowHeld 0 (settingOf i)) → Progress s old after len 1
+  first-written {old} e = rw zero-add at (item-written s 0 is-item {n = 0} is-len (none-written s old) e)
+
+-- and the last
+pub all-measured : (s : Settings) {n : ℕ} → Measured s n keys → n ≡ length (encoded s)
+all-measured s w = w .long ∙ ap length (below-all s)
+
+pub write-length : {s : Settings} {old out : List ℕ} {n k : ℕ} → Progress s old out n k → length out ≡ length old
+write-length {s} {old} {k = k} w = ap length (w .is) ∙ same-length old 0 (below s k)

@@ -1,0 +1,76 @@
+use mathlib.Core.Bool.{not, _||_}
+use borrow.Author.Needs.{needs}
+use Rattle.exposure.specs.Ev.{evValid}
+use Rattle.face.specs.Face.{faceValid}
+use Rattle.metadata.specs.Metadata.{metadataValid}
+use Rattle.throttle.specs.Throttle.{throttleValid}
+use Rattle.profile.specs.Profile.{has, presenceValid, profileValid}
+use Rattle.profile.proofs.Laws.Profile.{all-five}
+use Rattle.profile.proofs.Profile.valid.Statement.{statement}
+use Rattle.profile.proofs.Profile.valid.Tie as tie
+
+presence-valid-requires : tie.Need-presence-valid-requires
+presence-valid-requires c κs = search needs
+
+has-control-requires : tie.Need-has-control-requires
+has-control-requires c κs = search needs
+
+valid-requires : tie.Need-valid-requires
+valid-requires c κs = search needs
+
+has-control-requires-2 : tie.Need-has-control-requires-2
+has-control-requires-2 c κs = search needs
+
+valid-requires-2 : tie.Need-valid-requires-2
+valid-requires-2 c κs = search needs
+
+has-control-requires-3 : tie.Need-has-control-requires-3
+has-control-requires-3 c κs = search needs
+
+valid-requires-3 : tie.Need-valid-requires-3
+valid-requires-3 c κs = search needs
+
+has-control-requires-4 : tie.Need-has-control-requires-4
+has-control-requires-4 c κs = search needs
+
+valid-requires-4 : tie.Need-valid-requires-4
+valid-requires-4 c κs = search needs
+
+returns : tie.Need-returns
+unfolding profileValid
+returns c =
+    let m = c .before .before .before .before in
+    let b = m .before .before .before .before in
+    let p = b .before .args .self in
+    rw (
+      c .valid4 .ensures,
+      c .before .has-control4 .ensures,
+      c .before .before .valid3 .ensures,
+      c .before .before .before .has-control3 .ensures,
+      m .valid2 .ensures,
+      m .before .has-control2 .ensures,
+      m .before .before .valid .ensures,
+      m .before .before .before .has-control .ensures,
+      b .presence-valid .ensures,
+    )
+    (all-five
+    (presenceValid (p .controls))
+    (not (has p 0x03) || evValid (p .ev))
+    (not (has p 0x06) || faceValid (p .face))
+    (not (has p 0x09) || metadataValid (p .metadata))
+    (not (has p 0x0E) || throttleValid (p .throttle)))
+
+pub valid-spec : {M : Type 1} → statement M
+valid-spec =
+    tie.close
+    (tie.spec
+    presence-valid-requires
+    has-control-requires
+    valid-requires
+    has-control-requires-2
+    valid-requires-2
+    has-control-requires-3
+    valid-requires-3
+    has-control-requires-4
+    valid-requires-4
+    returns)

@@ -1,0 +1,67 @@
+-- Document 01, "Profile and camera record": presence bits and limits; and what a SET of a control takes.
+use Prim.Native.Nat.{ℕ, _+_, _-_, _*_, _^_}
+use mathlib.Core.List.{List, [], _∷_}
+use mathlib.Core.Bool.{Bool, cond, not, _||_}
+use lib.Dec.{eqb}
+use Rattle.wire.specs.Rows.{_⇒_, firstOf, allOf}
+use Rattle.wire.specs.Selectors.{ev, face, metadata, hdr, throttle}
+use Rattle.wire.specs.Uvc.{invalidControl, invalidRequest}
+use Rattle.request.specs.declared.tests.Unit.{Unit}
+use Rattle.request.specs.declared.tests.Control.{Control}
+use Rattle.request.specs.Table.{hasControl}
+use Rattle.exposure.specs.Ev.{evValid}
+use Rattle.face.specs.Face.{faceValid, takesFace, endpoints}
+use Rattle.metadata.specs.Metadata.{metadataValid}
+use Rattle.throttle.specs.Throttle.{throttleValid}
+use Rattle.profile.specs.declared.Profile.{Profile}
+
+-- whether the control of a selector is there: EV 0x03 (D2), face 0x06 (D5), metadata 0x09 (D8), HDR 0x0D (D12), throttle 0x0E (D13)
+abbrev pub has : Profile → ℕ → Bool
+has p selector = hasControl (p .controls) selector
+
+-- what the bit of a selector adds to a number
+abbrev pub bitAt : ℕ → ℕ → ℕ
+bitAt bits selector = cond (hasControl bits selector) (2 ^ (selector - 1)) 0
+
+-- every other bit is zero: the number is the sum of the five controls' bits
+unfoldable pub presenceValid : ℕ → Bool
+presenceValid bits = eqb bits (bitAt bits ev + bitAt bits face + bitAt bits metadata + bitAt bits hdr + bitAt bits throttle)
+
+-- the limits of the controls that are there keep their rules; HDR's may be any
+unfoldable pub profileValid : Profile → Bool
+profileValid p =
+    allOf
+    (presenceValid (p .controls)
+    ∷ (not (has p ev) || evValid (p .ev))
+    ∷ (not (has p face) || faceValid (p .face))
+    ∷ (not (has p metadata) || metadataValid (p .metadata))
+    ∷ (not (has p throttle) || throttleValid (p .throttle))
+    ∷ [])
+
+-- every control takes a SET but read-only metadata
+abbrev pub settable : Profile → ℕ → Bool
+settable p selector = not (eqb selector metadata) || p .metadata .writable
+
+-- a SET of a selector is refused whatever its payload: the control is absent, or read only
+unfoldable pub controlRefusal : Profile → ℕ → ℕ
+controlRefusal p selector = firstOf ((not (has p selector) ⇒ invalidControl) ∷ (not (settable p selector) ⇒ invalidRequest) ∷ [])
+
+-- the length of a control's payload, of face authentication the longest
+abbrev pub lengthOf : Profile → ℕ → ℕ
+lengthOf p selector =
+    cond (eqb selector ev) 11
+    (cond (eqb selector face) (1 + 8 * endpoints (p .face))
+    (cond (eqb selector metadata) 4
+    (cond (eqb selector hdr) 4
+    20)))
+
+-- the length that a SET of a payload must have; face authentication's goes by its first byte
+abbrev pub takes : Profile → ℕ → List ℕ → ℕ
+takes p selector payload = cond (eqb selector face) (takesFace (p .face) payload) (lengthOf p selector)
+
+-- a profile's unit, and the control of a selector, as the tests of a request are handed them
+unfoldable pub unitOf : Profile → Unit
+unitOf p = record { unit = p .unit; interface = p .interface; present = p .controls }
+
+unfoldable pub controlOf : Profile → ℕ → List ℕ → Control
+controlOf p selector payload = record { settable = settable p selector; takes = takes p selector payload }

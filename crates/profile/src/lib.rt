@@ -1,0 +1,166 @@
+// A camera's profile: its unit and interface, which of the five controls it has, and their limits. Document 01, "Profile and camera record"
+// and "The five controls".
+// What goes by the profile alone stands here: which profiles keep their rules, what the tests of a request go by, and what an item of a SET
+// comes to. `settings` has the settings that a camera of a profile holds.
+use controls::Item;
+use exposure::EvLimits;
+use face::FaceLimits;
+use metadata::MetadataLimits;
+use request::Control;
+use request::Unit;
+use throttle::ThrottleLimits;
+use wire::selectors::EV;
+use wire::selectors::FACE;
+use wire::selectors::HDR;
+use wire::selectors::METADATA;
+use wire::selectors::THROTTLE;
+use wire::uvc::INVALID_CONTROL;
+use wire::uvc::INVALID_REQUEST;
+ghost use mathlib.Core.Path.{_≡_};
+ghost use mathlib.Core.Bool.{cond};
+ghost use Prim.Native.Nat.{_≤_};
+ghost use Rattle.request.specs.Table.{hasControl};
+ghost use Rattle.profile.specs.Items.{itemAt};
+ghost use Rattle.profile.specs.Profile.{has, presenceValid, profileValid, settable, controlRefusal, takes, unitOf, controlOf};
+
+// `controls` has bit s - 1 for the control of selector s; `auto` says whether HDR offers Auto.
+pub struct Profile {
+    pub unit: u8,
+    pub interface: u8,
+    pub controls: u32,
+    pub ev: EvLimits,
+    pub face: FaceLimits,
+    pub metadata: MetadataLimits,
+    pub auto: bool,
+    pub throttle: ThrottleLimits,
+}
+
+fn has_control(p: Profile, selector: u8) -> bool
+    ensures { λ r. ⌜ r ≡ has p selector ⌝ }
+{
+    request::has_control(p.controls, selector)
+}
+
+// The controls' bits, of which that of selector s is bit s - 1.
+const EV_BIT: u32 = 1 << (EV - 1);
+
+const FACE_BIT: u32 = 1 << (FACE - 1);
+
+const METADATA_BIT: u32 = 1 << (METADATA - 1);
+
+const HDR_BIT: u32 = 1 << (HDR - 1);
+
+const THROTTLE_BIT: u32 = 1 << (THROTTLE - 1);
+
+// What the bit of a selector adds to a number.
+fn bit_at(bits: u32, selector: u8, worth: u32) -> u32
+    ensures { λ r. ⌜ (r ≡ cond (hasControl bits selector) worth 0) × (r ≤ worth) ⌝ }
+{
+    if request::has_control(bits, selector) {
+        worth
+    } else {
+        0
+    }
+}
+
+// Only the five controls have bits: the number is the sum of theirs.
+fn presence_valid(bits: u32) -> bool
+    ensures { λ r. ⌜ r ≡ presenceValid bits ⌝ }
+{
+    bits
+        == bit_at(bits, EV, EV_BIT)
+            + bit_at(bits, FACE, FACE_BIT)
+            + bit_at(bits, METADATA, METADATA_BIT)
+            + bit_at(bits, HDR, HDR_BIT)
+            + bit_at(bits, THROTTLE, THROTTLE_BIT)
+}
+
+fn is_settable(p: Profile, selector: u8) -> bool
+    ensures { λ r. ⌜ r ≡ settable p selector ⌝ }
+{
+    (selector != METADATA) | p.metadata.writable
+}
+
+// The length that a SET of this payload must have.
+fn takes_of(p: Profile, selector: u8, payload: &[u8]) -> usize
+    ensures { λ r. ⌜ r ≡ takes p selector (now (payload .entry)) ⌝ }
+{
+    if selector == FACE {
+        return face::takes(p.face, payload);
+    }
+    if selector == EV {
+        return 11;
+    }
+    if selector == METADATA {
+        return 4;
+    }
+    if selector == HDR {
+        return 4;
+    }
+    20
+}
+
+impl Profile {
+    // Whether the profile keeps its rules. Limits of controls that it does not have are not looked at.
+    pub fn valid(self) -> bool
+        ensures { λ r. ⌜ r ≡ profileValid self ⌝ }
+    {
+        presence_valid(self.controls)
+            & (!has_control(self, EV) | exposure::valid(self.ev))
+            & (!has_control(self, FACE) | face::valid(self.face))
+            & (!has_control(self, METADATA) | metadata::valid(self.metadata))
+            & (!has_control(self, THROTTLE) | throttle::valid(self.throttle))
+    }
+
+    // What a request's tests 2 to 6 go by.
+    pub fn table(self) -> Unit
+        ensures { λ r. ⌜ r ≡ unitOf self ⌝ }
+    {
+        Unit {
+            unit: self.unit,
+            interface: self.interface,
+            present: self.controls,
+        }
+    }
+
+    pub fn control(self, selector: u8, payload: &[u8]) -> Control
+        ensures { λ r. ⌜ r ≡ controlOf self selector (now (payload .entry)) ⌝ }
+    {
+        Control {
+            settable: is_settable(self, selector),
+            takes: takes_of(self, selector, payload),
+        }
+    }
+
+    // The number of a SET that is refused whatever its payload: the control is absent, or read only; else 0.
+    pub fn refusal(self, selector: u8) -> u8
+        ensures { λ r. ⌜ r ≡ controlRefusal self selector ⌝ }
+    {
+        if !has_control(self, selector) {
+            return INVALID_CONTROL;
+        }
+        if !is_settable(self, selector) {
+            return INVALID_REQUEST;
+        }
+        0
+    }
+
+    // The first item of a SET's payload, and the only one but of face authentication.
+    pub fn item(self, selector: u8, payload: &[u8]) -> Item
+        ensures { λ r. ⌜ r ≡ itemAt self selector (now (payload .entry)) 0 ⌝ }
+    {
+        if selector == EV {
+            return exposure::item(self.ev, payload);
+        }
+        if selector == FACE {
+            return face::item(self.face, payload);
+        }
+        if selector == METADATA {
+            return metadata::item(self.metadata, payload);
+        }
+        if selector == HDR {
+            return hdr::item(self.auto, payload);
+        }
+        throttle::item(self.throttle, payload)
+    }
+}

@@ -1,0 +1,137 @@
+// The throttle: limits, SET's value tests, the setting that a SET gives, and GET's answers. Document 01, "The five controls"; 001 decides for it.
+// Its payload is five numbers of four bytes: mode, percent, minimum, maximum and step; a SET's last three are not looked at.
+use controls::Item;
+use controls::Setting;
+use controls::ThrottleSetting;
+use controls::item_of;
+use request::Answer;
+use request::answer_by;
+use wire::uvc::GET_CUR;
+use wire::uvc::GET_MAX;
+use wire::uvc::GET_MIN;
+use wire::uvc::GET_RES;
+use wire::uvc::INVALID_VALUE;
+use wire::uvc::OUT_OF_RANGE;
+ghost use mathlib.Core.Path.{_≡_};
+ghost use Rattle.request.specs.Answers.{packed};
+ghost use Rattle.throttle.specs.Throttle.{divides, throttleValid, throttleRefusal, throttleItem, throttleAt, throttleBytes, throttleAnswer};
+
+pub struct ThrottleLimits {
+    pub minimum: u32,
+    pub maximum: u32,
+    pub step: u32,
+}
+
+pub enum Throttle {
+    Unset,
+    Held(ThrottleSetting),
+}
+
+// Whether n is a multiple of step; of 0 only 0 is.
+fn is_multiple(step: u32, n: u32) -> bool
+    ensures { λ r. ⌜ r ≡ divides step n ⌝ }
+{
+    if step == 0 {
+        return n == 0;
+    }
+    n % step == 0
+}
+
+pub fn valid(l: ThrottleLimits) -> bool
+    ensures { λ r. ⌜ r ≡ throttleValid l ⌝ }
+{
+    (1 <= l.minimum)
+        & (l.minimum <= l.maximum)
+        & (l.maximum <= 100)
+        & (1 <= l.step)
+        & is_multiple(l.step, l.minimum)
+        & is_multiple(l.step, l.maximum)
+}
+
+// SET's value tests, and those of a setting held.
+pub fn refusal(l: ThrottleLimits, mode: u32, percent: u32) -> u8
+    ensures { λ r. ⌜ r ≡ throttleRefusal l mode percent ⌝ }
+{
+    if percent < l.minimum {
+        return OUT_OF_RANGE;
+    }
+    if l.maximum < percent {
+        return OUT_OF_RANGE;
+    }
+    if 1 < mode {
+        return INVALID_VALUE;
+    }
+    if is_multiple(l.step, percent) {
+        return 0;
+    }
+    INVALID_VALUE
+}
+
+// What a SET's payload comes to.
+pub fn item(l: ThrottleLimits, payload: &[u8]) -> Item
+    ensures { λ r. ⌜ r ≡ throttleItem l (now (payload .entry)) ⌝ }
+{
+    let mode = wire::le32(payload, 0);
+    let percent = wire::le32(payload, 4);
+    item_of(
+        refusal(l, mode, percent),
+        Setting::Throttle(ThrottleSetting { mode, percent }),
+    )
+}
+
+// The mode and the percent that a GET asks for.
+fn at(l: ThrottleLimits, held: Throttle, code: u8) -> ThrottleSetting
+    ensures { λ r. ⌜ r ≡ throttleAt l held code ⌝ }
+{
+    if code == GET_MIN {
+        return ThrottleSetting {
+            mode: 0,
+            percent: l.minimum,
+        };
+    }
+    if code == GET_MAX {
+        return ThrottleSetting {
+            mode: 1,
+            percent: l.maximum,
+        };
+    }
+    if code == GET_RES {
+        return ThrottleSetting {
+            mode: 0,
+            percent: l.step,
+        };
+    }
+    if code == GET_CUR {
+        return match held {
+            Throttle::Unset => ThrottleSetting {
+                mode: 0,
+                percent: l.maximum,
+            },
+            Throttle::Held(s) => s,
+        };
+    }
+    ThrottleSetting {
+        mode: 0,
+        percent: l.maximum,
+    }
+}
+
+// A setting with three numbers behind it: the limits in an answer, zeros in a snapshot.
+pub fn bytes(s: ThrottleSetting, tail: ThrottleLimits) -> [u8; 20]
+    ensures { λ r. ⌜ r ≡ throttleBytes s tail ⌝ }
+{
+    let mut b = [0u8; 20];
+    wire::put32(&mut b, 0, s.mode);
+    wire::put32(&mut b, 4, s.percent);
+    wire::put32(&mut b, 8, tail.minimum);
+    wire::put32(&mut b, 12, tail.maximum);
+    wire::put32(&mut b, 16, tail.step);
+    b
+}
+
+pub fn answer(l: ThrottleLimits, held: Throttle, code: u8) -> Answer
+    ensures { λ r. ⌜ r ≡ packed (throttleAnswer l held code) ⌝ }
+{
+    let b = bytes(at(l, held, code), l);
+    answer_by(code, 20, 0x03, &b)
+}
