@@ -15,7 +15,7 @@ use Rattle.wire.specs.Rows.{firstOf}
 use Rattle.wire.specs.Selectors as selector
 use Rattle.wire.specs.Uvc.{setCur, getCur, getLen, getDef, wrongState}
 use Rattle.wire.proofs.Laws.Numbers.{Bytes}
-use Rattle.wire.proofs.Laws.Bits.{chosen-is}
+use Rattle.flags.proofs.Laws.Bits.{chosen-is}
 use Rattle.request.specs.Setup.{typeOf, codeOf, valueLow, selectorOf, wLengthOf, isSetRequest, isGetRequest}
 use Rattle.request.specs.Answers.{answerBy}
 use Rattle.request.specs.Tests as tests
@@ -33,12 +33,16 @@ use Rattle.exposure.specs.declared.ev.Ev.the-variants as E
 use Rattle.face.specs.declared.limits.FaceLimits.{FaceLimits}
 use Rattle.controls.specs.Settings.{numberOr, settingOf}
 use Rattle.exposure.specs.Ev as ev
-use Rattle.face.specs.Face.{endpoints, addressAt, entryAddress, entryFlags, entryOf, heldAt, flagsAt, faceAnswer, entriesPut}
+use Rattle.face.specs.Limits.{endpoints, addressAt}
+use Rattle.face.specs.Answers.{entryOf, heldAt, flagsAt, faceAnswer}
+use Rattle.entries.specs.Entries.{entryAddress, entryFlags, entriesPut}
 use Rattle.metadata.specs.Metadata.{metadataAt}
 use Rattle.hdr.specs.Hdr.{hdrAt}
 use Rattle.throttle.specs.Throttle as throttle
 use Rattle.exposure.proofs.Laws.Ev.{accepts, scaled-is}
-use Rattle.face.proofs.Laws.Face.{place-listed, fresh-answer, len-taken, len-longest}
+use Rattle.face.proofs.Laws.Limits.{place-listed}
+use Rattle.face.proofs.Laws.Answers.{fresh-answer}
+use Rattle.entries.proofs.Laws.Payload.{len-taken, len-longest}
 use Rattle.profile.specs.declared.Profile.{Profile}
 use Rattle.profile.specs.Selectors.{Control}
 use Rattle.profile.specs.Selectors as selectors

@@ -13,14 +13,16 @@ use Rattle.wire.specs.Uvc.{malformedRecord}
 use Rattle.wire.proofs.Laws.Rows.{quiet}
 use Rattle.snapshot.specs.Form as form
 use Rattle.snapshot.specs.Records.{decode}
-use Rattle.snapshot.specs.Merge.{over, merged}
+use Rattle.snapshot.specs.Settings.{over}
+use Rattle.merging.specs.Merge.{merged}
 use Rattle.snapshot.specs.Settings.{lastOf, snapshotOf}
 use Rattle.snapshot.proofs.Laws.Maps.{decode-encode}
 use Rattle.snapshot.proofs.Laws.Form.{encode-formed}
-use Rattle.snapshot.proofs.Laws.Merging.{over-assoc, over-none}
-use Rattle.snapshot.proofs.Laws.Answers.{Answer}
-use Rattle.snapshot.proofs.Laws.Answers as answers
-use Rattle.snapshot.proofs.Laws.Settings.{Rows, rows-append, snapshot-append}
+use Rattle.snapshot.proofs.Laws.Settings.{over-assoc, over-none}
+use Rattle.merging.proofs.Laws.Answers.{Answer}
+use Rattle.merging.proofs.Laws.Answers as answers
+use Rattle.snapshot.proofs.Laws.Settings.{Rows, rows-append}
+use Rattle.merging.proofs.Laws.Settings.{snapshot-append}
 use Rattle.controls.specs.declared.Setting.{Setting}
 use Rattle.controls.specs.Settings.{settingOf, codeOf}
 use Rattle.profile.specs.declared.Profile.{Profile}

@@ -2,11 +2,11 @@
 use mathlib.Core.Path.{_≡_, refl}
 use mathlib.Core.List.{map}
 use Rattle.wire.specs.Number.{number, leAt, bytesOf}
-use Rattle.wire.specs.Flags.{isSet, bitsOf, count, first, choiceOf}
+use Rattle.flags.specs.Flags.{isSet, bitsOf, count, first, choiceOf}
 use Rattle.request.specs.Tests.{requestTests, valueTests, requestRows, requestCode}
 use Rattle.controls.specs.Settings.{itemOf, codeOf, firstRefusal}
 use Rattle.exposure.specs.Ev.{signed32, bits32, inRange, refusalAt, evRefusal, evItem, evBytes, scaledAt, scaledOf, compensation}
-use Rattle.face.specs.Face.{allBelow, addressBefore, endpointValid, faceValid}
+use Rattle.face.specs.Limits.{allBelow, addressBefore, endpointValid, faceValid}
 use Rattle.hdr.specs.Hdr.{hdrRefusal, hdrItem}
 use Rattle.throttle.specs.Throttle.{throttleRefusal, throttleItem, throttleBytes}
 use Rattle.snapshot.specs.Records.{records, encode}

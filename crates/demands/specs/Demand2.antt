@@ -11,20 +11,22 @@ use Rattle.wire.specs.Endpoints.{firstAddress}
 use Rattle.wire.specs.Number.{bytesOf}
 use Rattle.wire.specs.Selectors as selector
 use Rattle.wire.specs.Uvc.{getCur, getDef, getLen}
-use Rattle.wire.specs.Flags.{choiceOf}
-use Rattle.wire.specs.declared.flags.Choice.the-variants.{At}
+use Rattle.flags.specs.Flags.{choiceOf}
+use Rattle.flags.specs.declared.Choice.the-variants.{At}
 use Rattle.request.specs.Setup.{valueLow, selectorOf, wLengthOf, isGetRequest}
 use Rattle.request.specs.Tests.{addressed}
 use Rattle.snapshot.specs.Form as form
 use Rattle.snapshot.specs.Records.{decode}
-use Rattle.snapshot.specs.Merge.{over}
+use Rattle.snapshot.specs.Settings.{over}
 use Rattle.snapshot.specs.Settings.{lastOf}
 use Rattle.controls.specs.declared.EvSetting.{EvSetting}
 use Rattle.exposure.specs.declared.ev.Ev.the-variants as E
 use Rattle.controls.specs.declared.ThrottleSetting.{ThrottleSetting}
 use Rattle.controls.specs.declared.Setting.the-variants as S
 use Rattle.exposure.specs.Ev.{divisor, evBytes, unitsPerStop}
-use Rattle.face.specs.Face.{endpoints, addressAt, entryAddress, entryFlags, entryOf, heldAt, flagsAt}
+use Rattle.face.specs.Limits.{endpoints, addressAt}
+use Rattle.face.specs.Answers.{entryOf, heldAt, flagsAt}
+use Rattle.entries.specs.Entries.{entryAddress, entryFlags}
 use Rattle.throttle.specs.Throttle.{throttleBytes}
 use Rattle.controls.specs.Settings.{settingOf}
 use Rattle.profile.specs.declared.Profile.{Profile}

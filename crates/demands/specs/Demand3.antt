@@ -5,7 +5,7 @@ use mathlib.Core.List.{List, _++_}
 use mathlib.Core.Bool.{Bool, true}
 use lib.ListN.{length, drop}
 use Rattle.snapshot.specs.Form as form
-use Rattle.snapshot.specs.Merge.{merged, mergeCode, mergeLen, mergeOut}
+use Rattle.merging.specs.Merge.{merged, mergeCode, mergeLen, mergeOut}
 use Rattle.profile.specs.declared.Profile.{Profile}
 use Rattle.camera.specs.declared.record.Camera.{Camera}
 use Rattle.camera.specs.Record.{fresh, held, wellFormed}

@@ -9,7 +9,7 @@ use Rattle.controls.specs.declared.Setting.{Setting}
 use Rattle.controls.specs.declared.Setting.the-variants as S
 use Rattle.throttle.specs.declared.ThrottleLimits.{ThrottleLimits}
 use Rattle.exposure.specs.Ev.{evBytes}
-use Rattle.face.specs.Face.{entryOf}
+use Rattle.face.specs.Answers.{entryOf}
 use Rattle.throttle.specs.Throttle.{throttleBytes}
 use Rattle.settings.specs.declared.settings.Settings.{Settings}
 use Rattle.settings.specs.Settings.{held}

@@ -7,9 +7,9 @@ use lib.ListN.{getD}
 use lib.IntN.{ℤ, pos, negsuc, _-ℤ_, _*ℤ_}
 use lib.Signed.{leZ}
 use Rattle.wire.specs.Number.{leAt, bytesOf}
-use Rattle.wire.specs.Flags.{choiceOf}
-use Rattle.wire.specs.declared.flags.Choice.{Choice}
-use Rattle.wire.specs.declared.flags.Choice.the-variants.{At, Refused}
+use Rattle.flags.specs.Flags.{choiceOf}
+use Rattle.flags.specs.declared.Choice.{Choice}
+use Rattle.flags.specs.declared.Choice.the-variants.{At, Refused}
 use Rattle.wire.specs.Uvc.{getCur, getMax, getMin, getRes, invalidValue, outOfRange}
 use Rattle.exposure.specs.declared.ev.EvLimits.{EvLimits}
 use Rattle.controls.specs.declared.EvSetting.{EvSetting}

@@ -2,9 +2,9 @@
 use controls::EvSetting;
 use controls::Item;
 use controls::Setting;
+use flags::Choice;
 use request::Answer;
 use request::answer_by;
-use wire::Choice;
 use wire::uvc::GET_CUR;
 use wire::uvc::GET_MAX;
 use wire::uvc::GET_MIN;
@@ -87,7 +87,7 @@ fn in_range(l: EvLimits, d: u8, value: i32) -> bool
 pub fn refusal(l: EvLimits, flags: u64, value: i32) -> u8
     ensures { λ r. ⌜ r ≡ evRefusal l flags value ⌝ }
 {
-    match wire::one_flag(flags, l.steps) {
+    match flags::one_flag(flags, l.steps) {
         Choice::Refused => INVALID_VALUE,
         Choice::At(place) => {
             if in_range(l, divisor_of(place), value) {
@@ -174,7 +174,7 @@ fn scaled(l: EvLimits, s: EvSetting) -> i32
     if !valid(l) {
         return 0;
     }
-    match wire::one_flag(s.flags as u64, l.steps) {
+    match flags::one_flag(s.flags as u64, l.steps) {
         Choice::Refused => 0,
         Choice::At(place) => {
             let d = divisor_of(place);

@@ -1,3 +1,2 @@
-pub mod Face
-pub mod Places
-pub mod Entries
+pub mod Limits
+pub mod Answers

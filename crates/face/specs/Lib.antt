@@ -1,2 +1,3 @@
--- What document 01 says of face authentication.
-pub mod Face
+-- What document 01 says of face authentication: its endpoints, and GET's answers.
+pub mod Limits
+pub mod Answers

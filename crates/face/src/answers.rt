@@ -1,5 +1,4 @@
 // GET's answers: one entry for each endpoint.
-use crate::entries::entry;
 use crate::limits::FaceLimits;
 use crate::limits::endpoints_of;
 use request::Answer;
@@ -15,7 +14,14 @@ ghost use mathlib.Core.Path.{_≡_};
 ghost use Prim.Native.Nat.{_<_};
 ghost use Rattle.wire.specs.Endpoints.{endpointLimit};
 ghost use Rattle.request.specs.Answers.{packed};
-ghost use Rattle.face.specs.Face.{defaultOf, heldAt, flagsAt, faceValue, faceAnswer};
+ghost use Rattle.face.specs.Answers.{entryOf, defaultOf, heldAt, flagsAt, faceValue, faceAnswer};
+
+// The bytes of an entry.
+fn entry(address: u8, flags: u8) -> [u8; 8]
+    ensures { λ r. ⌜ r ≡ entryOf address flags ⌝ }
+{
+    [address, flags, 0, 0, 0, 0, 0, 0]
+}
 
 fn default_of(offers: u8) -> u8
     ensures { λ r. ⌜ r ≡ defaultOf offers ⌝ }

@@ -5,7 +5,7 @@ use wire::endpoints::PLACES;
 ghost use mathlib.Core.Path.{_≡_};
 ghost use Prim.Native.Nat.{_<_, _≤_};
 ghost use Rattle.wire.specs.Endpoints.{endpointLimit};
-ghost use Rattle.face.specs.Face.{endpoints, addressBefore, endpointValid, faceValid, placeOf, offersOf};
+ghost use Rattle.face.specs.Limits.{endpoints, addressBefore, endpointValid, faceValid, placeOf, offersOf};
 
 const LAST: u8 = FIRST + (PLACES as u8) - 1;
 
@@ -16,7 +16,8 @@ pub struct FaceLimits {
     pub offers: [u8; LIMIT],
 }
 
-pub(crate) fn endpoints_of(l: FaceLimits) -> usize
+// How many it lists.
+pub fn endpoints_of(l: FaceLimits) -> usize
     ensures { λ r. ⌜ (r ≡ endpoints l) × (r ≤ endpointLimit) ⌝ }
 {
     wire::least(l.count as usize, LIMIT)
@@ -62,7 +63,7 @@ pub fn valid(l: FaceLimits) -> bool
 }
 
 // The first place that lists an address, or LIMIT.
-pub(crate) fn place_of(l: FaceLimits, address: u8) -> usize
+pub fn place_of(l: FaceLimits, address: u8) -> usize
     ensures { λ r. ⌜ r ≡ placeOf l address ⌝ }
 {
     let n = endpoints_of(l);
@@ -77,7 +78,7 @@ pub(crate) fn place_of(l: FaceLimits, address: u8) -> usize
 }
 
 // The flags that the endpoint at an address offers; 0 where it isn't listed.
-pub(crate) fn offers_of(l: FaceLimits, address: u8) -> u8
+pub fn offers_of(l: FaceLimits, address: u8) -> u8
     ensures { λ r. ⌜ r ≡ offersOf l address ⌝ }
 {
     let i = place_of(l, address);

@@ -3,12 +3,10 @@ use Prim.Native.Nat.{ℕ}
 use mathlib.Core.Path.{_≡_, refl}
 use mathlib.Core.List.{List, [], _∷_, map}
 use Rattle.wire.specs.Number.{number, leAt, bytesOf}
-use Rattle.wire.specs.Flags.{isSet}
 use Rattle.wire.specs.Overlay.{overlay}
 use Rattle.frame.specs.Ids.{isKnown}
 use Rattle.frame.specs.Items.{refused, sound, refusal, headOf, itemsIn, itemsFrom, itemsOf}
 use Rattle.frame.specs.Writer.{itemBytes, appendRefusal, writtenOf}
-use Rattle.frame.specs.Packet.{hasFlag, headerRefusal, headerOf, refusedHeader}
 
 -- one item of 8 payload bytes; with one byte fewer; of size 8, with an empty payload; an id that is not known before a size that is not one
 abbrev blocks : List (List ℕ)
@@ -33,9 +31,3 @@ written-is : writtenOf (9 ∷ 9 ∷ 9 ∷ 9 ∷ 9 ∷ 9 ∷ 9 ∷ 9 ∷ 9 ∷ 9 
     ≡ 9 ∷ 1 ∷ 0 ∷ 0 ∷ 128 ∷ 10 ∷ 0 ∷ 0 ∷ 0 ∷ 5 ∷ 4 ∷ 9 ∷ []
 unfolding bytesOf overlay isKnown itemBytes appendRefusal writtenOf
 written-is = refl
-
--- a header with PTS and SCR and 3 bytes of metadata, and one that is a byte too short for them
-headers-are : map headerOf ((15 ∷ 0x8C ∷ 0 ∷ 0 ∷ 0 ∷ 0 ∷ 0 ∷ 0 ∷ 0 ∷ 0 ∷ 0 ∷ 0 ∷ 1 ∷ 2 ∷ 3 ∷ 7 ∷ []) ∷ (11 ∷ 0x0C ∷ 0 ∷ 0 ∷ 0 ∷ 0 ∷ 0 ∷ 0 ∷ 0 ∷ 0 ∷ 0 ∷ 0 ∷ []) ∷ [])
-    ≡ record { code = 0; flags = 0x8C; metadata = record { at = 12; len = 3 } } ∷ refusedHeader 0x46 ∷ []
-unfolding isSet hasFlag headerRefusal headerOf
-headers-are = refl

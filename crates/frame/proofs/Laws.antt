@@ -2,7 +2,6 @@ pub mod Heads
 pub mod Fuel
 pub mod Walk
 pub mod Append
-pub mod Packets
 pub mod Bytes
 pub mod Join
 pub mod Layout

@@ -1,4 +1,4 @@
--- The owner's demands on frame metadata and packets, over the definitions that the functions' promises name.
+-- The owner's demands on frame metadata, over the definitions that the functions' promises name.
 use Prim.Native.Nat.{ℕ, _+_, _^_, _≤_, _<_}
 use mathlib.Core.Path.{_≡_, refl, sym, ap, _∙_}
 use mathlib.Core.List.{List, [], _∷_, _++_}
@@ -7,23 +7,21 @@ use lib.ListN.{length, take, length-append, List·getD-append}
 use Rattle.wire.proofs.Laws.Numbers.{Bytes}
 use Rattle.frame.specs.declared.items.Found.{Found}
 use denote.Ref.{RefT, now}
-use Rattle.wire.specs.Parts.{bytesAt}
+use Rattle.wire.specs.Parts.{bytesAt, Inside}
 use Rattle.wire.proofs.Laws.Parts.{stands-at}
 use Rattle.frame.specs.declared.view.ItemView.{ItemView}
 use Rattle.frame.specs.View.{Views}
 use Rattle.frame.specs.Items.{Item, absent, Finding, refused, sound, itemsOf}
 use Rattle.frame.specs.Answers.{itemAt, foundIn, itemOf, countOf, payloadOf}
 use Rattle.frame.specs.Writer.{layout, Writable}
-use Rattle.frame.specs.Packet.{headerOf}
 use Rattle.frame.proofs.Laws.Walk.{short-enough}
 use Rattle.frame.proofs.Laws.Located.{located, there, not-there}
 use Rattle.frame.proofs.Laws.Layout.{reads-all, written-again}
 use Rattle.frame.proofs.Laws.Appended.{sound-block, before-it, last-item, last-of, new-length, new-items}
 use Rattle.frame.proofs.Laws.Append.{accepted, accepts, reports}
-use Rattle.frame.proofs.Laws.Packets.{header-inside}
-use Rattle.frame.proofs.Laws.Refusals.{item-refused, count-refused, append-refused, header-refused}
-use Rattle.frame.specs.Calls.{Call, item, count, append, header, outcomeOf}
-use Rattle.frame.specs.Theorems.{Refused, Inside, HandedOut, Viewed, AppendReadsBack, appending, afterwards}
+use Rattle.frame.proofs.Laws.Refusals.{item-refused, count-refused, append-refused}
+use Rattle.frame.specs.Calls.{Call, item, count, append, outcomeOf}
+use Rattle.frame.specs.Theorems.{Refused, HandedOut, Viewed, AppendReadsBack, appending, afterwards}
 
 -- Demand 1: what a refused call leaves.
 pub refusal-leaves-nothing : (c : Call) → (outcomeOf c .code ≡ 0 → ⊥) → Refused c (outcomeOf c)
@@ -35,9 +33,6 @@ refusal-leaves-nothing (count block) n = record { unchanged = refl; zeros = (cou
 refusal-leaves-nothing (append buf at id bytes) n =
     let e = append-refused buf at id bytes n in
     record { unchanged = e .1; zeros = (e .0, tt); empty = tt }
-refusal-leaves-nothing (header packet) n =
-    let e = header-refused packet n in
-    record { unchanged = refl; zeros = rw e (refl, tt); empty = rw e (refl, tt) }
 
 -- Demand 1: a call stays inside its buffers. The part of each answer lies in what was lent, on a refusal too.
 pub payload-inside : (block : List ℕ) (k : ℕ) → Inside block (itemOf block k .payload)
@@ -47,9 +42,6 @@ payload-inside block k = go (itemsOf block) refl
     go : (f : Finding) → itemsOf block ≡ f → Inside block (foundIn k f .payload)
     go (refused code) e = omega arith
     go (sound is) e = located block is (sound-block block is e .1) k .inside
-
-pub metadata-inside : (packet : List ℕ) → Inside packet (headerOf packet .metadata)
-metadata-inside packet = header-inside packet
 
 -- Demand 2: item k of a sound block is handed out with its id and its payload, and where there is none the answer says so.
 found : (block : List ℕ) (is : List Item) (k : ℕ) → itemsOf block ≡ sound is → itemOf block k ≡ itemAt 0 k is

@@ -5,21 +5,18 @@ use lib.ListN.{length}
 use Rattle.wire.specs.declared.parts.Part.{Part}
 use Rattle.frame.specs.Answers.{itemOf, countOf}
 use Rattle.frame.specs.Writer.{appendedOf, writtenOf}
-use Rattle.frame.specs.Packet.{headerOf}
 
 -- `item` stands for `item_view` too, which has its answer and hands back the part itself at that place
 pub data Call : Type 0 where
   item : (block : List ℕ) (k : ℕ) → Call
   count : (block : List ℕ) → Call
   append : (buf : List ℕ) (at id : ℕ) (bytes : List ℕ) → Call
-  header : (packet : List ℕ) → Call
 
 -- the bytes lent for writing; what is lent for reading no call can write
 abbrev pub lent : Call → List ℕ
 lent (item block k) = []
 lent (count block) = []
 lent (append buf at id bytes) = buf
-lent (header packet) = []
 
 -- its number, each number that it reports beside that, the place of each part, and the bytes lent for writing as they are at exit
 pub record Outcome : Type 0 where
@@ -36,6 +33,3 @@ outcomeOf (count block) = record { code = countOf block .code; numbers = countOf
 outcomeOf (append buf at id bytes) =
     let a = appendedOf (length buf) at id (length bytes) in
     record { code = a .code; numbers = a .end ∷ []; parts = []; buffer = writtenOf buf at id bytes }
-outcomeOf (header packet) =
-    let h = headerOf packet in
-    record { code = h .code; numbers = h .flags ∷ []; parts = h .metadata ∷ []; buffer = [] }

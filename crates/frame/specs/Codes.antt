@@ -1,4 +1,4 @@
--- The numbers of document 01 for frame metadata and packets, and the longest block; that of a lent buffer too short is `wire`'s.
+-- The numbers of document 01 for frame metadata, and the longest block; that of a lent buffer too short is `wire`'s.
 use Prim.Native.Nat.{ℕ}
 
 -- fewer than 8 bytes for an item's header, or a size past the end of the block
@@ -18,14 +18,6 @@ tooLong = 0x43
 
 abbrev pub noItem : ℕ
 noItem = 0x44
-
--- a packet under 2 bytes, or a header past its end
-abbrev pub cutHeader : ℕ
-cutHeader = 0x45
-
--- a header that does not hold the fields its flags announce
-abbrev pub shortHeader : ℕ
-shortHeader = 0x46
 
 -- the most bytes a block may have
 abbrev pub longestBlock : ℕ

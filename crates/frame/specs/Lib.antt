@@ -6,6 +6,5 @@ pub mod Answers
 pub mod View
 pub mod Steps
 pub mod Writer
-pub mod Packet
 pub mod Calls
 pub mod Theorems

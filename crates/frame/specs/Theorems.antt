@@ -1,10 +1,9 @@
--- What the theorems of this crate say: the owner's demands on frame metadata and packets.
+-- What the theorems of this crate say: the owner's demands on frame metadata.
 use Prim.Native.Nat.{ℕ, _+_, _≤_, _<_}
 use mathlib.Core.Path.{_≡_}
 use mathlib.Core.List.{List, [], _∷_, _++_}
 use lib.ListN.{length, take, getD}
 use denote.Ref.{RefT, ptr, now}
-use Rattle.wire.specs.declared.parts.Part.{Part}
 use Rattle.wire.specs.Parts.{nowhere}
 use Rattle.frame.specs.declared.writer.Appended.{Appended}
 use Rattle.frame.specs.Codes.{noItem}
@@ -23,10 +22,6 @@ pub record Refused (c : Call) (o : Outcome) : Type 0 where
   pub unchanged : o .buffer ≡ lent c
   pub zeros : All 0 (o .numbers)
   pub empty : All nowhere (o .parts)
-
--- Demand 1: a call stays inside its buffers: a part lies in what was lent
-abbrev pub Inside : List ℕ → Part → Type 0
-Inside s p = p .at + p .len ≤ length s
 
 -- Demand 2: item k of a sound block is handed out with its id and its payload, and where there is none the answer says so.
 pub record HandedOut (block : List ℕ) (is : List Item) (k : ℕ) : Type 0 where

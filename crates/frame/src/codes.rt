@@ -1,4 +1,4 @@
-// The numbers of document 01 for frame metadata and packets; that of a lent buffer too short is `wire`'s.
+// The numbers of document 01 for frame metadata; that of a lent buffer too short is `wire`'s.
 pub const ACCEPTED: u8 = 0x00;
 // Fewer than 8 bytes for an item's header, or a size past the end of the block.
 pub const TRUNCATED: u8 = 0x40;
@@ -10,7 +10,3 @@ pub const SHORT_SIZE: u8 = 0x42;
 pub const TOO_LONG: u8 = 0x43;
 
 pub const NO_ITEM: u8 = 0x44;
-// A packet under 2 bytes, or a header past its end.
-pub const CUT_HEADER: u8 = 0x45;
-// A header that does not hold the fields its flags announce.
-pub const SHORT_HEADER: u8 = 0x46;

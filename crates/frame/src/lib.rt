@@ -1,18 +1,15 @@
-// Frame metadata and the payload header around it: document 01, "Frame metadata (001) and packets", after source 001.
+// Frame metadata: document 01, "Frame metadata (001) and packets", after source 001. `packet` reads the payload header around it.
 // A block is read item by item, each item once in a call, and a payload is handed back as a part of the block, with no copy.
 // The writer puts one item at a place of a lent buffer. Known ids, the longest block and the refusals' numbers each stand in one place.
 // Every function takes any bytes: what 01 refuses gets its number, with zeros and an empty part, and no byte is written.
 mod codes;
 mod ids;
 mod items;
-mod packet;
 mod view;
 mod writer;
 
 pub use codes::ACCEPTED;
-pub use codes::CUT_HEADER;
 pub use codes::NO_ITEM;
-pub use codes::SHORT_HEADER;
 pub use codes::SHORT_SIZE;
 pub use codes::TOO_LONG;
 pub use codes::TRUNCATED;
@@ -22,10 +19,6 @@ pub use items::Found;
 pub use items::LONGEST_BLOCK;
 pub use items::count;
 pub use items::item;
-pub use packet::Flag;
-pub use packet::PayloadHeader;
-pub use packet::has_flag;
-pub use packet::header;
 pub use view::ItemView;
 pub use view::item_view;
 pub use writer::Appended;

@@ -8,7 +8,7 @@ use Rattle.wire.specs.Selectors.{ev, face, metadata, hdr}
 use Rattle.controls.specs.declared.Item.{Item}
 use Rattle.controls.specs.Settings.{firstRefusal}
 use Rattle.exposure.specs.Ev.{evItem}
-use Rattle.face.specs.Face.{faceItem}
+use Rattle.entries.specs.Entries.{faceItem}
 use Rattle.metadata.specs.Metadata.{metadataItem}
 use Rattle.hdr.specs.Hdr.{hdrItem}
 use Rattle.throttle.specs.Throttle.{throttleItem}

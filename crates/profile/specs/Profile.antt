@@ -10,7 +10,8 @@ use Rattle.request.specs.declared.tests.Unit.{Unit}
 use Rattle.request.specs.declared.tests.Control.{Control}
 use Rattle.request.specs.Table.{hasControl}
 use Rattle.exposure.specs.Ev.{evValid}
-use Rattle.face.specs.Face.{faceValid, takesFace, endpoints}
+use Rattle.face.specs.Limits.{faceValid, endpoints}
+use Rattle.entries.specs.Entries.{takesFace}
 use Rattle.metadata.specs.Metadata.{metadataValid}
 use Rattle.throttle.specs.Throttle.{throttleValid}
 use Rattle.profile.specs.declared.Profile.{Profile}

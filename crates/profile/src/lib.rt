@@ -86,7 +86,7 @@ fn takes_of(p: Profile, selector: u8, payload: &[u8]) -> usize
     ensures { λ r. ⌜ r ≡ takes p selector (now (payload .entry)) ⌝ }
 {
     if selector == FACE {
-        return face::takes(p.face, payload);
+        return entries::takes(p.face, payload);
     }
     if selector == EV {
         return 11;
@@ -153,7 +153,7 @@ impl Profile {
             return exposure::item(self.ev, payload);
         }
         if selector == FACE {
-            return face::item(self.face, payload);
+            return entries::item(self.face, payload);
         }
         if selector == METADATA {
             return metadata::item(self.metadata, payload);

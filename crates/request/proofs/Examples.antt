@@ -6,7 +6,7 @@ use mathlib.Core.Bool.{true}
 use Prim.Native.Nat.{ℕ}
 use lib.Dec.{eqb}
 use Rattle.wire.specs.Number.{number, leAt}
-use Rattle.wire.specs.Flags.{isSet}
+use Rattle.flags.specs.Flags.{isSet}
 use Rattle.wire.specs.Rows.{firstOf}
 use Rattle.request.specs.Setup.{selectorOf, wLengthOf, isSetRequest}
 use Rattle.request.specs.Table.{Table, tableOf}

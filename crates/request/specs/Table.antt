@@ -3,7 +3,7 @@ use Prim.Native.Nat.{ℕ, _-_}
 use mathlib.Core.List.{List, []}
 use mathlib.Core.Bool.{Bool, true, _&&_}
 use lib.Dec.{leb}
-use Rattle.wire.specs.Flags.{isSet}
+use Rattle.flags.specs.Flags.{isSet}
 use Rattle.request.specs.declared.tests.Unit.{Unit}
 use Rattle.request.specs.declared.tests.Control.{Control}
 

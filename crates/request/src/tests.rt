@@ -32,7 +32,7 @@ pub fn has_control(bits: u32, selector: u8) -> bool
     if selector == 0 {
         return false;
     }
-    wire::is_set(bits as u64, selector - 1)
+    flags::is_set(bits as u64, selector - 1)
 }
 
 // wIndex names the unit in its high byte and the interface in its low one.

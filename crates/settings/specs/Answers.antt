@@ -7,7 +7,7 @@ use Rattle.wire.specs.Number.{bytesOf}
 use Rattle.wire.specs.Selectors.{ev, face, metadata, hdr}
 use Rattle.request.specs.Answers.{answerBy}
 use Rattle.exposure.specs.Ev.{evAt, evBytes}
-use Rattle.face.specs.Face.{faceValue}
+use Rattle.face.specs.Answers.{faceValue}
 use Rattle.metadata.specs.Metadata.{metadataAt, metadataInfo}
 use Rattle.hdr.specs.Hdr.{hdrAt}
 use Rattle.throttle.specs.Throttle.{throttleAt, throttleBytes}

@@ -18,7 +18,8 @@ use Rattle.controls.specs.declared.Item.the-variants.{Absent, Given}
 use Rattle.controls.specs.declared.Setting.{Setting}
 use Rattle.controls.specs.declared.Setting.the-variants as S
 use Rattle.exposure.specs.Ev.{evRefusal}
-use Rattle.face.specs.Face.{allBelow, settingRefusal, putFace}
+use Rattle.face.specs.Limits.{allBelow}
+use Rattle.entries.specs.Entries.{settingRefusal, putFace}
 use Rattle.metadata.specs.Metadata.{metadataRefusal}
 use Rattle.hdr.specs.Hdr.{hdrRefusal}
 use Rattle.throttle.specs.Throttle.{throttleRefusal}

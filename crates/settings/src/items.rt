@@ -31,7 +31,7 @@ impl Settings {
     {
         if selector == FACE {
             let held = self.face;
-            let taken = face::take(p.face, held, payload);
+            let taken = entries::take(p.face, held, payload);
             let next = taken.held;
             let mut settings = self;
             settings.face = next;

@@ -65,7 +65,7 @@ impl Settings {
         let throttle = self.throttle;
         p.valid()
             & ev_kept(p, ev)
-            & face::kept(p.face, has_control(p.controls, FACE), face)
+            & entries::kept(p.face, has_control(p.controls, FACE), face)
             & metadata_kept(p, metadata)
             & hdr_kept(p, hdr)
             & throttle_kept(p, throttle)

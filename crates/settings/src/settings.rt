@@ -47,7 +47,7 @@ impl Settings {
                 throttle,
             },
             Setting::Face { address, flags } => {
-                let next = face::put(face, address, flags);
+                let next = entries::put(face, address, flags);
                 Settings {
                     ev,
                     face: next,

@@ -5,16 +5,15 @@ use mathlib.Core.Bool.{true, false}
 use mathlib.Core.List.{List, [], _∷_, _++_}
 use Rattle.wire.specs.Number.{leAt, number}
 use Rattle.snapshot.specs.Form.{sound, keyAt, formed, wellFormed}
-use Rattle.snapshot.specs.Records.{stands, skip, from, recordAt, decode, records, encode, split, recordsOf}
-use Rattle.snapshot.specs.Merge.{merged}
+use Rattle.snapshot.specs.Records.{split, recordsOf}
 
-ev : List ℕ
+unfoldable pub ev : List ℕ
 ev = 0x0F ∷ 0 ∷ 0x03 ∷ 0 ∷ 0x02 ∷ 0 ∷ 0 ∷ 0 ∷ 0 ∷ 0 ∷ 0 ∷ 0xFD ∷ 0xFF ∷ 0xFF ∷ 0xFF ∷ []
 
-face : ℕ → ℕ → List ℕ
+unfoldable pub face : ℕ → ℕ → List ℕ
 face address flags = 0x0D ∷ 0 ∷ 0x06 ∷ 0 ∷ 1 ∷ address ∷ flags ∷ 0 ∷ 0 ∷ 0 ∷ 0 ∷ 0 ∷ 0 ∷ []
 
-hdr : ℕ → List ℕ
+unfoldable pub hdr : ℕ → List ℕ
 hdr mode = 0x08 ∷ 0 ∷ 0x0D ∷ 0 ∷ mode ∷ 0 ∷ 0 ∷ 0 ∷ []
 
 -- the bench camera's snapshot
@@ -31,11 +30,6 @@ order = refl
 twice : wellFormed (hdr 0 ++ hdr 1) ≡ false
 unfolding leAt number wellFormed formed sound keyAt hdr
 twice = refl
-
--- the second's HDR wins, and the records interleave
-both : merged (face 0x82 1 ++ hdr 1) (ev ++ face 0x81 2 ++ hdr 0) ≡ ev ++ face 0x81 2 ++ face 0x82 1 ++ hdr 0
-unfolding leAt number merged encode records decode recordAt from skip stands sound keyAt ev face hdr
-both = refl
 
 listed : recordsOf (ev ++ face 0x8F 1 ++ hdr 0) ≡ (0, ev) ∷ (15, face 0x8F 1) ∷ (17, hdr 0) ∷ []
 unfolding leAt number recordsOf split sound keyAt ev face hdr

@@ -5,11 +5,8 @@ pub mod Maps
 pub mod Lengths
 pub mod Form
 pub mod Entries
-pub mod Merging
-pub mod Answers
 pub mod Settings
 pub mod Told
 pub mod Stay
 pub mod Cursor
 pub mod Walk
-pub mod Writing

@@ -1,9 +1,6 @@
--- The snapshot: its form, its records, merging, the calls, the snapshot of a list of settings, and what is stated of these; last, the
--- steps of the code.
+-- The snapshot: its form, its records, the snapshot of a list of settings, and what is stated of these; last, the steps of the code.
 pub mod Form
 pub mod Records
-pub mod Merge
-pub mod Calls
 pub mod Settings
 pub mod Theorems
 pub mod Steps

@@ -5,7 +5,15 @@ use mathlib.Core.List.{List, [], _∷_}
 use mathlib.Core.Option.{Option, none, some, Option·map}
 use lib.Dec.{eqb}
 use Rattle.snapshot.specs.Records.{encode}
-use Rattle.snapshot.specs.Merge.{over}
+
+-- the second, or where there is none the first
+abbrev pub over : {A : Type 0} → Option A → Option A → Option A
+over a none = a
+over a (some r) = some r
+
+-- key by key
+abbrev pub overs : {A : Type 0} → (ℕ → Option A) → (ℕ → Option A) → ℕ → Option A
+overs m n k = over (m k) (n k)
 
 -- a setting that is given: its key, and its value
 abbrev pub Setting : Type 0 → Type 0

@@ -6,7 +6,7 @@ ghost use mathlib.Core.Path.{_≡_};
 ghost use Rattle.snapshot.specs.Form.{wellFormed, formCode};
 
 // Whether there is no form fault: going through the records in order passes all of it.
-pub(crate) fn well_formed(snapshot: &[u8]) -> bool
+pub fn well_formed(snapshot: &[u8]) -> bool
     ensures { λ r. ⌜ r ≡ wellFormed (now (snapshot .entry)) ⌝ }
 {
     start_of(snapshot, KEYS) == snapshot.len()

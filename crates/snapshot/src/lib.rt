@@ -1,18 +1,16 @@
-// Snapshots of a camera's settings, which document 01 calls settings sheets (its section of that name, and demand 3's sentence on merging).
+// Snapshots of a camera's settings, which document 01 calls settings sheets, in its section of that name.
 // A snapshot is a list of records, each a length, a kind and the bytes that would set one control (of face authentication, one endpoint).
-// `check` judges the form of any bytes, and `merge` puts two snapshots together, the second's records winning.
+// `check` judges the form of any bytes; `merging` puts two snapshots together.
 // `key_at` says which key stands at a place and `size_of` how long its records are: with these code goes through a snapshot that `check`
 // accepts, from record to record. `record_of` reads one.
 // Nothing here judges the values that the records carry: that is the camera's.
 mod form;
 mod keys;
-mod merging;
 mod records;
 
 pub use form::check;
+pub use form::well_formed;
 pub use keys::KEYS;
 pub use keys::size_of;
-pub use merging::Merged;
-pub use merging::merge;
 pub use records::key_at;
 pub use records::record_of;

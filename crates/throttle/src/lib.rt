@@ -117,7 +117,7 @@ fn at(l: ThrottleLimits, held: Throttle, code: u8) -> ThrottleSetting
 }
 
 // A setting with three numbers behind it: the limits in an answer, zeros in a snapshot.
-pub fn bytes(s: ThrottleSetting, tail: ThrottleLimits) -> [u8; 20]
+fn bytes(s: ThrottleSetting, tail: ThrottleLimits) -> [u8; 20]
     ensures { λ r. ⌜ r ≡ throttleBytes s tail ⌝ }
 {
     let mut b = [0u8; 20];

@@ -7,8 +7,8 @@ use crate::words::number;
 use crate::words::octet;
 use crate::words::place;
 use crate::words::word;
-use frame::Flag;
 use frame::Found;
+use packet::Flag;
 use wire::Part;
 
 // A part of a lent slice: its place, its length and its bytes.
@@ -76,14 +76,14 @@ fn header(call: &[u8]) {
     let mut bytes = [0u8; 256];
     let n = decode(word(call, 1), &mut bytes);
     let packet = wire::head(&bytes, n);
-    let h = frame::header(packet);
+    let h = packet::header(packet);
     print::code(h.code);
     print::hex(h.flags as u64, 2);
     part(packet, h.metadata);
 }
 
 fn flag(flags: u8, f: Flag) {
-    print::count(frame::has_flag(flags, f) as usize);
+    print::count(packet::has_flag(flags, f) as usize);
 }
 
 // Whether FID, EOF, PTS, SCR and ERR are set.

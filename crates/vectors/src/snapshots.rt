@@ -58,7 +58,7 @@ fn merge(call: &[u8]) {
     let m = decode(word(call, 3), &mut b);
     let mut room = [0xEEu8; 256];
     let out = first(&mut room, octet(word(call, 1), 0) as usize);
-    let merged = snapshot::merge(wire::head(&a, n), wire::head(&b, m), out);
+    let merged = merging::merge(wire::head(&a, n), wire::head(&b, m), out);
     print::code(merged.code);
     print::count(merged.len);
     print::bytes(out);

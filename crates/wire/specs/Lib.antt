@@ -1,8 +1,7 @@
--- What the leaves compute: parts of a slice, numbers in bytes, flags, bytes laid over others; ordered tables of refusals, and
+-- What the leaves compute: parts of a slice, numbers in bytes, bytes laid over others; ordered tables of refusals, and
 -- the numbers that several crates share.
 pub mod Parts
 pub mod Number
-pub mod Flags
 pub mod Overlay
 pub mod Rows
 pub mod Uvc

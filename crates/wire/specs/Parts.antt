@@ -1,5 +1,5 @@
 -- Parts of a lent slice, by their place.
-use Prim.Native.Nat.{ℕ, _+_, _-_, min}
+use Prim.Native.Nat.{ℕ, _+_, _-_, _≤_, min}
 use mathlib.Core.Path.{_≡_}
 use mathlib.Core.List.{List}
 use lib.ListN.{length, take, drop}
@@ -27,3 +27,7 @@ pub record PartOf (s : RefT (List ℕ)) (p : Part) (r : RefT (List ℕ)) : Type 
   pub memory : ptr r .0 ≡ ptr s .0
   pub place : ptr r .1 ≡ ptr s .1 + min (p .at) (length (now s))
   pub bytes : now r ≡ bytesAt (now s) p
+
+-- a part lies in what was lent
+abbrev pub Inside : List ℕ → Part → Type 0
+Inside s p = p .at + p .len ≤ length s

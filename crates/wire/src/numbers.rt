@@ -79,3 +79,10 @@ pub fn bytes32(n: u32) -> [u8; 4]
         (c % 256) as u8,
     ]
 }
+
+// The seven flag bytes from i on, gathered into one word.
+pub fn flag_word(s: &[u8], i: usize) -> u64
+    ensures { λ r. ⌜ (r ≡ leAt 7 (now (s .entry)) i) × (r < 2 ^ 56) ⌝ }
+{
+    number(s, i, 7)
+}

@@ -1,5 +1,4 @@
 // Writing into a lent buffer: what is written goes in as far as the buffer reaches, and every other byte stays.
-use crate::numbers::bytes16;
 use crate::numbers::bytes32;
 use crate::parts::head;
 ghost use mathlib.Core.Path.{_≡_};
@@ -29,14 +28,6 @@ pub fn copy(dst: &mut [u8], at: usize, src: &[u8])
         let room = dst.len() - at;
         fill(dst, at, head(src, room));
     }
-}
-
-// Writes the two-byte number at `at`.
-pub fn put16(dst: &mut [u8], at: usize, n: usize)
-    ensures { λ _. ⌜ now (dst .exit) ≡ overlay (now (dst .entry)) at (bytesOf 2 n) ⌝ }
-{
-    let b = bytes16(n);
-    copy(dst, at, &b);
 }
 
 // Writes the four-byte number at `at`.

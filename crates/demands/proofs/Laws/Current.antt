@@ -24,11 +24,12 @@ use Rattle.controls.specs.declared.ThrottleSetting.{ThrottleSetting}
 use Rattle.request.specs.Answers.{answerBy}
 use Rattle.controls.specs.Settings.{numberOr}
 use Rattle.exposure.specs.Ev.{evBytes, evCurrent, evAt}
-use Rattle.face.specs.Face.{endpoints, addressAt, entryOf, heldAt}
+use Rattle.face.specs.Limits.{endpoints, addressAt}
+use Rattle.face.specs.Answers.{entryOf, heldAt}
 use Rattle.metadata.specs.Metadata.{metadataAt}
 use Rattle.hdr.specs.Hdr.{hdrAt}
 use Rattle.throttle.specs.Throttle.{throttleBytes, throttleCurrent, throttleAt}
-use Rattle.face.proofs.Laws.Face.{place-listed}
+use Rattle.face.proofs.Laws.Limits.{place-listed}
 use Rattle.profile.specs.Profile.{has}
 use Rattle.settings.specs.Settings.{faceHeld}
 use Rattle.profile.proofs.Laws.Profile.{valid-face}

@@ -10,9 +10,9 @@ use lib.ListN.{length, getD, replicate, getD-replicate}
 use borrow.Author.Tests.{eq-eqb, ne-eqb, eqb-true, eqb-false, le-leb, lt-leb, leb-true}
 use Rattle.wire.specs.Endpoints.{firstAddress, lastAddress, places}
 use Rattle.snapshot.specs.Form.{keys}
-use Rattle.snapshot.specs.Merge.{over}
+use Rattle.snapshot.specs.Settings.{over}
 use Rattle.snapshot.specs.Settings.{lastOf}
-use Rattle.snapshot.proofs.Laws.Merging.{over-assoc}
+use Rattle.snapshot.proofs.Laws.Settings.{over-assoc}
 use Rattle.controls.specs.declared.Setting.{Setting}
 use Rattle.controls.specs.declared.Setting.the-variants as S
 use Rattle.exposure.specs.declared.ev.Ev.{Ev}
@@ -21,7 +21,7 @@ use Rattle.controls.specs.declared.Number.{Number}
 use Rattle.controls.specs.declared.Number.the-variants as N
 use Rattle.throttle.specs.declared.Throttle.{Throttle}
 use Rattle.throttle.specs.declared.Throttle.the-variants as T
-use Rattle.face.proofs.Laws.Places.{put-at, length-put}
+use Rattle.entries.proofs.Laws.Held.{put-at, length-put}
 use Rattle.settings.specs.declared.settings.Settings.{Settings}
 use Rattle.settings.specs.Settings.{noSettings, keyOf, evHeld, faceHeld, numberHeld, metadataHeld, hdrHeld, throttleHeld, held, put}
 use Rattle.settings.specs.Items.{puts}

@@ -9,14 +9,14 @@ use lib.Dec.{eqb, leb}
 use lib.ListN.{length}
 use borrow.Author.Tests.{eq-eqb, eqb-true, eqb-false, leb-true, leb-false}
 use Rattle.wire.specs.Endpoints.{places}
-use Rattle.wire.specs.Flags.{bitsOf, count, choiceOf}
+use Rattle.flags.specs.Flags.{bitsOf, count, choiceOf}
 use Rattle.wire.specs.Number.{leAt}
 use Rattle.wire.specs.Rows.{Row, _⇒_, Quiet}
 use Rattle.wire.specs.Selectors as selectors
 use Rattle.wire.specs.Uvc.{outOfRange, invalidValue, wrongState}
 use Rattle.wire.proofs.Laws.Rows.{quiet}
 use Rattle.snapshot.specs.Form.{keys}
-use Rattle.snapshot.specs.Merge.{over}
+use Rattle.snapshot.specs.Settings.{over}
 use Rattle.snapshot.specs.Settings.{lastOf}
 use Rattle.controls.specs.declared.Item.{Item}
 use Rattle.controls.specs.declared.Item.the-variants.{Absent, Refused, Given}
@@ -24,12 +24,13 @@ use Rattle.controls.specs.declared.Setting.{Setting}
 use Rattle.controls.specs.declared.Setting.the-variants as S
 use Rattle.controls.specs.Settings.{itemOf}
 use Rattle.exposure.specs.Ev.{evItem, evFlags, evValue}
-use Rattle.face.specs.Face.{allBelow, faceValid, entryAddress, entryFlags, seenBefore, offersOf, isChoice, entryRefusal, settingRefusal, faceItem}
+use Rattle.face.specs.Limits.{allBelow, faceValid, offersOf}
+use Rattle.entries.specs.Entries.{entryAddress, entryFlags, seenBefore, isChoice, entryRefusal, settingRefusal, faceItem}
 use Rattle.metadata.specs.Metadata.{metadataItem}
 use Rattle.hdr.specs.Hdr.{hdrItem}
 use Rattle.throttle.specs.Throttle.{throttleItem}
 use Rattle.controls.proofs.Laws.Settings.{given-is}
-use Rattle.face.proofs.Laws.Face.{all-at, all-of, listed}
+use Rattle.face.proofs.Laws.Limits.{all-at, all-of, listed}
 use Rattle.profile.specs.declared.Profile.{Profile}
 use Rattle.settings.specs.declared.settings.Settings.{Settings}
 use Rattle.profile.specs.Profile.{has, settable, profileValid, controlRefusal}

@@ -10,7 +10,7 @@ use lib.Dec.{eqb}
 use lib.ListN.{length, getD}
 use borrow.Author.Tests.{eqb-true, eqb-false}
 use Rattle.wire.specs.Endpoints.{firstAddress, places, endpointLimit}
-use Rattle.wire.specs.Flags.{choiceOf}
+use Rattle.flags.specs.Flags.{choiceOf}
 use Rattle.wire.specs.Rows.{_⇒_}
 use Rattle.wire.specs.Uvc.{outOfRange, invalidValue}
 use Rattle.wire.proofs.Laws.Rows.{quiet}
@@ -18,7 +18,8 @@ use Rattle.snapshot.specs.Records as records
 use Rattle.snapshot.proofs.Laws.Lengths.{encode-short}
 use Rattle.face.specs.declared.limits.FaceLimits.{FaceLimits}
 use Rattle.settings.specs.Settings.{valueRefusal}
-use Rattle.face.specs.Face.{addressAt, offersAt, offersFrom, offersOf, endpoints, isChoice, settingRefusal}
+use Rattle.face.specs.Limits.{addressAt, offersAt, offersFrom, offersOf, endpoints}
+use Rattle.entries.specs.Entries.{isChoice, settingRefusal}
 use Rattle.controls.specs.declared.Setting.{Setting}
 use Rattle.controls.specs.declared.Setting.the-variants as S
 use Rattle.camera.specs.declared.record.Camera.{Camera}

@@ -24,17 +24,20 @@ use Rattle.controls.specs.declared.Setting.the-variants as S
 use Rattle.controls.specs.Settings.{itemOf, numberOr, codeOf, firstRefusal}
 use Rattle.exposure.specs.Ev.{evFlags, evValue, evItem, evCurrent, evAt}
 use Rattle.face.specs.declared.limits.FaceLimits.{FaceLimits}
-use Rattle.face.specs.Face.{endpoints, addressAt, offersAt, offersFrom, offersOf, takesFace, entryAddress, entryFlags, seenIn, seenBefore}
-use Rattle.face.specs.Face.{entryOf, heldAt, flagsAt, entriesOf, faceValue, putFace, entriesPut, facesTaken}
+use Rattle.face.specs.Limits.{endpoints, addressAt, offersAt, offersFrom, offersOf}
+use Rattle.entries.specs.Entries.{takesFace, entryAddress, entryFlags, seenIn, seenBefore}
+use Rattle.face.specs.Answers.{entryOf, heldAt, flagsAt, entriesOf, faceValue}
+use Rattle.entries.specs.Entries.{putFace, entriesPut, facesTaken}
 use Rattle.metadata.specs.Metadata.{metadataItem, metadataAt}
 use Rattle.hdr.specs.Hdr.{hdrItem, hdrAt}
 use Rattle.throttle.specs.Throttle.{throttleItem, throttleCurrent, throttleAt, throttleBytes}
 use Rattle.controls.proofs.Laws.Items.{none-refused}
 use Rattle.wire.proofs.Laws.Bytes.{word-bytes}
 use Rattle.exposure.proofs.Laws.Ev.{ev-bytes}
-use Rattle.face.proofs.Laws.Entries.{taken-entries}
-use Rattle.face.proofs.Laws.Face.{accepted, length-entries}
-use Rattle.face.proofs.Laws.Places.{length-put}
+use Rattle.entries.proofs.Laws.Entries.{taken-entries}
+use Rattle.face.proofs.Laws.Answers.{length-entries}
+use Rattle.entries.proofs.Laws.Payload.{accepted}
+use Rattle.entries.proofs.Laws.Held.{length-put}
 use Rattle.profile.specs.declared.Profile.{Profile}
 use Rattle.settings.specs.declared.settings.Settings.{Settings}
 use Rattle.profile.specs.Selectors.{Control, ev, face, metadata, hdr, throttle}

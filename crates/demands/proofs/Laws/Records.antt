@@ -17,12 +17,13 @@ use Rattle.snapshot.proofs.Laws.Controls.{record-ev, record-face, record-metada
 use Rattle.controls.specs.declared.Setting.{Setting}
 use Rattle.controls.specs.declared.Setting.the-variants as S
 use Rattle.exposure.specs.Ev.{evBytes}
-use Rattle.face.specs.Face.{entryOf, settingRefusal}
+use Rattle.face.specs.Answers.{entryOf}
+use Rattle.entries.specs.Entries.{settingRefusal}
 use Rattle.throttle.specs.Throttle.{throttleBytes}
 use Rattle.controls.specs.Settings.{itemOf}
 use Rattle.controls.specs.declared.Item.the-variants.{Given}
 use Rattle.exposure.proofs.Laws.Ev.{ev-read}
-use Rattle.face.proofs.Laws.Face.{one-entry}
+use Rattle.entries.proofs.Laws.Payload.{one-entry}
 use Rattle.metadata.proofs.Laws.Metadata.{metadata-read}
 use Rattle.hdr.proofs.Laws.Hdr.{hdr-read}
 use Rattle.throttle.proofs.Laws.Throttle.{throttle-read}

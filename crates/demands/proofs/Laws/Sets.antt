@@ -21,7 +21,8 @@ use Rattle.snapshot.specs.Records.{Record}
 use Rattle.snapshot.proofs.Laws.Sound.{Sound, Kind, ev, face, metadata, hdr, throttle, kind-of, sound-address, stands-sound, stands-size}
 use Rattle.controls.specs.declared.Item.{Item}
 use Rattle.controls.specs.declared.Item.the-variants.{Absent, Refused, Given}
-use Rattle.face.proofs.Laws.Face.{takes-first, count-least}
+use Rattle.face.proofs.Laws.Limits.{count-least}
+use Rattle.entries.proofs.Laws.Payload.{takes-first}
 use Rattle.controls.specs.Settings.{codeOf, firstRefusal}
 use Rattle.profile.specs.declared.Profile.{Profile}
 use Rattle.profile.specs.Profile.{has, settable, takes, profileValid}

@@ -4,7 +4,7 @@ use Rattle.wire.specs.Overlay.{overlay}
 use mathlib.Core.Path.{ap, sym, _∙_}
 use Rattle.wire.specs.Number.{bytesOf}
 use Rattle.encoding.specs.Encoding.{row}
-use Rattle.face.proofs.Laws.Face.{entry-small}
+use Rattle.face.proofs.Laws.Answers.{entry-small}
 use borrow.Author.Needs.{needs}
 use Rattle.encoding.proofs.put_face.Statement.{statement}
 use Rattle.encoding.proofs.put_face.Tie as tie

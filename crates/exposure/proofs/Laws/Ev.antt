@@ -13,10 +13,10 @@ use lib.Signed.{mag, leZ}
 use mir.Syntax.{w32}
 use mir.Val.{SFits}
 use Rattle.wire.specs.Number.{leAt, bytesOf}
-use Rattle.wire.specs.Flags.{choiceOf}
-use Rattle.wire.specs.declared.flags.Choice.{Choice}
-use Rattle.wire.specs.declared.flags.Choice.the-variants.{At, Refused}
-use Rattle.wire.proofs.Laws.Bits.{chosen-below}
+use Rattle.flags.specs.Flags.{choiceOf}
+use Rattle.flags.specs.declared.Choice.{Choice}
+use Rattle.flags.specs.declared.Choice.the-variants.{At, Refused}
+use Rattle.flags.proofs.Laws.Bits.{chosen-below}
 use Rattle.wire.proofs.Laws.Numbers.{Bytes, below}
 use Rattle.exposure.specs.declared.ev.EvLimits.{EvLimits}
 use Rattle.controls.specs.declared.EvSetting.{EvSetting}

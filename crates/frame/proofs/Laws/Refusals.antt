@@ -7,11 +7,9 @@ use lib.ListN.{length}
 use lib.Dec.{eqb}
 use Rattle.wire.specs.Overlay.{overlay}
 use Rattle.frame.specs.declared.writer.Appended.{Appended}
-use Rattle.frame.specs.declared.packet.PayloadHeader.{PayloadHeader}
 use Rattle.frame.specs.Items.{Item, Finding, refused, sound, itemsOf}
 use Rattle.frame.specs.Answers.{refusedWith, itemAt, foundIn, countIn, itemOf, countOf}
 use Rattle.frame.specs.Writer.{itemBytes, endOf, appendRefusal, appendedOf, writtenOf}
-use Rattle.frame.specs.Packet.{headerRefusal, refusedHeader, headerOf}
 
 no-item : (at k : ℕ) (is : List Item) → (itemAt at k is .code ≡ 0 → ⊥) → itemAt at k is ≡ refusedWith (itemAt at k is .code)
 unfolding itemAt
@@ -48,13 +46,3 @@ module _ (buf : List ℕ) (at id : ℕ) (payload : List ℕ) where
       go : (b : Bool) → (answer b .code ≡ 0 → ⊥) → (answer b .end ≡ 0) × (cond b (overlay buf at (itemBytes id payload)) buf ≡ buf)
       go true n = absurd (n refl)
       go false n = (refl, refl)
-
--- an answer with number 0, or a refusal
-either : (b : Bool) (h : PayloadHeader) (code : ℕ) → h .code ≡ 0 → (cond b h (refusedHeader code) .code ≡ 0 → ⊥)
-    → cond b h (refusedHeader code) ≡ refusedHeader (cond b h (refusedHeader code) .code)
-either true h code e n = absurd (n e)
-either false h code e n = refl
-
-pub header-refused : (p : List ℕ) → (headerOf p .code ≡ 0 → ⊥) → headerOf p ≡ refusedHeader (headerOf p .code)
-unfolding headerOf
-header-refused p n = either (eqb (headerRefusal p) 0) _ (headerRefusal p) refl n

@@ -5,11 +5,11 @@ use Prim.Native.Nat.{ℕ, suc, _+_, _-_, _^_, _≤_}
 use native.Mathlib.Omega.{arith}
 use lib.Dec.{eqb, leb, ltb}
 use borrow.Author.Tests.{eqb-true, leb-true, leb-false, ltb-true}
-use Rattle.wire.specs.Flags.{isSet}
-use Rattle.wire.proofs.Laws.Bits.{high-clear}
+use Rattle.flags.specs.Flags.{isSet}
+use Rattle.flags.proofs.Laws.Bits.{high-clear}
 use Rattle.request.specs.Table.{hasControl}
-use Rattle.face.specs.Face.{allBelow}
-use Rattle.face.proofs.Laws.Face.{all-at}
+use Rattle.face.specs.Limits.{allBelow}
+use Rattle.face.proofs.Laws.Limits.{all-at}
 use Rattle.profile.specs.Selectors.{Control, ev, face, metadata, hdr, throttle}
 use Rattle.profile.specs.Profile.{presenceValid}
 

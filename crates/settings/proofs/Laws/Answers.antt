@@ -9,8 +9,8 @@ use Rattle.wire.specs.Selectors.{ev, face, metadata, hdr}
 use Rattle.request.specs.Answers.{longest}
 use Rattle.request.proofs.Laws.Answers.{answer-length}
 use Rattle.exposure.specs.Ev.{evAt, evBytes}
-use Rattle.face.specs.Face.{faceValue}
-use Rattle.face.proofs.Laws.Face.{value-length}
+use Rattle.face.specs.Answers.{faceValue}
+use Rattle.face.proofs.Laws.Answers.{value-length}
 use Rattle.metadata.specs.Metadata.{metadataAt}
 use Rattle.hdr.specs.Hdr.{hdrAt}
 use Rattle.throttle.specs.Throttle.{throttleAt, throttleBytes}

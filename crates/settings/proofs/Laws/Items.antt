@@ -15,9 +15,9 @@ use Rattle.controls.specs.declared.Item.the-variants.{Absent, Refused, Given}
 use Rattle.controls.specs.declared.Setting.{Setting}
 use Rattle.controls.specs.declared.Setting.the-variants as S
 use Rattle.controls.specs.Settings.{codeOf, firstRefusal}
-use Rattle.face.specs.declared.entries.Taken.{Taken}
-use Rattle.face.specs.Face.{entryAddress, entryFlags, faceItem, entriesPut, facesTaken}
-use Rattle.face.proofs.Laws.Entries.{taken-entries}
+use Rattle.entries.specs.declared.Taken.{Taken}
+use Rattle.entries.specs.Entries.{entryAddress, entryFlags, faceItem, entriesPut, facesTaken}
+use Rattle.entries.proofs.Laws.Entries.{taken-entries}
 use Rattle.profile.specs.declared.Profile.{Profile}
 use Rattle.settings.specs.declared.settings.Settings.{Settings}
 use Rattle.settings.specs.declared.items.Taken as own

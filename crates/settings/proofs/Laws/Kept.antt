@@ -15,8 +15,9 @@ use Rattle.wire.specs.Selectors.{face, metadata}
 use Rattle.controls.specs.declared.Setting.{Setting}
 use Rattle.controls.specs.declared.Setting.the-variants as S
 use Rattle.metadata.specs.Metadata.{metadataRefusal}
-use Rattle.face.specs.Face.{allBelow, settingRefusal, faceKept, facesKept}
-use Rattle.face.proofs.Laws.Face.{all-same}
+use Rattle.face.specs.Limits.{allBelow}
+use Rattle.entries.specs.Entries.{settingRefusal, faceKept, facesKept}
+use Rattle.face.proofs.Laws.Limits.{all-same}
 use Rattle.profile.specs.declared.Profile.{Profile}
 use Rattle.settings.specs.declared.settings.Settings.{Settings}
 use Rattle.profile.specs.Profile.{has, settable, profileValid, controlRefusal}

@@ -1,17 +1,21 @@
--- The snapshot of two runs of settings is the first's merged with the second's, and the settings of a snapshot's records are their values.
--- Assumes nothing.
+-- Settings given one after the other, and their records. Assumes nothing.
 use Prim.Native.Nat.{ℕ}
-use mathlib.Core.Path.{_≡_, refl, sym, ap, ap₂, _∙_, subst, fun-ext}
+use mathlib.Core.Path.{_≡_, refl, sym, ap, _∙_, subst}
 use mathlib.Core.Bool.{Bool, true, false, cond}
 use mathlib.Core.List.{List, [], _∷_, _++_}
 use mathlib.Core.Option.{Option, none, some, Option·map}
 use lib.Dec.{eqb}
 use borrow.Author.Tests.{eqb-true}
-use Rattle.snapshot.specs.Records.{encode, Record, GoodAt, Good}
-use Rattle.snapshot.specs.Merge.{over, overs, merged}
-use Rattle.snapshot.specs.Settings.{Setting, lastOf, snapshotOf}
-use Rattle.snapshot.proofs.Laws.Maps.{decode-encode}
-use Rattle.snapshot.proofs.Laws.Merging.{over-assoc, over-none}
+use Rattle.snapshot.specs.Records.{Record, GoodAt, Good}
+use Rattle.snapshot.specs.Settings.{over, Setting, lastOf}
+
+pub over-assoc : {A : Type 0} (a b c : Option A) → over (over a b) c ≡ over a (over b c)
+over-assoc a b none = refl
+over-assoc a b (some r) = refl
+
+pub over-none : {A : Type 0} (a : Option A) → over none a ≡ a
+over-none none = refl
+over-none (some r) = refl
 
 pub last-append : {Value : Type 0} (a b : List (Setting Value)) (k : ℕ) → lastOf (a ++ b) k ≡ over (lastOf a k) (lastOf b k)
 last-append [] b k = sym (over-none (lastOf b k))
@@ -47,10 +51,3 @@ module _ {Value : Type 0} (row : ℕ → Value → List ℕ) where
       first : (b : Bool) → eqb (x .0) k ≡ b → GoodAt k (Option·map (row k) (cond b (some (x .1)) none))
       first true e = subst (λ j. Record j (row j (x .1))) (eqb-true _ _ e) (p .0)
       first false e = tt
-
-  pub snapshot-append : (a b : List (Setting Value)) → Rows row a → Rows row b
-      → snapshotOf row (lastOf (a ++ b)) ≡ merged (snapshotOf row (lastOf a)) (snapshotOf row (lastOf b))
-  unfolding merged
-  snapshot-append a b p q =
-      ap encode (fun-ext λ k. ap (Option·map (row k)) (last-append a b k) ∙ over-map (row k) (lastOf a k) (lastOf b k))
-      ∙ ap₂ (λ m n. encode (overs m n)) (sym (decode-encode _ (rows-good a p))) (sym (decode-encode _ (rows-good b q)))

@@ -3,8 +3,8 @@ use Prim.Native.Nat.{ℕ}
 use lib.IntN.{ℤ}
 use mir.Facts.{toZ-ofZ}
 use borrow.Author.Needs.{needs}
-use Rattle.wire.specs.Flags.{choiceOf}
-use Rattle.wire.specs.declared.flags.Choice.the-variants.{At}
+use Rattle.flags.specs.Flags.{choiceOf}
+use Rattle.flags.specs.declared.Choice.the-variants.{At}
 use Rattle.exposure.specs.declared.ev.EvLimits.{EvLimits}
 use Rattle.exposure.specs.Ev.{divisor, inRange}
 use Rattle.exposure.proofs.Laws.Ev.{refused-flags, refused-value, accepted}

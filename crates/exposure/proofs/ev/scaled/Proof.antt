@@ -10,8 +10,8 @@ use mir.Val.{SFits, toZ, ofZ}
 use mir.Facts.{toZ-ofZ}
 use borrow.Author.Needs.{needs}
 use borrow.Author.Tests.{not-true, not-false}
-use Rattle.wire.specs.Flags.{choiceOf}
-use Rattle.wire.specs.declared.flags.Choice.the-variants.{At}
+use Rattle.flags.specs.Flags.{choiceOf}
+use Rattle.flags.specs.declared.Choice.the-variants.{At}
 use Rattle.exposure.specs.declared.ev.EvLimits.{EvLimits}
 use Rattle.controls.specs.declared.EvSetting.{EvSetting}
 use Rattle.exposure.specs.Ev.{evValid, divisor, inRange, unitsPerStop}

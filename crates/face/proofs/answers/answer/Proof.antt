@@ -3,9 +3,9 @@ use mathlib.Core.List.{List}
 use Prim.Native.Nat.{ℕ, _+_, _*_}
 use borrow.Author.Needs.{needs}
 use Rattle.request.specs.Answers.{answerBy, packed}
-use Rattle.face.specs.Face.{faceAnswer, faceValue}
+use Rattle.face.specs.Answers.{faceAnswer, faceValue}
 use Rattle.request.proofs.Laws.Packed.{unpack-room, unpack, unpack-length}
-use Rattle.face.proofs.Laws.Face.{value-length}
+use Rattle.face.proofs.Laws.Answers.{value-length}
 use Rattle.face.proofs.answers.answer.Statement.{statement}
 use Rattle.face.proofs.answers.answer.Tie as tie
 

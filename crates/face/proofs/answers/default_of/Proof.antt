@@ -1,5 +1,5 @@
 use borrow.Author.Tests.{eq-eqb, ne-eqb}
-use Rattle.face.specs.Face.{defaultOf}
+use Rattle.face.specs.Answers.{defaultOf}
 use Rattle.face.proofs.answers.default_of.Statement.{statement}
 use Rattle.face.proofs.answers.default_of.Tie as tie
 

@@ -7,9 +7,10 @@ use borrow.Author.Needs.{needs}
 use Rattle.wire.specs.Overlay.{overlay}
 use Rattle.wire.proofs.Laws.Overlay.{same-length}
 use Rattle.request.specs.Answers.{packed}
-use Rattle.face.specs.Face.{addressAt, entryOf, flagsAt, entriesOf, faceValue}
+use Rattle.face.specs.Limits.{addressAt}
+use Rattle.face.specs.Answers.{entryOf, flagsAt, entriesOf, faceValue}
 use Rattle.request.proofs.Laws.Packed.{blank, pack-is}
-use Rattle.face.proofs.Laws.Face.{length-entries, entries-next}
+use Rattle.face.proofs.Laws.Answers.{length-entries, entries-next}
 use Rattle.face.proofs.answers.value.Statement.{statement}
 use Rattle.face.proofs.answers.value.Tie as tie
 

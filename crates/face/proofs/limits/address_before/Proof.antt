@@ -1,7 +1,7 @@
 use mathlib.Core.Path.{ap, sym}
 use borrow.Author.Needs.{needs}
-use Rattle.face.specs.Face.{addressBefore}
-use Rattle.face.proofs.Laws.Face.{before-next}
+use Rattle.face.specs.Limits.{addressBefore}
+use Rattle.face.proofs.Laws.Limits.{before-next}
 use Rattle.face.proofs.limits.address_before.Statement.{statement}
 use Rattle.face.proofs.limits.address_before.Tie as tie
 

@@ -1,5 +1,5 @@
 use mathlib.Core.Path.{sym}
-use Rattle.face.proofs.Laws.Places.{offers-none, offers-placed}
+use Rattle.face.proofs.Laws.Limits.{offers-none, offers-placed}
 use borrow.Author.Needs.{needs}
 use Rattle.face.proofs.limits.offers_of.Statement.{statement}
 use Rattle.face.proofs.limits.offers_of.Tie as tie

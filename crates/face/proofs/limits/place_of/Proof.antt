@@ -2,8 +2,8 @@ use mathlib.Core.Path.{_≡_, ap, sym, _∙_}
 use Prim.Native.Nat.{ℕ, _≤_, _-_}
 use native.Mathlib.Omega.{arith}
 use borrow.Author.Needs.{needs}
-use Rattle.face.specs.Face.{endpoints, placeFrom, placeOf}
-use Rattle.face.proofs.Laws.Places.{place-here, place-next}
+use Rattle.face.specs.Limits.{endpoints, placeFrom, placeOf}
+use Rattle.face.proofs.Laws.Limits.{place-here, place-next}
 use Rattle.face.proofs.limits.place_of.Statement.{statement}
 use Rattle.face.proofs.limits.place_of.Tie as tie
 

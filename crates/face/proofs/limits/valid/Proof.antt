@@ -6,7 +6,7 @@ use native.Mathlib.Omega.{arith}
 use lib.Dec.{leb}
 use borrow.Author.Needs.{needs}
 use Rattle.wire.specs.Endpoints.{endpointLimit}
-use Rattle.face.specs.Face.{allBelow, endpointValid, faceValid}
+use Rattle.face.specs.Limits.{allBelow, endpointValid, faceValid}
 use Rattle.face.proofs.limits.valid.Statement.{statement}
 use Rattle.face.proofs.limits.valid.Tie as tie
 

@@ -1,7 +1,7 @@
 use mathlib.Core.Bool.{not, _||_}
 use borrow.Author.Needs.{needs}
 use Rattle.exposure.specs.Ev.{evValid}
-use Rattle.face.specs.Face.{faceValid}
+use Rattle.face.specs.Limits.{faceValid}
 use Rattle.metadata.specs.Metadata.{metadataValid}
 use Rattle.throttle.specs.Throttle.{throttleValid}
 use Rattle.profile.specs.Profile.{has, presenceValid, profileValid}

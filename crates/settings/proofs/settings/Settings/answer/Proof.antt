@@ -1,6 +1,6 @@
 use borrow.Author.Tests.{ne-eqb}
 use Rattle.exposure.specs.Ev.{evAnswer}
-use Rattle.face.specs.Face.{faceAnswer}
+use Rattle.face.specs.Answers.{faceAnswer}
 use Rattle.metadata.specs.Metadata.{metadataAnswer}
 use Rattle.hdr.specs.Hdr.{hdrAnswer}
 use Rattle.throttle.specs.Throttle.{throttleAnswer}

@@ -1,0 +1,91 @@
+-- A SET's payload: the length that it must have, an entry read back, and what an accepted entry gives. Assumes nothing.
+use mathlib.Core.Path.{_≡_, refl, ap}
+use mathlib.Core.List.{List, [], _∷_}
+use mathlib.Core.Bool.{Bool, true, false, cond, not}
+use Prim.Native.Nat.{ℕ, _+_, _*_, _^_, _≤_, _<_}
+use native.Mathlib.Omega.{arith}
+use lib.Dec.{leb, eqb}
+use lib.ListN.{length, getD}
+use borrow.Author.Tests.{eqb-false, le-leb, leb-true}
+use Rattle.wire.specs.Number.{leAt, bytesOf}
+use Rattle.wire.specs.Rows.{_⇒_, firstOf}
+use Rattle.wire.specs.Uvc.{invalidValue, outOfRange}
+use Rattle.wire.proofs.Laws.Bytes.{number-bytes}
+use Rattle.flags.specs.Flags.{choiceOf}
+use Rattle.controls.specs.declared.Item.the-variants.{Given}
+use Rattle.controls.specs.declared.Setting.the-variants as S
+use Rattle.controls.specs.Settings.{itemOf}
+use Rattle.controls.proofs.Laws.Settings.{given-is}
+use Rattle.face.specs.declared.limits.FaceLimits.{FaceLimits}
+use Rattle.face.specs.Limits.{endpoints, faceValid, offersOf}
+use Rattle.face.specs.Answers.{entryOf}
+use Rattle.face.proofs.Laws.Limits.{count-most}
+use Rattle.entries.specs.Entries.{takesFace, entryAddress, entryFlags, seenIn, seenBefore, isChoice, faceRefusal, entryRefusal, faceItem}
+
+-- the length that a payload must have, by its first byte
+pub takes-empty : (l : FaceLimits) (s : List ℕ) → length s ≡ 0 → takesFace l s ≡ 1
+unfolding takesFace
+takes-empty l [] h = refl
+takes-empty l (n ∷ s) h = absurd (omega arith)
+
+pub takes-first : (l : FaceLimits) (s : List ℕ) → (length s ≡ 0 → ⊥) → takesFace l s ≡ cond (leb (getD s 0 0) (l .count)) (1 + 8 * getD s 0 0) 0
+unfolding takesFace
+takes-first l [] p = absurd (p refl)
+takes-first l (n ∷ s) p = refl
+
+-- an entry's flags, read back
+pub entry-flags : (n address flags : ℕ) → flags < 2 ^ 56 → entryFlags (n ∷ entryOf address flags) 0 ≡ flags
+unfolding leAt bytesOf
+entry-flags n address flags h = number-bytes 7 flags h
+
+-- a payload of one entry, as a snapshot's record has it
+pub one-entry : (l : FaceLimits) (address flags : ℕ) → flags < 256
+    → faceItem l (1 ∷ entryOf address flags) 0 ≡ itemOf (firstOf ((eqb (offersOf l address) 0 ⇒ outOfRange) ∷ (not (isChoice (choiceOf (offersOf l address) flags)) ⇒ invalidValue) ∷ [])) (S.Face address flags)
+unfolding faceItem entryRefusal seenIn
+one-entry l address flags h = rw (entry-flags 1 address flags (omega arith))
+
+-- what an accepted entry gives: its own bytes, for a listed endpoint that no entry before it names and that offers its flags
+pub record Accepted (l : FaceLimits) (s : List ℕ) (i address flags : ℕ) : Type 0 where
+  pub address-read : entryAddress s i ≡ address
+  pub flags-read : entryFlags s i ≡ flags
+  pub known : offersOf l address ≡ 0 → ⊥
+  pub new : seenBefore s i ≡ false
+  pub sound : faceRefusal (offersOf l address) flags ≡ 0
+
+tests-passed : (a b c : Bool) → firstOf ((a ⇒ outOfRange) ∷ (b ⇒ invalidValue) ∷ (not c ⇒ invalidValue) ∷ []) ≡ 0 → (a ≡ false) × (b ≡ false) × (c ≡ true)
+tests-passed true b c e = absurd (omega arith)
+tests-passed false true c e = absurd (omega arith)
+tests-passed false false false e = absurd (omega arith)
+tests-passed false false true e = (refl, refl, refl)
+
+pub accepted : (l : FaceLimits) (s : List ℕ) (i address flags : ℕ) → faceItem l s i ≡ Given (S.Face address flags) → Accepted l s i address flags
+unfolding faceItem entryRefusal faceRefusal
+accepted l s i address flags e =
+    let offers = offersOf l (entryAddress s i) in
+    let g = given-is (entryRefusal l s i) (S.Face (entryAddress s i) (entryFlags s i)) (S.Face address flags) e in
+    let t = tests-passed (eqb offers 0) (seenBefore s i) (isChoice (choiceOf offers (entryFlags s i))) (g .0) in
+    let setting = g .1 in
+    let p : entryAddress s i ≡ address = cc in
+    let q : entryFlags s i ≡ flags = cc in
+    record {
+      address-read = p;
+      flags-read = q;
+      known = rw (← p) (eqb-false offers 0 (t .0));
+      new = t .1;
+      sound = rw (← p, ← q, t .2);
+    }
+
+-- LEN answers the length of the longest SET
+module _ (l : FaceLimits) (valid : faceValid l ≡ true) where
+  pub len-taken : (rest : List ℕ) → takesFace l (l .count ∷ rest) ≡ 1 + 8 * endpoints l
+  unfolding takesFace
+  len-taken rest = let e : l .count ≡ endpoints l = omega (arith, count-most l valid) in rw (le-leb (l .count) (l .count) (omega arith)) (ap (λ (n : ℕ). 1 + 8 * n) e)
+
+  pub len-longest : (s : List ℕ) → takesFace l s ≤ 1 + 8 * endpoints l
+  unfolding takesFace
+  len-longest [] = omega arith
+  len-longest (n ∷ s) = go (leb n (l .count)) refl
+    where
+      go : (b : Bool) → leb n (l .count) ≡ b → cond b (1 + 8 * n) 0 ≤ 1 + 8 * endpoints l
+      go true e = omega (arith, leb-true n (l .count) e, count-most l valid)
+      go false e = omega arith

@@ -1,0 +1,73 @@
+-- Answers of face authentication: their entries, their length, and what they are while no setting is held. Assumes nothing.
+use mathlib.Core.Path.{_≡_, refl, ap}
+use mathlib.Core.List.{List, [], _∷_}
+use mathlib.Core.Bool.{Bool, true, false, cond, _||_}
+use Prim.Native.Nat.{ℕ, zero, suc, _+_, _*_, _≤_, _<_}
+use native.Mathlib.Numerals.{add-one}
+use native.Mathlib.Omega.{arith}
+use lib.Dec.{eqb, lit≤}
+use lib.ListN.{length, length-append}
+use Rattle.wire.specs.Endpoints.{endpointLimit}
+use Rattle.wire.specs.Number.{bytesOf}
+use Rattle.wire.specs.Overlay.{overlay}
+use Rattle.wire.specs.Uvc.{getCur, getDef, getLen, getMin, getRes}
+use Rattle.wire.proofs.Laws.Bytes.{bytes-byte}
+use Rattle.wire.proofs.Laws.Overlay.{append}
+use Rattle.request.specs.Answers.{answerBy, longest}
+use Rattle.request.proofs.Laws.Answers.{answer-len, answer-length}
+use Rattle.request.proofs.Laws.Packed.{blank}
+use Rattle.face.specs.declared.limits.FaceLimits.{FaceLimits}
+use Rattle.face.specs.Limits.{endpoints, addressAt}
+use Rattle.face.specs.Answers.{entryOf, heldAt, flagsAt, entriesOf, faceValue, faceAnswer}
+
+-- an entry whose flags are one byte
+pub entry-small : (address flags : ℕ) → flags < 256 → entryOf address flags ≡ address ∷ flags ∷ 0 ∷ 0 ∷ 0 ∷ 0 ∷ 0 ∷ 0 ∷ []
+unfolding bytesOf
+entry-small address flags h = ap (λ (l : List ℕ). address ∷ l) (bytes-byte 6 flags h)
+
+-- the entries of an answer, one after the other
+module _ (l : FaceLimits) (held : List ℕ) (code : ℕ) where
+  pub length-entries : (n : ℕ) → length (entriesOf l held code n) ≡ 8 * n
+  unfolding entriesOf bytesOf
+  length-entries zero = refl
+  length-entries (suc n) = simp length-append (omega (arith, length-entries n))
+
+  pub entries-next : (m i : ℕ) (b : List ℕ) → i < endpointLimit → b ≡ overlay blank 0 (m ∷ entriesOf l held code i)
+      → overlay b (1 + 8 * i) (entryOf (addressAt l i) (flagsAt l held code i)) ≡ overlay blank 0 (m ∷ entriesOf l held code (i + 1))
+  unfolding entriesOf bytesOf
+  entries-next m i b h e =
+      let s = m ∷ entriesOf l held code i in
+      let n : 1 + 8 * i ≡ length s = omega (arith, length-entries i) in
+      rw (e, n, add-one i) (append blank s (entryOf (addressAt l i) (flagsAt l held code i)))
+
+  pub value-length : length (faceValue l held code) ≤ longest
+  unfolding faceValue
+  value-length = go (eqb code getMin || eqb code getRes)
+    where
+      go : (b : Bool) → length (cond b (0 ∷ []) (endpoints l ∷ entriesOf l held code (endpoints l))) ≤ longest
+      go true = lit≤ tt
+      go false = omega (arith, length-entries (endpoints l))
+
+  pub answer-fits : length (faceAnswer l held code) ≤ longest
+  unfolding faceAnswer
+  answer-fits = answer-length code (1 + 8 * endpoints l) 0x03 (faceValue l held code) longest (lit≤ tt) value-length
+
+-- while no setting is held CUR is DEF
+module _ (l : FaceLimits) (held : List ℕ) (none : (address : ℕ) → heldAt held address ≡ 0) where
+  fresh-flags : (i : ℕ) → flagsAt l held getCur i ≡ flagsAt l held getDef i
+  unfolding flagsAt
+  fresh-flags i = rw (none (addressAt l i))
+
+  fresh-entries : (n : ℕ) → entriesOf l held getCur n ≡ entriesOf l held getDef n
+  unfolding entriesOf
+  fresh-entries zero = refl
+  fresh-entries (suc n) = rw (fresh-entries n, fresh-flags n)
+
+  pub fresh-answer : faceAnswer l held getCur ≡ faceAnswer l held getDef
+  unfolding faceAnswer answerBy faceValue
+  fresh-answer = rw (fresh-entries (endpoints l))
+
+-- LEN's answer is the length of the longest SET
+pub len-answer : (l : FaceLimits) (held : List ℕ) → faceAnswer l held getLen ≡ bytesOf 2 (1 + 8 * endpoints l)
+unfolding faceAnswer
+len-answer l held = answer-len getLen (1 + 8 * endpoints l) 0x03 (faceValue l held getLen) refl

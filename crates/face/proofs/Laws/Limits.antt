@@ -1,0 +1,151 @@
+-- The endpoints that a profile lists: what a valid one says of each, and where an address stands among them. Assumes nothing.
+use mathlib.Core.Path.{_≡_, refl, ap, _∙_}
+use mathlib.Core.Bool.{Bool, true, false, cond, _||_, and-eq-true-iff}
+use Prim.Native.Nat.{ℕ, zero, suc, _+_, _-_, _/_, _≤_, _<_}
+use native.Mathlib.Numerals.{add-one, sub-one}
+use native.Mathlib.Omega.{arith}
+use lib.Dec.{ltb, eqb}
+use borrow.Author.Tests.{eq-eqb, ne-eqb, eqb-true, eqb-false, lt-ltb, le-ltb, ltb-true, leb-true}
+use Rattle.wire.specs.Endpoints.{firstAddress, lastAddress, endpointLimit}
+use Rattle.face.specs.declared.limits.FaceLimits.{FaceLimits}
+use Rattle.face.specs.Limits.{endpoints, addressAt, offersAt, allBelow, offersValid, addressBefore, endpointValid, faceValid, offersFrom, offersOf, placeFrom, placeOf}
+
+-- a place behind the first comes after the one before it
+pub before-next : (l : FaceLimits) (i : ℕ) → (i ≡ 0 → ⊥) → addressAt l (i - 1) ≡ addressBefore l i
+unfolding addressBefore
+before-next l zero p = absurd (p refl)
+before-next l (suc i) p = rw sub-one
+
+-- a listed endpoint of a valid profile
+pub record Listed (address offers : ℕ) : Type 0 where
+  pub first : firstAddress ≤ address
+  pub last : address ≤ lastAddress
+  pub least : 2 ≤ offers
+  pub most : offers ≤ 5
+
+-- what holds of each number below n
+pub all-at : (n : ℕ) (f : ℕ → Bool) → allBelow n f ≡ true → (i : ℕ) → i < n → f i ≡ true
+unfolding allBelow
+all-at zero f h i p = absurd (omega arith)
+all-at (suc n) f h i p =
+    let both = and-eq-true-iff (allBelow n f) (f n) .0 h in
+    go (eqb i n) refl (both .1) (all-at n f (both .0) i)
+  where
+    go : (b : Bool) → eqb i n ≡ b → f n ≡ true → (i < n → f i ≡ true) → f i ≡ true
+    go true e last before = ap f (eqb-true i n e) ∙ last
+    go false e last before = let q = eqb-false i n e in before (omega arith)
+
+pub all-of : (n : ℕ) (f : ℕ → Bool) → ((i : ℕ) → i < n → f i ≡ true) → allBelow n f ≡ true
+unfolding allBelow
+all-of zero f h = refl
+all-of (suc n) f h = rw (all-of n f (λ i p. h i (omega arith)), h n (omega arith))
+
+pub all-same : (n : ℕ) (f g : ℕ → Bool) → ((i : ℕ) → i < n → f i ≡ g i) → allBelow n f ≡ allBelow n g
+unfolding allBelow
+all-same zero f g h = refl
+all-same (suc n) f g h = rw (all-same n f g (λ i p. h i (omega arith)), h n (omega arith))
+
+offers-between : (o : ℕ) → offersValid o ≡ true → (2 ≤ o) × (o ≤ 5)
+offers-between o h = go (eqb (o / 2) 1) (eqb (o / 2) 2) refl refl h
+  where
+    go : (a b : Bool) → eqb (o / 2) 1 ≡ a → eqb (o / 2) 2 ≡ b → a || b ≡ true → (2 ≤ o) × (o ≤ 5)
+    go true b e f g = omega (arith, eqb-true (o / 2) 1 e)
+    go false true e f g = omega (arith, eqb-true (o / 2) 2 f)
+    go false false e f g = let z : _≡_ {A = ℕ} 0 1 = cc in absurd (omega arith)
+
+module _ (l : FaceLimits) (valid : faceValid l ≡ true) where
+  pub count-least : 1 ≤ l .count
+  unfolding faceValid
+  count-least = leb-true 1 (l .count) (simp and-eq-true-iff at valid .0 .0)
+
+  pub count-most : l .count ≤ endpointLimit
+  unfolding faceValid
+  count-most = leb-true (l .count) endpointLimit (simp and-eq-true-iff at valid .0 .1)
+
+  place-valid : (i : ℕ) → i < l .count → (addressBefore l i < addressAt l i) × (addressAt l i ≤ lastAddress) × (2 ≤ offersAt l i) × (offersAt l i ≤ 5)
+  unfolding faceValid endpointValid
+  place-valid i h =
+      let v = all-at endpointLimit (endpointValid l) (simp and-eq-true-iff at valid .1) i (omega (arith, count-most)) in
+      let w = simp and-eq-true-iff at (rw (lt-ltb i (l .count) h) at v) in
+      let o = offers-between (offersAt l i) (w .1) in
+      (ltb-true (addressBefore l i) (addressAt l i) (w .0 .0), leb-true (addressAt l i) lastAddress (w .0 .1), o .0, o .1)
+
+  above : (i : ℕ) → i < l .count → firstAddress ≤ addressAt l i
+  unfolding addressBefore
+  above zero h = place-valid zero h .0
+  above (suc i) h = omega (arith, above i (omega arith), place-valid (suc i) h .0)
+
+  pub place-listed : (i : ℕ) → i < l .count → Listed (addressAt l i) (offersAt l i)
+  place-listed i h = let p = place-valid i h in record { first = above i h; last = p .1; least = p .2; most = p .3 }
+
+  -- what a look-up finds is listed
+  found : (address n i : ℕ) → i + n ≤ l .count → (offersFrom l address n i ≡ 0 → ⊥) → Listed address (offersFrom l address n i)
+  unfolding offersFrom
+  found address zero i h p = absurd (p refl)
+  found address (suc n) i h p = go (eqb (addressAt l i) address) refl p (found address n (suc i) (omega arith))
+    where
+      go : (b : Bool) → eqb (addressAt l i) address ≡ b → (cond b (offersAt l i) (offersFrom l address n (suc i)) ≡ 0 → ⊥)
+          → ((offersFrom l address n (suc i) ≡ 0 → ⊥) → Listed address (offersFrom l address n (suc i)))
+          → Listed address (cond b (offersAt l i) (offersFrom l address n (suc i)))
+      go true e q rest = rw (eqb-true (addressAt l i) address e) at (place-listed i (omega arith))
+      go false e q rest = rest q
+
+  pub listed : (address : ℕ) → (offersOf l address ≡ 0 → ⊥) → Listed address (offersOf l address)
+  unfolding offersOf
+  listed address p = found address (endpoints l) 0 (omega (arith, count-most)) p
+
+-- looking an address up: at its place, and past another's
+module _ (l : FaceLimits) (address n i : ℕ) (h : i < n) where
+  abbrev left : n - i ≡ suc (n - (i + 1))
+  left = omega arith
+
+  pub place-here : addressAt l i ≡ address → placeFrom l address (n - i) i ≡ i
+  unfolding placeFrom
+  place-here e = rw (left, eq-eqb (addressAt l i) address e)
+
+  pub place-next : (addressAt l i ≡ address → ⊥) → placeFrom l address (n - i) i ≡ placeFrom l address (n - (i + 1)) (i + 1)
+  unfolding placeFrom
+  place-next p = rw (left, ne-eqb (addressAt l i) address p, add-one i)
+
+-- what stands at its place
+module _ (l : FaceLimits) (address : ℕ) where
+  abbrev at-place : ℕ → ℕ
+  at-place p = cond (ltb p endpointLimit) (offersAt l p) 0
+
+  offers-from : (n i : ℕ) → i + n ≤ endpointLimit → offersFrom l address n i ≡ at-place (placeFrom l address n i)
+  unfolding offersFrom placeFrom
+  offers-from zero i h = refl
+  offers-from (suc n) i h = go (eqb (addressAt l i) address) (offers-from n (suc i) (omega arith))
+    where
+      go : (b : Bool) → offersFrom l address n (suc i) ≡ at-place (placeFrom l address n (suc i))
+          → cond b (offersAt l i) (offersFrom l address n (suc i)) ≡ at-place (cond b i (placeFrom l address n (suc i)))
+      go true e = rw (lt-ltb i endpointLimit (omega arith))
+      go false e = e
+
+  address-from : (n i : ℕ) → placeFrom l address n i < endpointLimit → addressAt l (placeFrom l address n i) ≡ address
+  unfolding placeFrom
+  address-from zero i h = absurd (omega arith)
+  address-from (suc n) i h = go (eqb (addressAt l i) address) refl h (address-from n (suc i))
+    where
+      go : (b : Bool) → eqb (addressAt l i) address ≡ b → cond b i (placeFrom l address n (suc i)) < endpointLimit
+          → (placeFrom l address n (suc i) < endpointLimit → addressAt l (placeFrom l address n (suc i)) ≡ address)
+          → addressAt l (cond b i (placeFrom l address n (suc i))) ≡ address
+      go true e g rest = eqb-true (addressAt l i) address e
+      go false e g rest = rest g
+
+  offers-place : offersOf l address ≡ at-place (placeOf l address)
+  unfolding offersOf placeOf
+  offers-place = offers-from (endpoints l) 0 (omega arith)
+
+  -- p is the place that the code found
+  module _ (p : ℕ) (e : p ≡ placeOf l address) where
+    pub offers-none : endpointLimit ≤ p → offersOf l address ≡ 0
+    offers-none h = offers-place ∙ rw (← e, le-ltb p endpointLimit h)
+
+    module _ (h : p < endpointLimit) where
+      pub offers-placed : offersOf l address ≡ offersAt l p
+      offers-placed = offers-place ∙ rw (← e, lt-ltb p endpointLimit h)
+
+      pub address-placed : addressAt l p ≡ address
+      unfolding placeOf
+      address-placed = rw e (address-from (endpoints l) 0 (rw (← e) h))

@@ -1,0 +1,57 @@
+-- Document 01, "Face": the endpoints that a profile lists.
+use Prim.Native.Nat.{ℕ, zero, suc, _-_, _/_, min}
+use mathlib.Core.Bool.{Bool, true, cond, _&&_, _||_}
+use lib.Dec.{leb, ltb, eqb}
+use lib.ListN.{getD}
+use Rattle.wire.specs.Endpoints.{firstAddress, lastAddress, endpointLimit}
+use Rattle.face.specs.declared.limits.FaceLimits.{FaceLimits}
+
+-- how many it lists; a valid profile's count is no more than its places
+abbrev pub endpoints : FaceLimits → ℕ
+endpoints l = min (l .count) endpointLimit
+
+abbrev pub addressAt : FaceLimits → ℕ → ℕ
+addressAt l i = getD (l .addresses) i 0
+
+abbrev pub offersAt : FaceLimits → ℕ → ℕ
+offersAt l i = getD (l .offers) i 0
+
+-- f holds of each number below n
+unfoldable pub allBelow : ℕ → (ℕ → Bool) → Bool
+allBelow zero f = true
+allBelow (suc n) f = allBelow n f && f n
+
+-- exactly one of D1 and D2, with D0 or without
+abbrev pub offersValid : ℕ → Bool
+offersValid o = eqb (o / 2) 1 || eqb (o / 2) 2
+
+-- the address before place i's, which that must be above
+unfoldable pub addressBefore : FaceLimits → ℕ → ℕ
+addressBefore l zero = firstAddress - 1
+addressBefore l (suc i) = addressAt l i
+
+-- place i: an endpoint, or unused and zero
+unfoldable pub endpointValid : FaceLimits → ℕ → Bool
+endpointValid l i =
+    cond (ltb i (l .count))
+    (ltb (addressBefore l i) (addressAt l i) && leb (addressAt l i) lastAddress && offersValid (offersAt l i))
+    (eqb (addressAt l i) 0 && eqb (offersAt l i) 0)
+
+unfoldable pub faceValid : FaceLimits → Bool
+faceValid l = leb 1 (l .count) && leb (l .count) endpointLimit && allBelow endpointLimit (endpointValid l)
+
+-- the flags that the endpoint at an address offers, among the n places from i on; 0 where it isn't listed
+unfoldable pub offersFrom : FaceLimits → ℕ → ℕ → ℕ → ℕ
+offersFrom l address zero i = 0
+offersFrom l address (suc n) i = cond (eqb (addressAt l i) address) (offersAt l i) (offersFrom l address n (suc i))
+
+unfoldable pub offersOf : FaceLimits → ℕ → ℕ
+offersOf l address = offersFrom l address (endpoints l) 0
+
+-- the first place that lists an address, among the n places from i on; endpointLimit where none does
+unfoldable pub placeFrom : FaceLimits → ℕ → ℕ → ℕ → ℕ
+placeFrom l address zero i = endpointLimit
+placeFrom l address (suc n) i = cond (eqb (addressAt l i) address) i (placeFrom l address n (suc i))
+
+unfoldable pub placeOf : FaceLimits → ℕ → ℕ
+placeOf l address = placeFrom l address (endpoints l) 0

@@ -1,0 +1,154 @@
+-- What the counts of a number's bits say of the bits. Assumes nothing.
+use mathlib.Core.Path.{_≡_, refl, ap, ap₂, sym, _∙_}
+use mathlib.Core.List.{List, [], _∷_}
+use mathlib.Core.Bool.{Bool, true, false, cond, _&&_}
+use Prim.Native.Nat.{ℕ, zero, suc, _+_, _*_, _/_, _%_, _^_, _≤_, _<_}
+use native.Mathlib.Nat.{pow-succ', lt-of-lt-of-le, div-eq-of-lt, mod-lt, mod-add-div, mul-assoc}
+use native.Mathlib.Omega.{arith}
+use lib.Pow.{pow-mono, pow-lt}
+use lib.Dec.{eqb, ltb, lit<}
+use lib.ListN.{length}
+use lib.Count.{ones, ones-step, ones-ones, trailingZeros, under}
+use borrow.Author.Tests.{ltb-true, ltb-false, eqb-true, eqb-false, eq-eqb, ne-eqb}
+use Rattle.flags.specs.declared.Choice.the-variants.{At, Refused}
+use Rattle.flags.specs.Flags.{isSet, bitsOf, count, first, choiceOf}
+
+-- the number that bits stand for, D0 first
+digit : Bool → ℕ
+digit true = 1
+digit false = 0
+
+value : List Bool → ℕ
+value [] = 0
+value (b ∷ bs) = digit b + 2 * value bs
+
+digit-of : (n : ℕ) → digit (eqb (n % 2) 1) ≡ n % 2
+unfolding digit
+digit-of n = go (eqb (n % 2) 1) refl
+  where
+    go : (b : Bool) → eqb (n % 2) 1 ≡ b → digit b ≡ n % 2
+    go true e = omega (arith, eqb-true (n % 2) 1 e)
+    go false e = omega (arith, eqb-false (n % 2) 1 e)
+
+value-bits : (k n : ℕ) → n < 2 ^ k → value (bitsOf k n) ≡ n
+unfolding value bitsOf
+value-bits zero n h = omega arith
+value-bits (suc k) n h =
+    let ih : value (bitsOf k (n / 2)) ≡ n / 2 = value-bits k (n / 2) (omega (arith, pow-succ' 2 k)) in
+    omega (arith, digit-of n)
+
+length-bits : (k n : ℕ) → length (bitsOf k n) ≡ k
+unfolding bitsOf
+length-bits zero n = refl
+length-bits (suc k) n = ap suc (length-bits k (n / 2))
+
+-- a digit in front of a number
+ones-digit : (d v : ℕ) → d < 2 → ones (d + 2 * v) ≡ d + ones v
+ones-digit d v h =
+    let r : (d + 2 * v) % 2 ≡ d = omega arith in
+    let q : (d + 2 * v) / 2 ≡ v = omega arith in
+    ones-step (d + 2 * v) ∙ ap₂ (λ (x y : ℕ). x + ones y) r q
+
+zeros-digit : (k d v : ℕ) → d < 2 → trailingZeros (suc k) (d + 2 * v) ≡ under d (trailingZeros k v)
+unfolding trailingZeros
+zeros-digit k d v h =
+    let r : (d + 2 * v) % 2 ≡ d = omega arith in
+    let q : (d + 2 * v) / 2 ≡ v = omega arith in
+    ap₂ (λ (x y : ℕ). under x (trailingZeros k y)) r q
+
+ones-value : (bs : List Bool) → ones (value bs) ≡ count bs
+unfolding value count digit
+ones-value [] = ones-ones 0
+ones-value (true ∷ bs) = omega (arith, ones-digit 1 (value bs) (lit< tt), ones-value bs)
+ones-value (false ∷ bs) = omega (arith, ones-digit 0 (value bs) (lit< tt), ones-value bs)
+
+zeros-value : (k : ℕ) (bs : List Bool) → 0 < count bs → length bs ≤ k → trailingZeros k (value bs) ≡ first bs
+unfolding value count digit first
+zeros-value k [] p h = absurd (omega arith)
+zeros-value zero (b ∷ bs) p h = absurd (omega arith)
+zeros-value (suc k) (true ∷ bs) p h = zeros-digit k 1 (value bs) (lit< tt)
+zeros-value (suc k) (false ∷ bs) p h = zeros-digit k 0 (value bs) (lit< tt) ∙ ap suc (zeros-value k bs p (omega arith))
+
+-- no bit stands at a place past the width
+pub high-clear : (w n k : ℕ) → n < 2 ^ w → w ≤ k → isSet n k ≡ false
+unfolding isSet
+high-clear w n k h p =
+    let small : n < 2 ^ k = lt-of-lt-of-le h (pow-mono p) in
+    rw (div-eq-of-lt small)
+
+-- the k lowest bits are those of the remainder
+more-bits : (k r q : ℕ) → bitsOf k (r + 2 ^ k * q) ≡ bitsOf k r
+unfolding bitsOf
+more-bits zero r q = refl
+more-bits (suc k) r q =
+    let e : 2 ^ suc k * q ≡ 2 * (2 ^ k * q) = ap (λ (m : ℕ). m * q) (pow-succ' 2 k) ∙ mul-assoc 2 (2 ^ k) q in
+    let m : (r + 2 * (2 ^ k * q)) % 2 ≡ r % 2 = omega arith in
+    let d : (r + 2 * (2 ^ k * q)) / 2 ≡ r / 2 + 2 ^ k * q = omega arith in
+    rw (e, m, d, more-bits k (r / 2) q)
+
+low-bits : (k n : ℕ) → bitsOf k (n % 2 ^ k) ≡ bitsOf k n
+low-bits k n = sym (more-bits k (n % 2 ^ k) (n / 2 ^ k)) ∙ ap (bitsOf k) (mod-add-div n (2 ^ k))
+
+-- `choiceOf`, by what the machine counts in the 56 lowest bits of a word
+module _ (offered word : ℕ) where
+  abbrev n : ℕ
+  n = word % 2 ^ 56
+
+  small : n < 2 ^ 56
+  small = mod-lt word (lit< tt)
+
+  ones-bits : ones n ≡ count (bitsOf 56 word)
+  ones-bits = ap ones (sym (value-bits 56 n small)) ∙ ones-value (bitsOf 56 n) ∙ ap count (low-bits 56 word)
+
+  zeros-bits : ones n ≡ 1 → trailingZeros 64 n ≡ first (bitsOf 56 word)
+  zeros-bits p =
+      let q : 0 < count (bitsOf 56 n) = omega (arith, ones-bits, ap count (low-bits 56 word)) in
+      ap (trailingZeros 64) (sym (value-bits 56 n small)) ∙ zeros-value 64 (bitsOf 56 n) q (omega (arith, length-bits 56 n)) ∙ ap first (low-bits 56 word)
+
+  pub not-one : (ones n ≡ 1 → ⊥) → choiceOf offered word ≡ Refused
+  unfolding choiceOf
+  not-one p = rw (ne-eqb (count (bitsOf 56 word)) 1 (λ q. p (ones-bits ∙ q)))
+
+  pub one : ones n ≡ 1 → choiceOf offered word ≡ cond (isSet offered (trailingZeros 64 n)) (At (trailingZeros 64 n)) Refused
+  unfolding choiceOf
+  one p = rw (eq-eqb (count (bitsOf 56 word)) 1 (sym ones-bits ∙ p), zeros-bits p)
+
+-- bits of which one is set stand for the power of its place
+none-value : (bs : List Bool) → count bs ≡ 0 → value bs ≡ 0
+unfolding value count digit
+none-value [] e = refl
+none-value (true ∷ bs) e = absurd (omega arith)
+none-value (false ∷ bs) e = omega (arith, none-value bs e)
+
+one-value : (bs : List Bool) → count bs ≡ 1 → value bs ≡ 2 ^ first bs
+unfolding value count digit first
+one-value [] e = absurd (omega arith)
+one-value (true ∷ bs) e = omega (arith, none-value bs (omega arith))
+one-value (false ∷ bs) e = omega (arith, one-value bs e, pow-succ' 2 (first bs))
+
+-- a bit that is set stands within the width
+pub set-below : (w n k : ℕ) → n < 2 ^ w → isSet n k ≡ true → k < w
+set-below w n k h e = go (ltb k w) refl
+  where
+    go : (b : Bool) → ltb k w ≡ b → k < w
+    go true f = ltb-true k w f
+    go false f = let clear = high-clear w n k h (ltb-false k w f) in let z : _≡_ {A = ℕ} 0 1 = cc in absurd (omega arith)
+
+-- a word that chooses is the power of the place it chooses, and that is within the width of what is offered
+module _ (w offered word p : ℕ) (h : offered < 2 ^ w) (g : word < 2 ^ 56) (e : choiceOf offered word ≡ At p) where
+  abbrev bits : List Bool
+  bits = bitsOf 56 word
+
+  tested : (a b : Bool) → eqb (count bits) 1 ≡ a → isSet offered (first bits) ≡ b → cond (a && b) (At (first bits)) Refused ≡ At p → (word ≡ 2 ^ p) × (p < w)
+  tested true true m n f =
+      let q : first bits ≡ p = cc in
+      rw (← q) (sym (value-bits 56 word g) ∙ one-value bits (eqb-true (count bits) 1 m), set-below w offered (first bits) h n)
+  tested true false m n f = let z : _≡_ {A = ℕ} 0 1 = cc in absurd (omega arith)
+  tested false b m n f = let z : _≡_ {A = ℕ} 0 1 = cc in absurd (omega arith)
+
+  pub chosen-is : (word ≡ 2 ^ p) × (p < w)
+  unfolding choiceOf
+  chosen-is = tested (eqb (count bits) 1) (isSet offered (first bits)) refl refl e
+
+  pub chosen-below : word < 2 ^ w
+  chosen-below = rw (chosen-is .0) (pow-lt (chosen-is .1))

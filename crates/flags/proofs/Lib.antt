@@ -1,0 +1,2 @@
+-- Laws that the proofs share and the crates above cite.
+pub mod Laws

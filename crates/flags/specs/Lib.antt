@@ -1,0 +1,2 @@
+-- What a flag word chooses.
+pub mod Flags

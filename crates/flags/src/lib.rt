@@ -1,0 +1,36 @@
+// Flag words: 56 bits, gathered from seven bytes, of which exactly one is to be set, and that one offered.
+// Document 01, "The five controls": exposure compensation and face authentication choose by such a word. `wire::flag_word` gathers it.
+// The flag is found by the processor's count of ones and of trailing zeros.
+ghost use mathlib.Core.Path.{_≡_};
+ghost use Rattle.flags.specs.Flags.{isSet, choiceOf};
+
+// The place of the one flag that is set, D0 being 0; or no choice that is offered.
+pub enum Choice {
+    At(u8),
+    Refused,
+}
+
+// Whether the bit at a place is set.
+pub fn is_set(word: u64, place: u8) -> bool
+    ensures { λ r. ⌜ r ≡ isSet word place ⌝ }
+{
+    if 64 <= place {
+        return false;
+    }
+    (word >> place) % 2 == 1
+}
+
+// The flag that a gathered word of 56 bits chooses.
+pub fn one_flag(word: u64, offered: u8) -> Choice
+    ensures { λ r. ⌜ r ≡ choiceOf offered word ⌝ }
+{
+    let n = word % 0x100_0000_0000_0000;
+    if u64::count_ones(n) != 1 {
+        return Choice::Refused;
+    }
+    let place = u64::trailing_zeros(n) as u8;
+    if is_set(offered as u64, place) {
+        return Choice::At(place);
+    }
+    Choice::Refused
+}

@@ -1,0 +1,60 @@
+-- The payload header of a packet: byte 0 its length, byte 1 flags, the fields that PTS and SCR announce, and the metadata to its end.
+use Prim.Native.Nat.{ℕ, _+_, _-_}
+use mathlib.Core.List.{List, [], _∷_}
+use mathlib.Core.Bool.{Bool, cond}
+use lib.ListN.{length, getD}
+use lib.Dec.{ltb, eqb}
+use Rattle.flags.specs.Flags.{isSet}
+use Rattle.packet.specs.declared.Flag.{Flag}
+use Rattle.packet.specs.declared.Flag.the-variants.{Fid, Eof, Pts, Scr, Err}
+use Rattle.packet.specs.declared.PayloadHeader.{PayloadHeader}
+use Rattle.packet.specs.Codes.{cutHeader, shortHeader}
+use Rattle.wire.specs.Rows.{_⇒_, firstOf}
+use Rattle.wire.specs.Parts.{nowhere}
+
+abbrev pub lengthOf : List ℕ → ℕ
+lengthOf p = getD p 0 0
+
+abbrev pub flagsOf : List ℕ → ℕ
+flagsOf p = getD p 1 0
+
+-- the bits of the flags byte: D0 frame id, D1 end of frame, D2 presentation time, D3 source clock, D6 error
+abbrev pub bitOf : Flag → ℕ
+bitOf Fid = 0
+bitOf Eof = 1
+bitOf Pts = 2
+bitOf Scr = 3
+bitOf Err = 6
+
+unfoldable pub hasFlag : ℕ → Flag → Bool
+hasFlag flags flag = isSet flags (bitOf flag)
+
+-- PTS announces a field of 4 bytes, SCR one of 6
+abbrev pub fieldLength : ℕ → Flag → ℕ → ℕ
+fieldLength flags flag len = cond (hasFlag flags flag) len 0
+
+abbrev pub fieldsLength : ℕ → ℕ
+fieldsLength flags = 2 + fieldLength flags Pts 4 + fieldLength flags Scr 6
+
+unfoldable pub headerRefusal : List ℕ → ℕ
+headerRefusal p =
+    firstOf
+    ((ltb (length p) 2 ⇒ cutHeader)
+    ∷ (ltb (length p) (lengthOf p) ⇒ cutHeader)
+    ∷ (ltb (lengthOf p) (fieldsLength (flagsOf p)) ⇒ shortHeader)
+    ∷ [])
+
+-- a refusal: flags 0 and an empty part
+abbrev pub refusedHeader : ℕ → PayloadHeader
+refusedHeader code = record { code = code; flags = 0; metadata = nowhere }
+
+-- the flags byte as it stands, and the rest of the header as the metadata
+unfoldable pub headerOf : List ℕ → PayloadHeader
+headerOf p =
+    cond (eqb (headerRefusal p) 0)
+    (record {
+      code = 0;
+      flags = flagsOf p;
+      metadata = record { at = fieldsLength (flagsOf p); len = lengthOf p - fieldsLength (flagsOf p) };
+    })
+    (refusedHeader (headerRefusal p))
