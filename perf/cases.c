@@ -170,6 +170,10 @@ CASE(count_200) { return PLAIN(count, block_200, n); }
 CASE(count_64k) { return PLAIN(count, block_64k, n); }
 CASE(item_200) { return PLAIN(item, block_200, 9, n); }
 CASE(item_64k) { return PLAIN(item, block_64k, 8000, n); }
+#ifdef VIEWS
+CASE(view_200) { return PLAIN(view, block_200, 9, n); }
+CASE(view_64k) { return PLAIN(view, block_64k, 8000, n); }
+#endif
 CASE(append_16) { return PLAIN(append, buffer, 6, payload_16, sizeof payload_16, n); }
 CASE(append_1000) { return PLAIN(append, buffer, 6, payload_1000, sizeof payload_1000, n); }
 CASE(header) { return PLAIN(header, packets, n); }
@@ -200,15 +204,19 @@ const struct test tests[] = {
     {"write, 23 bytes", write_small, 10000},
     {"snapshot::check, 250 bytes", form, 10000},
     {"snapshot::check, 23 bytes", form_small, 10000},
-    {"snapshot::merge, 250 and 250 bytes", merge, 10000},
-    {"snapshot::merge, 23 and 23 bytes", merge_small, 10000},
+    {"merging::merge, 250 and 250 bytes", merge, 10000},
+    {"merging::merge, 23 and 23 bytes", merge_small, 10000},
     {"frame::count, 10 items, 200 bytes", count_200, 10000},
     {"frame::count, 8191 items, 65535 bytes", count_64k, 100},
     {"frame::item, last of 10, 200 bytes", item_200, 10000},
     {"frame::item, number 8000, 65535 bytes", item_64k, 100},
+#ifdef VIEWS
+    {"frame::item_view, last of 10, 200 bytes", view_200, 10000},
+    {"frame::item_view, number 8000, 65535 bytes", view_64k, 100},
+#endif
     {"frame::append, 16 bytes", append_16, 10000},
     {"frame::append, 1000 bytes", append_1000, 10000},
-    {"frame::header", header, 10000},
+    {"packet::header", header, 10000},
     {"descriptors::check, 712 bytes", check_712, 10000},
     {"descriptors::check, 65534 bytes", check_64k, 100},
     {"descriptors::property, first, 712 bytes", property_first, 10000},

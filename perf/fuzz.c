@@ -255,6 +255,9 @@ static void frames(void)
     uint32_t id = below(8);
     same("count", probe_count(block, 2 * n, 1), peer_count(block, 2 * n, 1), block, block, 0);
     same("item", probe_item(block, 2 * n, k, 1), peer_item(block, 2 * n, k, 1), block, block, 0);
+#ifdef VIEWS
+    same("item_view", probe_view(block, 2 * n, k, 1), peer_view(block, 2 * n, k, 1), block, block, 0);
+#endif
     memset(ours, 0xEE, sizeof ours);
     memset(peers, 0xEE, sizeof peers);
     uint64_t x = probe_append(ours, room, id, block, 2 * len, times), y = peer_append(peers, room, id, block, 2 * len, times);

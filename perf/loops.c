@@ -188,6 +188,19 @@ uint64_t peer_item(const uint8_t *blocks, size_t len, size_t k, size_t n)
     return sum;
 }
 
+uint64_t peer_view(const uint8_t *blocks, size_t len, size_t k, size_t n)
+{
+    uint64_t sum = 0;
+
+    for (size_t i = 0, second = 0; i < n; i++, second ^= 1) {
+        struct item f;
+        const uint8_t *block = half(blocks, len, second);
+        uint8_t code = frame_item(block, half_len(len, second), k, &f);
+        sum = mix(mix(mix(mix(sum, code), f.id), f.len), f.len ? block[f.at] : 0);
+    }
+    return sum;
+}
+
 uint64_t peer_append(uint8_t *buf, size_t room, uint32_t id, const uint8_t *payloads, size_t len, size_t n)
 {
     uint64_t sum = 0;

@@ -32,6 +32,7 @@ enum { RECORD = 91 };
                       size_t room, size_t n); \
     uint64_t P##count(const uint8_t *blocks, size_t len, size_t n); \
     uint64_t P##item(const uint8_t *blocks, size_t len, size_t k, size_t n); \
+    uint64_t P##view(const uint8_t *blocks, size_t len, size_t k, size_t n); \
     uint64_t P##append(uint8_t *buf, size_t room, uint32_t id, const uint8_t *payloads, size_t len, size_t n); \
     uint64_t P##header(const uint8_t *packets, size_t len, size_t n); \
     uint64_t P##check(const uint8_t *sets, size_t len, size_t n); \

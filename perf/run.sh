@@ -1,7 +1,7 @@
 #!/bin/sh
 # Compares every public call with the same rules in C: proves and archives the crate of loops (perf/probe), links it with the peer, holds the two
 # to each other on random inputs, and prints how many instructions a call takes on each side; the times instead where valgrind is missing.
-# `run.sh --unproved` proves nothing and takes a minute: for trying a shape.
+# `run.sh --unproved` proves nothing and takes a minute: for trying a shape. It also has the loops of perf/unproved, which take a proof by hand.
 # It is no part of the gate, and the loops are no crate of the project: their files have names that `rt` passes over, and they are proved in a copy
 # below target/. What `rt` has proved before is not proved again. CC names the C compiler; the peer is built with -O2.
 cd "$(dirname "$0")/.." || exit 2
@@ -17,8 +17,11 @@ for name in $names; do cp -r "crates/$name" "$tree/crates/" || exit 2; done
     to=$tree/crates/probe/${file%.txt}
     mkdir -p "$(dirname "$to")" && cp "perf/probe/$file" "$to" || exit 2
 done || exit 2
+also=
 if [ "$1" = --unproved ]; then
     archive=$out/unproved/libprobe.a
+    also=-DVIEWS
+    cp perf/unproved/views.rt.txt "$tree/crates/probe/src/views.rt" || exit 2
     perf/unproved.sh "$tree" "$out/unproved" || exit 1
     echo "unproved"
 else
@@ -32,7 +35,7 @@ else
 fi
 
 for part in camera snapshot frame descriptors loops cases bench fuzz; do
-    ${CC:-gcc} -std=c11 -O2 -Wall -Wextra -Werror -Ic -c "perf/$part.c" -o "$out/$part.o" || exit 1
+    ${CC:-gcc} -std=c11 -O2 -Wall -Wextra -Werror $also -Ic -c "perf/$part.c" -o "$out/$part.o" || exit 1
 done
 link() { # MAIN OBJECT...
     main=$1

@@ -17,7 +17,7 @@ END
 chmod +x "$out/tools/bin/clang"
 
 cp "$tree"/crates/probe/src/*.rt "$out/src/" && rm -f "$out/src/lib.rt" "$out/module.bc" && : >"$out/stdout" || exit 2
-{ sed '/^pub use/d' "$tree/crates/probe/src/lib.rt" && echo 'fn main() {}'; } >"$out/src/main.rt"
+{ sed '/^pub use/d' "$tree/crates/probe/src/lib.rt" && echo 'mod views;' && echo 'fn main() {}'; } >"$out/src/main.rt"
 set -- --lib "std=$home/libs/std/src/lib.rt"
 for path in "$tree"/crates/*/; do
     name=$(basename "$path")

@@ -6,7 +6,8 @@ use mathlib.Core.List.{List, [], _∷_}
 use Rattle.wire.specs.Number.{number, leAt}
 use Rattle.descriptors.specs.declared.header.Interface.the-variants.{Nowhere, First}
 use Rattle.descriptors.specs.Codes.{badField, pastParent}
-use Rattle.descriptors.specs.Header.{allowed, goodFields, propertyRefusal, subsetRefusal, refusal, descriptorAt}
+use Rattle.registry.specs.Registry.{goodFields}
+use Rattle.descriptors.specs.Header.{allowed, propertyRefusal, subsetRefusal, refusal, descriptorAt}
 use Rattle.descriptors.specs.Reading.{refused, sound, contents, contentsOf, goodHeader, setOf}
 
 printed : List ℕ

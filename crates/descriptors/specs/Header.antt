@@ -7,7 +7,8 @@ use mathlib.Core.Bool.{Bool, not, _&&_, _||_, cond}
 use lib.ListN.{getD}
 use lib.Dec.{ltb, leb, eqb}
 use Rattle.wire.specs.Number.{leAt}
-use Rattle.wire.specs.Rows.{_⇒_, firstOf, allOf}
+use Rattle.wire.specs.Rows.{_⇒_, firstOf}
+use Rattle.registry.specs.Registry.{goodFields}
 use Rattle.descriptors.specs.declared.header.Interface.{Interface}
 use Rattle.descriptors.specs.declared.header.Interface.the-variants.{Nowhere, First}
 use Rattle.descriptors.specs.declared.header.Parent.{Parent}
@@ -62,22 +63,6 @@ unfoldable pub allowed : Parent → ℕ → Bool
 allowed Set t = eqb t configuration || isFeature t
 allowed Configuration t = eqb t function || isFeature t
 allowed (Function i) t = isFeature t
-
--- what a property's fields must be, one test for each: data type 1 to 7, a name of an even length of at least 2 that ends in a zero pair,
--- a length that is 10 and name and data, and four data bytes where the data type is 4 or 5
-abbrev pub propertyTests : (len kind name ending value : ℕ) → List Bool
-propertyTests len kind name ending value =
-    leb 1 kind
-    ∷ leb kind 7
-    ∷ leb 2 name
-    ∷ eqb (name % 2) 0
-    ∷ eqb ending 0
-    ∷ eqb len (10 + name + value)
-    ∷ (not (eqb kind 4 || eqb kind 5) || eqb value 4)
-    ∷ []
-
-unfoldable pub goodFields : (len kind name ending value : ℕ) → Bool
-goodFields len kind name ending value = allOf (propertyTests len kind name ending value)
 
 abbrev pub goodProperty : List ℕ → ℕ → Bool
 goodProperty s at = goodFields (lengthAt s at) (kindAt s at) (nameLengthAt s at) (nameEndAt s at) (dataLengthAt s at)

@@ -15,7 +15,8 @@ use Rattle.descriptors.specs.declared.header.Descriptor.the-variants.{Re
 use Rattle.descriptors.specs.Codes.{pastParent, badType, badLength, badField}
 use Rattle.wire.specs.Rows.{_⇒_, firstOf, allOf}
 use Rattle.descriptors.specs.Header.{lengthAt, typeAt, reservedAt, totalAt, kindAt, nameLengthAt, nameEndAt, dataLengthAt}
-use Rattle.descriptors.specs.Header.{isSubset, isProperty, allowed, propertyTests, goodFields, goodProperty}
+use Rattle.registry.specs.Registry.{propertyTests, goodFields}
+use Rattle.descriptors.specs.Header.{isSubset, isProperty, allowed, goodProperty}
 use Rattle.descriptors.specs.Header.{propertyRefusal, subsetRefusal, refusal, inner, unless, descriptorAt}
 use Rattle.descriptors.specs.Look.{subsetAt, Looked}
 

@@ -14,7 +14,8 @@ use Rattle.descriptors.specs.declared.header.Descriptor.the-variants.{Re
 use Rattle.descriptors.specs.Codes.{pastParent, badType, badLength, badField}
 use Rattle.wire.specs.Rows.{_⇒_, allOf}
 use Rattle.wire.proofs.Laws.Rows.{quiet}
-use Rattle.descriptors.specs.Header.{lengthAt, typeAt, reservedAt, totalAt, kindAt, nameLengthAt, nameEndAt, dataLengthAt, isSubset, isProperty, allowed, propertyTests, goodFields, goodProperty, propertyRefusal, subsetRefusal, refusal, inner, descriptorAt}
+use Rattle.registry.specs.Registry.{propertyTests, goodFields}
+use Rattle.descriptors.specs.Header.{lengthAt, typeAt, reservedAt, totalAt, kindAt, nameLengthAt, nameEndAt, dataLengthAt, isSubset, isProperty, allowed, goodProperty, propertyRefusal, subsetRefusal, refusal, inner, descriptorAt}
 use Rattle.descriptors.specs.Reading.{sizeOf}
 use Rattle.descriptors.proofs.Laws.Rows.{in-set, in-configuration, in-function}
 
