@@ -7,7 +7,7 @@ use lib.ListN.{length, take, length-append, List·getD-append}
 use Rattle.wire.proofs.Laws.Numbers.{Bytes}
 use Rattle.frame.specs.declared.items.Found.{Found}
 use denote.Ref.{RefT, now}
-use Rattle.wire.specs.Parts.{bytesAt, Within}
+use Rattle.wire.specs.Parts.{bytesAt, LiesIn}
 use Rattle.wire.proofs.Laws.Parts.{stands-at}
 use Rattle.frame.specs.declared.view.ItemView.{ItemView}
 use Rattle.frame.specs.View.{Views}
@@ -35,11 +35,11 @@ refusal-leaves-nothing (append buf at id bytes) n =
     record { unchanged = e .1; zeros = (e .0, tt); empty = tt }
 
 -- Demand 1: a call stays inside its buffers. The part of each answer lies in what was lent, on a refusal too.
-pub payload-inside : (block : List ℕ) (k : ℕ) → Within block (itemOf block k .payload)
+pub payload-inside : (block : List ℕ) (k : ℕ) → LiesIn block (itemOf block k .payload)
 unfolding itemOf
 payload-inside block k = go (itemsOf block) refl
   where
-    go : (f : Finding) → itemsOf block ≡ f → Within block (foundIn k f .payload)
+    go : (f : Finding) → itemsOf block ≡ f → LiesIn block (foundIn k f .payload)
     go (refused code) e = omega arith
     go (sound is) e = located block is (sound-block block is e .1) k .inside
 

@@ -4,7 +4,7 @@ use mathlib.Core.Path.{_≡_, refl}
 use mathlib.Core.List.{List}
 use mathlib.Core.Bool.{Bool, true, false, cond}
 use lib.Dec.{eqb}
-use Rattle.wire.specs.Parts.{Within}
+use Rattle.wire.specs.Parts.{LiesIn}
 use Rattle.packet.specs.declared.PayloadHeader.{PayloadHeader}
 use Rattle.packet.specs.Packet.{headerRefusal, refusedHeader, headerOf}
 use Rattle.packet.proofs.Laws.Packets.{header-inside}
@@ -21,5 +21,5 @@ unfolding headerOf
 header-refused p n = either (eqb (headerRefusal p) 0) _ (headerRefusal p) refl n
 
 -- Demand 1: the metadata lies in the packet, on a refusal too.
-pub metadata-inside : (p : List ℕ) → Within p (headerOf p .metadata)
+pub metadata-inside : (p : List ℕ) → LiesIn p (headerOf p .metadata)
 metadata-inside p = header-inside p

@@ -29,5 +29,5 @@ pub record PartOf (s : RefT (List ℕ)) (p : Part) (r : RefT (List ℕ)) : Type 
   pub bytes : now r ≡ bytesAt (now s) p
 
 -- a part lies in what was lent
-abbrev pub Within : List ℕ → Part → Type 0
-Within s p = p .at + p .len ≤ length s
+abbrev pub LiesIn : List ℕ → Part → Type 0
+LiesIn s p = p .at + p .len ≤ length s
