@@ -63,16 +63,14 @@ use Rattle.camera.specs.Calls.{sensed, Call, request, load, outcome, left, next
 use Rattle.camera.proofs.Laws.Record.{formed-profile}
 use Rattle.demands.specs.Lists.{setAccepted, gives, run}
 use Rattle.demands.specs.Records.{Ok, Typed, Same}
-use Rattle.demands.specs.Demand2.{NewSettings, Twelfths, SensorExact, CurrentIsHeld, SameAnswers, FaceLength, FaceReadsBack, ReadsBack}
-use Rattle.demands.specs.Demand2.{bytesBack, Sends, Gets, SnapshotReadsBack, WriteSuffices}
+use Rattle.demands.specs.Demand2.{NewSettings, Twelfths, SensorExact, CurrentIsHeld, SameAnswers, FaceLength, FaceReadsBack, ReadsBack, bytesBack, Sends, Gets, SnapshotReadsBack, WriteSuffices}
 use Rattle.demands.proofs.Laws.Longest.{snapshot-short}
 use Rattle.demands.proofs.Laws.Held.{none-never, none-held}
 use Rattle.demands.proofs.Laws.Kept.{control-there, held-good}
 use Rattle.demands.proofs.Laws.Current.{ev-current, face-current, face-default, metadata-current, hdr-current, throttle-current}
 use Rattle.demands.proofs.Laws.Same.{settings-same}
 use Rattle.demands.proofs.Laws.Sensor.{twelfths-whole, twelfths-exact, steps-below}
-use Rattle.demands.proofs.Laws.ReadBack.{answer-back, Taken, entry-taken, face-put, After, after, payload-entry, place-at, face-sized}
-use Rattle.demands.proofs.Laws.ReadBack.{current-entry, current-length, current-held, current-same, face-none}
+use Rattle.demands.proofs.Laws.ReadBack.{answer-back, Taken, entry-taken, face-put, After, after, payload-entry, place-at, face-sized, current-entry, current-length, current-held, current-same, face-none}
 use Rattle.demands.proofs.Laws.Steps.{step, outcome-code, set-answer, load-answer, refused-none, request-next, accepted-control, accepted-length, accepted-values, set-control}
 use Rattle.demands.proofs.Demand3.{writes, snapshot-decodes, snapshot-formed, written-item}
 

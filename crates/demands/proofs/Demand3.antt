@@ -13,15 +13,13 @@ use Rattle.wire.specs.Uvc.{malformedRecord}
 use Rattle.wire.proofs.Laws.Rows.{quiet}
 use Rattle.snapshot.specs.Form as form
 use Rattle.snapshot.specs.Records.{decode}
-use Rattle.snapshot.specs.Settings.{over}
+use Rattle.snapshot.specs.Settings.{over, lastOf, snapshotOf}
 use Rattle.merging.specs.Merge.{merged}
-use Rattle.snapshot.specs.Settings.{lastOf, snapshotOf}
 use Rattle.snapshot.proofs.Laws.Maps.{decode-encode}
 use Rattle.snapshot.proofs.Laws.Form.{encode-formed}
-use Rattle.snapshot.proofs.Laws.Settings.{over-assoc, over-none}
+use Rattle.snapshot.proofs.Laws.Settings.{over-assoc, over-none, Rows, rows-append}
 use Rattle.merging.proofs.Laws.Answers.{Answer}
 use Rattle.merging.proofs.Laws.Answers as answers
-use Rattle.snapshot.proofs.Laws.Settings.{Rows, rows-append}
 use Rattle.merging.proofs.Laws.Settings.{snapshot-append}
 use Rattle.controls.specs.declared.Setting.{Setting}
 use Rattle.controls.specs.Settings.{settingOf, codeOf}

@@ -17,8 +17,7 @@ use Rattle.request.specs.Setup.{valueLow, selectorOf, wLengthOf, isGetRequest}
 use Rattle.request.specs.Tests.{addressed}
 use Rattle.snapshot.specs.Form as form
 use Rattle.snapshot.specs.Records.{decode}
-use Rattle.snapshot.specs.Settings.{over}
-use Rattle.snapshot.specs.Settings.{lastOf}
+use Rattle.snapshot.specs.Settings.{over, lastOf}
 use Rattle.controls.specs.declared.EvSetting.{EvSetting}
 use Rattle.exposure.specs.declared.ev.Ev.the-variants as E
 use Rattle.controls.specs.declared.ThrottleSetting.{ThrottleSetting}

@@ -19,8 +19,7 @@ use Rattle.descriptors.specs.declared.header.Descriptor.the-variants.{Su
 use Rattle.descriptors.specs.declared.properties.RegistryProperty.{RegistryProperty}
 use Rattle.descriptors.specs.Codes.{badSetHeader, noProperty}
 use Rattle.registry.specs.Registry.{propertyTests, goodFields}
-use Rattle.descriptors.specs.Header.{lengthAt, kindAt, nameLengthAt, nameEndAt, dataLengthAt}
-use Rattle.descriptors.specs.Header.{refusal, descriptorAt, interfaceOf, firstInterface}
+use Rattle.descriptors.specs.Header.{lengthAt, kindAt, nameLengthAt, nameEndAt, dataLengthAt, descriptorAt, interfaceOf, firstInterface}
 use Rattle.descriptors.specs.Reading.{Entry, Finding, refused, sound, contentsOf, goodHeader, setOf, isSound, listed, propertiesOf}
 use Rattle.descriptors.specs.Property.{refusedWith, foundAt, nth, inFinding, propertyOf}
 use Rattle.descriptors.specs.Calls.{Call, check, boot-check, property, codeOf, partsOf}

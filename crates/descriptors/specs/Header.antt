@@ -1,6 +1,6 @@
 -- One descriptor by itself (document 01, "Descriptor set"): its fields, what may stand where, and the first test that refuses it.
 -- A set is the list of its bytes, and a descriptor's offset counts from the set's start.
-use Prim.Native.Nat.{ℕ, _+_, _-_, _%_}
+use Prim.Native.Nat.{ℕ, _+_, _-_}
 use mathlib.Core.List.{List, [], _∷_}
 use mathlib.Core.Option.{Option, none, some}
 use mathlib.Core.Bool.{Bool, not, _&&_, _||_, cond}

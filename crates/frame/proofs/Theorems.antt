@@ -1,9 +1,10 @@
 -- The owner's demands on frame metadata, over the definitions that the functions' promises name.
-use Prim.Native.Nat.{ℕ, _+_, _^_, _≤_, _<_}
+use Prim.Native.Nat.{ℕ, _^_, _≤_, _<_}
 use mathlib.Core.Path.{_≡_, refl, sym, ap, _∙_}
 use mathlib.Core.List.{List, [], _∷_, _++_}
 use native.Mathlib.Omega.{arith}
 use lib.ListN.{length, take, length-append, List·getD-append}
+use Rattle.frame.specs.Codes.{longestBlock}
 use Rattle.wire.proofs.Laws.Numbers.{Bytes}
 use Rattle.frame.specs.declared.items.Found.{Found}
 use denote.Ref.{RefT, now}
@@ -102,5 +103,5 @@ appended-reads-back block buf is i e begins small a =
 pub block-written-again : (block : List ℕ) (is : List Item) → Bytes block → itemsOf block ≡ sound is → (block ≡ layout is) × Writable is
 block-written-again block is b e = written-again block is (sound-block block is e .1) b
 
-pub items-read-back : (is : List Item) → Writable is → length (layout is) ≤ 65535 → itemsOf (layout is) ≡ sound is
+pub items-read-back : (is : List Item) → Writable is → length (layout is) ≤ longestBlock → itemsOf (layout is) ≡ sound is
 items-read-back is g h = sym (short-enough (layout is) h) ∙ reads-all is g h

@@ -2,6 +2,7 @@
 use mathlib.Core.Path.{_≡_}
 use mathlib.Core.Bool.{Bool, true, false, and-eq-true-iff}
 use lib.IntN.{pos}
+use Rattle.wire.specs.Uvc.{malformedRecord}
 use Rattle.exposure.specs.Ev.{compensation}
 use Rattle.profile.specs.Profile.{profileValid}
 use Rattle.settings.specs.Settings as settings
@@ -11,11 +12,11 @@ use Rattle.camera.specs.Requests.{refused}
 use Rattle.camera.specs.Calls.{streamed, sensed}
 
 module _ (c : Camera) (w : wellFormed c ≡ false) where
-  pub streamed-refused : (on : Bool) → streamed c on ≡ refused 0x21 c
+  pub streamed-refused : (on : Bool) → streamed c on ≡ refused malformedRecord c
   unfolding streamed
   streamed-refused on = rw w
 
-  pub sensed-refused : sensed c ≡ record { code = 0x21; value = pos 0; camera = c }
+  pub sensed-refused : sensed c ≡ record { code = malformedRecord; value = pos 0; camera = c }
   unfolding sensed
   sensed-refused = rw w
 

@@ -8,7 +8,7 @@ use lib.Dec.{eqb}
 use lib.ListN.{length}
 use borrow.Author.Tests.{eq-eqb, ne-eqb, eqb-true}
 use Rattle.wire.specs.Rows.{_⇒_, answers, firstOf}
-use Rattle.wire.specs.Uvc.{setCur, malformedRecord}
+use Rattle.wire.specs.Uvc.{setCur, malformedRecord, invalidControl, invalidRequest}
 use Rattle.request.specs.declared.reply.Sent.{Sent}
 use Rattle.request.specs.Setup.{selectorOf, codeOf, wLengthOf, isSetRequest}
 use Rattle.request.specs.Tests.{requestTests, asked, sentCount}
@@ -48,7 +48,7 @@ module _ (p : Profile) (streaming : Bool) (selector : ℕ) where
           at false e = refl
 
       go : (h t : Bool) (n : ℕ)
-          → firstOf ((not h ⇒ 0x06) ∷ (not t ⇒ 0x07) ∷ answers n ∷ []) ≡ cond (eqb (firstOf ((not h ⇒ 0x06) ∷ (not t ⇒ 0x07) ∷ [])) 0) n (firstOf ((not h ⇒ 0x06) ∷ (not t ⇒ 0x07) ∷ []))
+          → firstOf ((not h ⇒ invalidControl) ∷ (not t ⇒ invalidRequest) ∷ answers n ∷ []) ≡ cond (eqb (firstOf ((not h ⇒ invalidControl) ∷ (not t ⇒ invalidRequest) ∷ [])) 0) n (firstOf ((not h ⇒ invalidControl) ∷ (not t ⇒ invalidRequest) ∷ []))
       go true true n = passes n
       go true false n = refl
       go false t n = refl

@@ -13,7 +13,7 @@ use Rattle.wire.specs.Uvc.{getCur, getDef}
 use Rattle.snapshot.specs.Form.{keyFor}
 use Rattle.request.specs.Tests as tests
 use Rattle.settings.specs.Answers.{valueOf}
-use Rattle.settings.specs.Settings.{keyOf}
+use Rattle.settings.specs.Settings.{keyOf, faceHeld}
 use Rattle.settings.specs.Settings as settings
 use Rattle.controls.specs.declared.Setting.the-variants as S
 use Rattle.exposure.specs.declared.ev.Ev.the-variants as E
@@ -31,7 +31,6 @@ use Rattle.hdr.specs.Hdr.{hdrAt}
 use Rattle.throttle.specs.Throttle.{throttleBytes, throttleCurrent, throttleAt}
 use Rattle.face.proofs.Laws.Limits.{place-listed}
 use Rattle.profile.specs.Profile.{has}
-use Rattle.settings.specs.Settings.{faceHeld}
 use Rattle.profile.proofs.Laws.Profile.{valid-face}
 use Rattle.camera.specs.declared.record.Camera.{Camera}
 use Rattle.camera.specs.Record.{held, wellFormed}

@@ -10,8 +10,7 @@ use lib.ListN.{length, getD, replicate, getD-replicate}
 use borrow.Author.Tests.{eq-eqb, ne-eqb, eqb-true, eqb-false, le-leb, lt-leb, leb-true}
 use Rattle.wire.specs.Endpoints.{firstAddress, lastAddress, places}
 use Rattle.snapshot.specs.Form.{keys}
-use Rattle.snapshot.specs.Settings.{over}
-use Rattle.snapshot.specs.Settings.{lastOf}
+use Rattle.snapshot.specs.Settings.{over, lastOf}
 use Rattle.snapshot.proofs.Laws.Settings.{over-assoc}
 use Rattle.controls.specs.declared.Setting.{Setting}
 use Rattle.controls.specs.declared.Setting.the-variants as S

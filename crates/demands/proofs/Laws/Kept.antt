@@ -16,8 +16,7 @@ use Rattle.wire.specs.Selectors as selectors
 use Rattle.wire.specs.Uvc.{outOfRange, invalidValue, wrongState}
 use Rattle.wire.proofs.Laws.Rows.{quiet}
 use Rattle.snapshot.specs.Form.{keys}
-use Rattle.snapshot.specs.Settings.{over}
-use Rattle.snapshot.specs.Settings.{lastOf}
+use Rattle.snapshot.specs.Settings.{over, lastOf}
 use Rattle.controls.specs.declared.Item.{Item}
 use Rattle.controls.specs.declared.Item.the-variants.{Absent, Refused, Given}
 use Rattle.controls.specs.declared.Setting.{Setting}

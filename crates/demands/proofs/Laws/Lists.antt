@@ -3,10 +3,8 @@ use mathlib.Core.Path.{_≡_, refl, ap, ap₂, sym, _∙_, fun-ext}
 use mathlib.Core.List.{List, [], _∷_, _++_, append-assoc}
 use mathlib.Core.Bool.{Bool, true}
 use Prim.Native.Nat.{ℕ}
-use Rattle.snapshot.specs.Settings.{over}
-use Rattle.snapshot.specs.Settings.{lastOf}
-use Rattle.snapshot.proofs.Laws.Settings.{over-assoc, over-none}
-use Rattle.snapshot.proofs.Laws.Settings.{last-append}
+use Rattle.snapshot.specs.Settings.{over, lastOf}
+use Rattle.snapshot.proofs.Laws.Settings.{over-assoc, over-none, last-append}
 use Rattle.profile.specs.declared.Profile.{Profile}
 use Rattle.profile.specs.Profile.{profileValid}
 use Rattle.settings.specs.Settings.{noSettings, kept}

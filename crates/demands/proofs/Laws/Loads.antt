@@ -17,14 +17,12 @@ use Rattle.wire.proofs.Laws.Rows.{quiet}
 use Rattle.snapshot.specs.Form.{keys}
 use Rattle.snapshot.specs.Form as form
 use Rattle.snapshot.specs.Records.{decode, GoodAt, Record}
-use Rattle.snapshot.specs.Settings.{over}
+use Rattle.snapshot.specs.Settings.{over, lastOf}
 use Rattle.merging.specs.Merge.{merged}
-use Rattle.snapshot.specs.Settings.{lastOf}
 use Rattle.snapshot.proofs.Laws.Sound.{stands-sound}
 use Rattle.snapshot.proofs.Laws.Maps.{decode-good, none-above}
-use Rattle.snapshot.proofs.Laws.Settings.{over-none}
+use Rattle.snapshot.proofs.Laws.Settings.{over-none, last-append}
 use Rattle.merging.proofs.Laws.Merging.{decode-merged, merged-formed}
-use Rattle.snapshot.proofs.Laws.Settings.{last-append}
 use Rattle.controls.specs.declared.Item.{Item}
 use Rattle.controls.specs.declared.Item.the-variants.{Absent, Refused, Given}
 use Rattle.controls.specs.declared.Setting.{Setting}

@@ -13,7 +13,7 @@ use Rattle.wire.specs.Endpoints.{firstAddress, lastAddress, places}
 use Rattle.wire.specs.Number.{leAt, bytesOf}
 use Rattle.wire.specs.Selectors as selectors
 use Rattle.wire.specs.Uvc.{getCur, getDef}
-use Rattle.wire.proofs.Laws.Bytes.{bytes-at}
+use Rattle.wire.proofs.Laws.Bytes.{bytes-at, word-bytes}
 use Rattle.wire.proofs.Laws.Numbers.{Bytes}
 use Rattle.request.specs.Answers.{answerBy}
 use Rattle.request.specs.Tests as tests
@@ -25,14 +25,12 @@ use Rattle.controls.specs.Settings.{itemOf, numberOr, codeOf, firstRefusal}
 use Rattle.exposure.specs.Ev.{evFlags, evValue, evItem, evCurrent, evAt}
 use Rattle.face.specs.declared.limits.FaceLimits.{FaceLimits}
 use Rattle.face.specs.Limits.{endpoints, addressAt, offersAt, offersFrom, offersOf}
-use Rattle.entries.specs.Entries.{takesFace, entryAddress, entryFlags, seenIn, seenBefore}
+use Rattle.entries.specs.Entries.{takesFace, entryAddress, entryFlags, seenIn, seenBefore, putFace, entriesPut, facesTaken}
 use Rattle.face.specs.Answers.{entryOf, heldAt, flagsAt, entriesOf, faceValue}
-use Rattle.entries.specs.Entries.{putFace, entriesPut, facesTaken}
 use Rattle.metadata.specs.Metadata.{metadataItem, metadataAt}
 use Rattle.hdr.specs.Hdr.{hdrItem, hdrAt}
 use Rattle.throttle.specs.Throttle.{throttleItem, throttleCurrent, throttleAt, throttleBytes}
 use Rattle.controls.proofs.Laws.Items.{none-refused}
-use Rattle.wire.proofs.Laws.Bytes.{word-bytes}
 use Rattle.exposure.proofs.Laws.Ev.{ev-bytes}
 use Rattle.entries.proofs.Laws.Entries.{taken-entries}
 use Rattle.face.proofs.Laws.Answers.{length-entries}

@@ -19,8 +19,7 @@ use Rattle.request.specs.Tests.{requestTests, sized, sentCount, valueTests, req
 use Rattle.request.specs.Tests as tests
 use Rattle.snapshot.specs.Form.{keys}
 use Rattle.snapshot.specs.Records.{decode}
-use Rattle.snapshot.specs.Settings.{over}
-use Rattle.snapshot.specs.Settings.{lastOf}
+use Rattle.snapshot.specs.Settings.{over, lastOf}
 use Rattle.controls.specs.declared.Item.{Item}
 use Rattle.controls.specs.declared.Item.the-variants.{Absent, Refused, Given}
 use Rattle.controls.specs.declared.Setting.{Setting}

@@ -21,8 +21,7 @@ use Rattle.descriptors.specs.Header.{kindAt, nameLengthAt, interfaceOf, 
 use Rattle.descriptors.specs.Reading.{Entry, Finding, refused, sound, _then_, descriptor, sizeOf, contentsOf, goodHeader, setOf}
 use Rattle.descriptors.specs.Property.{refusedWith, foundAt, nth, inFinding, propertyOf}
 use Rattle.descriptors.specs.Stops.{refusalNumber}
-use Rattle.descriptors.specs.Scan.{around, depth, entryOf, movedTo, outOf, intoSubset, counted, passing}
-use Rattle.descriptors.specs.Scan.{outside, Within, Kept, Going, Scanning, Stepped}
+use Rattle.descriptors.specs.Scan.{around, depth, entryOf, movedTo, outOf, intoSubset, counted, passing, outside, Within, Kept, Going, Scanning, Stepped}
 use Rattle.descriptors.proofs.Laws.Sound.{known-as, sum-holds}
 use Rattle.descriptors.proofs.Laws.Contents.{at-end, one-then}
 use Rattle.descriptors.proofs.Laws.Whole.{header-room, good-set}

@@ -12,6 +12,7 @@ use lib.IntN.{ℤ, pos, negsuc, _*ℤ_}
 use lib.Signed.{mag, leZ}
 use mir.Syntax.{w32}
 use mir.Val.{SFits}
+use Rattle.wire.specs.Uvc.{invalidValue, outOfRange}
 use Rattle.wire.specs.Number.{leAt, bytesOf}
 use Rattle.flags.specs.Flags.{choiceOf}
 use Rattle.flags.specs.declared.Choice.{Choice}
@@ -23,10 +24,9 @@ use Rattle.controls.specs.declared.EvSetting.{EvSetting}
 use Rattle.exposure.specs.declared.ev.Ev.{Ev}
 use Rattle.controls.specs.declared.Setting.the-variants as S
 use Rattle.controls.specs.Settings.{itemOf}
-use Rattle.exposure.specs.Ev.{evValid, signed32, bits32, divisor, inRange, refusalAt, evRefusal, evFlags, evValue, evItem, evBytes, evAt, evAnswer, unitsPerStop, scaledAt, scaledOf}
+use Rattle.exposure.specs.Ev.{evValid, signed32, bits32, divisor, inRange, refusalAt, evRefusal, evFlags, evValue, evItem, evBytes, unitsPerStop, scaledAt, scaledOf}
 use Rattle.exposure.proofs.Laws.Signed.{mag-mul, between, bits-below, signed-bits, bits-signed}
 use Rattle.wire.proofs.Laws.Bytes.{number-bytes, bytes-at, first-part, second-part}
-use Rattle.request.proofs.Laws.Answers.{answer-length}
 
 -- between 1 and 6 steps make a stop
 pub divisor-pos : (place : ℕ) → 0 < divisor place
@@ -45,12 +45,12 @@ divisor-small (suc (suc (suc (suc n)))) = lit≤ tt
 
 -- SET's value tests, by the first that fails
 module _ (l : EvLimits) (flags : ℕ) (v : ℤ) where
-  pub refused-flags : choiceOf (l .steps) flags ≡ Refused → evRefusal l flags v ≡ 0x08
+  pub refused-flags : choiceOf (l .steps) flags ≡ Refused → evRefusal l flags v ≡ invalidValue
   unfolding evRefusal refusalAt
   refused-flags e = rw e
 
   module _ (place : ℕ) (e : choiceOf (l .steps) flags ≡ At place) where
-    pub refused-value : inRange l (divisor place) v ≡ false → evRefusal l flags v ≡ 0x04
+    pub refused-value : inRange l (divisor place) v ≡ false → evRefusal l flags v ≡ outOfRange
     unfolding evRefusal refusalAt
     refused-value r = rw (e, r)
 
@@ -63,7 +63,7 @@ module _ (l : EvLimits) (flags : ℕ) (v : ℤ) where
   taken Refused e = absurd (omega arith)
   taken (At place) e = (place, (refl, go (inRange l (divisor place) v) e))
     where
-      go : (b : Bool) → _≡_ {A = ℕ} (cond b 0 0x04) 0 → b ≡ true
+      go : (b : Bool) → _≡_ {A = ℕ} (cond b 0 outOfRange) 0 → b ≡ true
       go true f = refl
       go false f = absurd (omega arith)
 
@@ -141,7 +141,3 @@ ev-bytes payload n b =
     let value : bits32 (evValue payload) ≡ leAt 4 payload 7 = bits-signed (leAt 4 payload 7) (below 4 4 payload 7 b (lit≤ tt)) in
     let rest : take 4 (drop 7 payload) ≡ drop 7 payload = take-all 4 (drop 7 payload) (simp length-drop (omega arith)) in
     ap₂ _++_ (bytes-at 7 payload 0 (omega arith) b) (ap (bytesOf 4) value ∙ bytes-at 4 payload 7 (omega arith) b ∙ rest) ∙ take-append-drop 7 payload
-
-pub ev-answer-length : (l : EvLimits) (held : Ev) (code : ℕ) → length (evAnswer l held code) ≤ 65
-unfolding evAnswer
-ev-answer-length l held code = answer-length code 11 0x13 (evBytes (evAt l held code)) 65 (lit≤ tt) (omega (arith, ev-length (evAt l held code)))

@@ -16,30 +16,30 @@ use Rattle.frame.specs.Ids.{isKnown}
 use Rattle.frame.specs.Writer.{itemBytes, endOf, appendRefusal, appendedOf, writtenOf}
 use Rattle.wire.specs.Rows.{_⇒_}
 use Rattle.wire.specs.Uvc.{noRoom}
-use Rattle.frame.specs.Codes.{unknownId, tooLong}
+use Rattle.frame.specs.Codes.{unknownId, tooLong, longestBlock}
 use Rattle.wire.proofs.Laws.Rows.{quiet}
 
 module _ (room at id len : ℕ) where
-  pub id-unknown : isKnown id ≡ false → 0x41 ≡ appendRefusal room at id len
+  pub id-unknown : isKnown id ≡ false → unknownId ≡ appendRefusal room at id len
   unfolding appendRefusal
   id-unknown k = simp k
 
-  pub end-long : isKnown id ≡ true → 65535 < endOf at len → 0x43 ≡ appendRefusal room at id len
+  pub end-long : isKnown id ≡ true → longestBlock < endOf at len → tooLong ≡ appendRefusal room at id len
   unfolding appendRefusal
   end-long k a = simp (k, lt-ltb _ _ a)
 
-  pub room-short : isKnown id ≡ true → endOf at len ≤ 65535 → room < endOf at len → 0x20 ≡ appendRefusal room at id len
+  pub room-short : isKnown id ≡ true → endOf at len ≤ longestBlock → room < endOf at len → noRoom ≡ appendRefusal room at id len
   unfolding appendRefusal
   room-short k a b = simp (k, le-ltb _ _ a, lt-ltb _ _ b)
 
-  pub all-fits : isKnown id ≡ true → endOf at len ≤ 65535 → endOf at len ≤ room → 0 ≡ appendRefusal room at id len
+  pub all-fits : isKnown id ≡ true → endOf at len ≤ longestBlock → endOf at len ≤ room → 0 ≡ appendRefusal room at id len
   unfolding appendRefusal
   all-fits k a b = simp (k, le-ltb _ _ a, le-ltb _ _ b)
 
   -- none of the tests held
   pub record Fits : Type 0 where
     pub known : isKnown id ≡ true
-    pub short : endOf at len ≤ 65535
+    pub short : endOf at len ≤ longestBlock
     pub roomy : endOf at len ≤ room
 
   pub accepted : appendRefusal room at id len ≡ 0 → Fits

@@ -8,6 +8,7 @@ use lib.ListN.{length, take, drop, getD, length-append, length-take, length-drop
 use lib.Seq.{take-at}
 use lib.Dec.{ltb}
 use borrow.Author.Tests.{ltb-false}
+use Rattle.frame.specs.Codes.{longestBlock, tooLong}
 use Rattle.wire.proofs.Laws.Overlay as overlays
 use Rattle.frame.specs.Items.{Item, Finding, refused, sound, _before_, itemsFrom, itemsOf}
 use Rattle.frame.specs.Answers.{itemAt}
@@ -54,11 +55,11 @@ last-of [] i d = refl
 last-of (j ∷ is) i d = last-of is i d
 
 -- a block that is not refused
-pub sound-block : (s : List ℕ) (is : List Item) → itemsOf s ≡ sound is → (length s ≤ 65535) × (itemsFrom s ≡ sound is)
+pub sound-block : (s : List ℕ) (is : List Item) → itemsOf s ≡ sound is → (length s ≤ longestBlock) × (itemsFrom s ≡ sound is)
 unfolding itemsOf
-sound-block s is e = go (ltb 65535 (length s)) refl e
+sound-block s is e = go (ltb longestBlock (length s)) refl e
   where
-    go : (b : Bool) → ltb 65535 (length s) ≡ b → cond b (refused 0x43) (itemsFrom s) ≡ sound is → (length s ≤ 65535) × (itemsFrom s ≡ sound is)
+    go : (b : Bool) → ltb longestBlock (length s) ≡ b → cond b (refused tooLong) (itemsFrom s) ≡ sound is → (length s ≤ longestBlock) × (itemsFrom s ≡ sound is)
     go true t f = absurd (let z : _≡_ {A = ℕ} 0 1 = cc in omega arith)
     go false t f = (ltb-false _ _ t, f)
 

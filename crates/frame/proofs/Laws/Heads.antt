@@ -16,7 +16,7 @@ use Rattle.frame.specs.Codes.{truncated, unknownId, shortSize}
 use Rattle.wire.proofs.Laws.Rows.{quiet}
 
 module _ (s : List ℕ) where
-  pub head-short : length s < 8 → Bad 0x40 ≡ headOf s
+  pub head-short : length s < 8 → Bad truncated ≡ headOf s
   unfolding headOf refusal
   head-short a = simp (lt-ltb _ _ a)
 
@@ -25,15 +25,15 @@ module _ (s : List ℕ) where
     is : (b : Bool) → known ≡ b → isKnown (idOf s) ≡ b
     is b e = cc
 
-    pub head-unknown : known ≡ false → Bad 0x41 ≡ headOf s
+    pub head-unknown : known ≡ false → Bad unknownId ≡ headOf s
     unfolding headOf refusal
     head-unknown b = simp (le-ltb _ _ a, is false b)
 
-    pub head-small : known ≡ true → sizeOf s < 8 → Bad 0x42 ≡ headOf s
+    pub head-small : known ≡ true → sizeOf s < 8 → Bad shortSize ≡ headOf s
     unfolding headOf refusal
     head-small b c = simp (le-ltb _ _ a, is true b, lt-ltb _ _ c)
 
-    pub head-past : known ≡ true → 8 ≤ sizeOf s → length s < sizeOf s → Bad 0x40 ≡ headOf s
+    pub head-past : known ≡ true → 8 ≤ sizeOf s → length s < sizeOf s → Bad truncated ≡ headOf s
     unfolding headOf refusal
     head-past b c d = simp (le-ltb _ _ a, is true b, le-ltb _ _ c, lt-ltb _ _ d)
 

@@ -6,6 +6,7 @@ use mathlib.Core.Bool.{true}
 use native.Mathlib.Omega.{arith}
 use lib.ListN.{length, take, drop, length-append, length-take, length-drop, take-append-drop}
 use lib.Seq.{take-at, drop-at, take-add}
+use Rattle.frame.specs.Codes.{longestBlock}
 use Rattle.wire.specs.Number.{bytesOf}
 use Rattle.wire.proofs.Laws.Numbers.{Bytes, bytes-drop, below}
 use Rattle.frame.specs.Ids.{isKnown}
@@ -45,11 +46,11 @@ module _ (id : ℕ) (payload t : List ℕ) (known : isKnown id ≡ true) (small 
       front (itemBytes id payload ++ t) id (8 + length payload) written
       ∙ ap₂ (λ (p r : List ℕ). record { id = id; payload = p } before itemsFrom r) (body id payload t) (drop-at (itemBytes id payload) t _ (length-item id payload))
 
-pub reads-all : (is : List Item) → Writable is → length (layout is) ≤ 65535 → itemsFrom (layout is) ≡ sound is
+pub reads-all : (is : List Item) → Writable is → length (layout is) ≤ longestBlock → itemsFrom (layout is) ≡ sound is
 unfolding layout
 reads-all [] g h = nothing-left [] (omega arith)
 reads-all (i ∷ is) g h =
-    let n : 8 + length (i .payload) + length (layout is) ≤ 65535 = rw (length-append, length-item) at h in
+    let n : 8 + length (i .payload) + length (layout is) ≤ longestBlock = rw (length-append, length-item) at h in
     reads (i .id) (i .payload) (layout is) (g .0) (g .1) (omega arith) ∙ ap (λ (f : Finding). i before f) (reads-all is (g .2) (omega arith))
 
 -- a sound item written again is the bytes it was read from

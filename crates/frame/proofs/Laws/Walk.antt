@@ -11,7 +11,7 @@ use Rattle.frame.specs.declared.items.Head.{Head}
 use Rattle.frame.specs.declared.items.Head.the-variants.{Bad, Whole}
 use Rattle.frame.specs.declared.items.Found.{Found}
 use Rattle.frame.specs.declared.items.Survey.{Survey}
-use Rattle.frame.specs.Codes.{noItem}
+use Rattle.frame.specs.Codes.{noItem, tooLong, longestBlock}
 use Rattle.frame.specs.Items.{Item, Finding, refused, sound, headOf, _before_, follow, itemsFrom, itemsOf, itemIn}
 use Rattle.frame.specs.Answers.{refusedWith, itemAt}
 use Rattle.frame.specs.Steps.{surveyOf, stoppedAt, pass, over, onward}
@@ -75,31 +75,31 @@ onward-before k at n found i (refused code) = refl
 onward-before k at n found i (sound is) = refl
 
 -- the longest block
-pub too-long : (k : ℕ) (s : List ℕ) → 65535 < length s → stoppedAt 0x43 ≡ surveyOf k (itemsOf s)
+pub too-long : (k : ℕ) (s : List ℕ) → longestBlock < length s → stoppedAt tooLong ≡ surveyOf k (itemsOf s)
 unfolding itemsOf
 too-long k s h = simp (lt-ltb _ _ h)
 
-pub short-enough : (s : List ℕ) → length s ≤ 65535 → itemsFrom s ≡ itemsOf s
+pub short-enough : (s : List ℕ) → length s ≤ longestBlock → itemsFrom s ≡ itemsOf s
 unfolding itemsOf
 short-enough s h = simp (le-ltb _ _ h)
 
-comes-to : (k at n : ℕ) (found : Found) (s : List ℕ) (w : Survey) → length s ≤ 65535 → Left k at n found s
+comes-to : (k at n : ℕ) (found : Found) (s : List ℕ) (w : Survey) → length s ≤ longestBlock → Left k at n found s
     → w ≡ onward k at n found (itemsFrom (drop at s)) → w ≡ surveyOf k (itemsOf s)
 comes-to k at n found s w short left e = e ∙ left ∙ ap (surveyOf k) (short-enough s short)
 
-pub ends : (k at n : ℕ) (found : Found) (s : List ℕ) → length s ≤ 65535 → Left k at n found s → length s ≤ at
+pub ends : (k at n : ℕ) (found : Found) (s : List ℕ) → length s ≤ longestBlock → Left k at n found s → length s ≤ at
     → _≡_ {A = Survey} (record { counted = record { code = 0; items = n }; found = found }) (surveyOf k (itemsOf s))
 unfolding onward over
 ends k at n found s short left l = comes-to k at n found s _ short left (rw (nothing-left (drop at s) (simp length-drop (omega arith))))
 
 -- the walk stands at `at`, and this is the item there
 pub record Meets (k at n : ℕ) (found : Found) (s : List ℕ) (h : Head) : Type 0 where
-  pub short : length s ≤ 65535
+  pub short : length s ≤ longestBlock
   pub left : Left k at n found s
   pub ahead : at < length s
   pub head : headOf (drop at s) ≡ h
 
-pub meets : (k at n : ℕ) (found : Found) (s rest : List ℕ) (g h : Head) → length s ≤ 65535 → Left k at n found s → at < length s
+pub meets : (k at n : ℕ) (found : Found) (s rest : List ℕ) (g h : Head) → length s ≤ longestBlock → Left k at n found s → at < length s
     → rest ≡ drop at s → g ≡ headOf rest → g ≡ h → Meets k at n found s h
 meets k at n found s rest g h short left l r e f = record { short = short; left = left; ahead = l; head = ap headOf (sym r) ∙ sym e ∙ f }
 

@@ -1,5 +1,6 @@
 use borrow.Author.Tests.{eq-eqb, ne-eqb, not-true, not-false}
 use borrow.Author.Needs.{needs}
+use Rattle.wire.specs.Uvc.{getCur, getRes}
 use Rattle.metadata.specs.Metadata.{metadataAt}
 use Rattle.metadata.proofs.at.Statement.{statement}
 use Rattle.metadata.proofs.at.Tie as tie
@@ -8,13 +9,13 @@ returns : tie.Need-returns
 unfolding metadataAt
 returns c =
     let a = c .before .before .before .args in
-    rw (not-true (a .l .writable) (c .before .if1 .taken), eq-eqb (a .code) 0x84 (c .if2 .taken))
+    rw (not-true (a .l .writable) (c .before .if1 .taken), eq-eqb (a .code) getRes (c .if2 .taken))
 
 returns-2 : tie.Need-returns-2
 unfolding metadataAt
 returns-2 c =
     let a = c .before .before .before .args in
-    rw (not-true (a .l .writable) (c .before .if1 .taken), ne-eqb (a .code) 0x84 (c .if2 .left))
+    rw (not-true (a .l .writable) (c .before .if1 .taken), ne-eqb (a .code) getRes (c .if2 .left))
 
 returns-3 : tie.Need-returns-3
 unfolding metadataAt
@@ -27,13 +28,13 @@ returns-4 : tie.Need-returns-4
 unfolding metadataAt
 returns-4 c =
     let a = c .before .before .before .before .before .args in
-    rw (not-false (a .l .writable) (c .before .before .before .if1 .left), c .before .before .if3 .left, eq-eqb (a .code) 0x81 (c .before .if4 .taken)) (c .number-or .ensures)
+    rw (not-false (a .l .writable) (c .before .before .before .if1 .left), c .before .before .if3 .left, eq-eqb (a .code) getCur (c .before .if4 .taken)) (c .number-or .ensures)
 
 returns-5 : tie.Need-returns-5
 unfolding metadataAt
 returns-5 c =
     let a = c .before .before .before .before .args in
-    rw (not-false (a .l .writable) (c .before .before .if1 .left), c .before .if3 .left, ne-eqb (a .code) 0x81 (c .if4 .left))
+    rw (not-false (a .l .writable) (c .before .before .if1 .left), c .before .if3 .left, ne-eqb (a .code) getCur (c .if4 .left))
 
 pub at-spec : {M : Type 1} → statement M
 at-spec = tie.close (tie.spec returns returns-2 returns-3 number-or-requires returns-4 returns-5)

@@ -22,11 +22,11 @@ module _ (flags : ℕ) (flag : Flag) (len : ℕ) where
   field-absent e = simp e
 
 module _ (p : List ℕ) where
-  pub packet-short : length p < 2 → refusedHeader 0x45 ≡ headerOf p
+  pub packet-short : length p < 2 → refusedHeader cutHeader ≡ headerOf p
   unfolding headerOf headerRefusal
   packet-short a = simp (lt-ltb _ _ a)
 
-  pub header-past : 2 ≤ length p → length p < lengthOf p → refusedHeader 0x45 ≡ headerOf p
+  pub header-past : 2 ≤ length p → length p < lengthOf p → refusedHeader cutHeader ≡ headerOf p
   unfolding headerOf headerRefusal
   header-past a b = simp (le-ltb _ _ a, lt-ltb _ _ b)
 
@@ -35,7 +35,7 @@ module _ (p : List ℕ) where
     fields : from ≡ fieldsLength (flagsOf p)
     fields = cc
 
-    pub header-short : lengthOf p < from → refusedHeader 0x46 ≡ headerOf p
+    pub header-short : lengthOf p < from → refusedHeader shortHeader ≡ headerOf p
     unfolding headerOf headerRefusal
     header-short c =
         let d : lengthOf p < fieldsLength (flagsOf p) = rw fields at c in

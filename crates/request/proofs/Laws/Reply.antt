@@ -6,12 +6,13 @@ use native.Mathlib.Omega.{arith}
 use lib.ListN.{length, take, drop}
 use lib.Seq.{length-take-le}
 use borrow.Author.Tests.{le-leb, lt-leb}
+use Rattle.wire.specs.Uvc.{noRoom}
 use Rattle.wire.specs.Overlay.{overlay}
 use Rattle.wire.proofs.Laws.Overlay.{fits}
 use Rattle.request.specs.Reply.{countOf, sentOf, replyOf}
 
 module _ (a : List ℕ) (w : ℕ) (d : List ℕ) where
-  pub no-room : length d < countOf a w → (record { code = 0x20; count = 0 } ≡ sentOf a w (length d)) × (d ≡ replyOf a w d)
+  pub no-room : length d < countOf a w → (record { code = noRoom; count = 0 } ≡ sentOf a w (length d)) × (d ≡ replyOf a w d)
   unfolding sentOf replyOf
   no-room h = (rw (lt-leb (countOf a w) (length d) h), rw (lt-leb (countOf a w) (length d) h))
 

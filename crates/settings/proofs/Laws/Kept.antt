@@ -9,6 +9,7 @@ use native.Mathlib.Omega.{arith}
 use lib.Dec.{eqb}
 use lib.ListN.{getD}
 use borrow.Author.Tests.{ne-eqb, le-leb}
+use Rattle.wire.specs.Uvc.{invalidControl, invalidRequest}
 use Rattle.wire.specs.Endpoints.{firstAddress, places}
 use Rattle.wire.specs.Rows.{_⇒_, firstOf}
 use Rattle.wire.specs.Selectors.{face, metadata}
@@ -29,7 +30,7 @@ module _ (p : Profile) where
   unfolding controlRefusal
   control-kept selector = go (has p selector) (settable p selector)
     where
-      go : (h t : Bool) → eqb (firstOf ((not h ⇒ 0x06) ∷ (not t ⇒ 0x07) ∷ [])) 0 ≡ h && t
+      go : (h t : Bool) → eqb (firstOf ((not h ⇒ invalidControl) ∷ (not t ⇒ invalidRequest) ∷ [])) 0 ≡ h && t
       go true true = refl
       go true false = refl
       go false t = refl

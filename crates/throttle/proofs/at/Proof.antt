@@ -1,6 +1,7 @@
 use mathlib.Core.Path.{ap, sym, _∙_}
 use borrow.Author.Tests.{ne-eqb}
 use borrow.Author.Needs.{needs}
+use Rattle.wire.specs.Uvc.{getCur, getMin, getMax, getRes}
 use Rattle.throttle.specs.Throttle.{throttleAt, throttleCurrent}
 use Rattle.throttle.proofs.at.Statement.{statement}
 use Rattle.throttle.proofs.at.Tie as tie
@@ -39,7 +40,7 @@ returns-6 : tie.Need-returns-6
 unfolding throttleAt
 returns-6 c =
     let code = c .before .before .before .before .args .code in
-    rw (ne-eqb code 0x82 (c .before .before .before .if1 .left), ne-eqb code 0x83 (c .before .before .if2 .left), ne-eqb code 0x84 (c .before .if3 .left), ne-eqb code 0x81 (c .if4 .left))
+    rw (ne-eqb code getMin (c .before .before .before .if1 .left), ne-eqb code getMax (c .before .before .if2 .left), ne-eqb code getRes (c .before .if3 .left), ne-eqb code getCur (c .if4 .left))
 
 pub at-spec : {M : Type 1} → statement M
 at-spec =

@@ -2,13 +2,14 @@ use mathlib.Core.Path.{_≡_}
 use mathlib.Core.Bool.{not, cond}
 use borrow.Author.Tests.{lt-ltb, le-ltb}
 use borrow.Author.Needs.{needs}
+use Rattle.wire.specs.Uvc.{invalidValue}
 use Rattle.throttle.specs.Throttle.{throttleRefusal}
 use Rattle.throttle.proofs.refusal.Statement.{statement}
 use Rattle.throttle.proofs.refusal.Tie as tie
 
 -- past the limits and the mode the step answers
 last : (c : tie.After-is-multiple)
-    → let a = c .before .before .before .before .before .before .args in throttleRefusal (a .l) (a .mode) (a .percent) ≡ cond (not (c .is-multiple .result)) 0x08 0
+    → let a = c .before .before .before .before .before .before .args in throttleRefusal (a .l) (a .mode) (a .percent) ≡ cond (not (c .is-multiple .result)) invalidValue 0
 unfolding throttleRefusal
 last c =
     let a = c .before .before .before .before .before .before .args in

@@ -1,10 +1,11 @@
-use mathlib.Core.Path.{_≡_, ap, sym, _∙_}
+use mathlib.Core.Path.{ap, sym, _∙_, _≡_}
 use lib.IntN.{ℤ}
 use mir.Syntax.{w32}
 use mir.Val.{SFits, toZ, ofZ}
 use mir.Facts.{toZ-ofZ}
 use borrow.Author.Needs.{needs}
 use borrow.Author.Tests.{ne-eqb}
+use Rattle.wire.specs.Uvc.{getCur, getMin, getMax, getRes}
 use Rattle.controls.specs.declared.EvSetting.{EvSetting}
 use Rattle.exposure.specs.Ev.{evAt, evCurrent}
 use Rattle.exposure.proofs.ev.at.Statement.{statement}
@@ -53,7 +54,7 @@ unfolding evAt
 returns-6 c =
     let b = c .before in
     let code = b .before .before .before .args .code in
-    rw (ne-eqb code 0x82 (b .before .before .if1 .left), ne-eqb code 0x83 (b .before .if2 .left), ne-eqb code 0x84 (b .if3 .left), ne-eqb code 0x81 (c .if4 .left))
+    rw (ne-eqb code getMin (b .before .before .if1 .left), ne-eqb code getMax (b .before .if2 .left), ne-eqb code getRes (b .if3 .left), ne-eqb code getCur (c .if4 .left))
 
 pub at-spec : {M : Type 1} → statement M
 at-spec =

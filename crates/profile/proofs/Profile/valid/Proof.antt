@@ -1,5 +1,6 @@
 use mathlib.Core.Bool.{not, _||_}
 use borrow.Author.Needs.{needs}
+use Rattle.wire.specs.Selectors.{ev, face, metadata, throttle}
 use Rattle.exposure.specs.Ev.{evValid}
 use Rattle.face.specs.Limits.{faceValid}
 use Rattle.metadata.specs.Metadata.{metadataValid}
@@ -55,10 +56,10 @@ returns c =
     )
     (all-five
     (presenceValid (p .controls))
-    (not (has p 0x03) || evValid (p .ev))
-    (not (has p 0x06) || faceValid (p .face))
-    (not (has p 0x09) || metadataValid (p .metadata))
-    (not (has p 0x0E) || throttleValid (p .throttle)))
+    (not (has p ev) || evValid (p .ev))
+    (not (has p face) || faceValid (p .face))
+    (not (has p metadata) || metadataValid (p .metadata))
+    (not (has p throttle) || throttleValid (p .throttle)))
 
 pub valid-spec : {M : Type 1} → statement M
 valid-spec =

@@ -5,6 +5,7 @@ use lib.Dec.{eqb}
 use lib.ListN.{length}
 use borrow.Author.Tests.{eq-eqb, ne-eqb}
 use borrow.Author.Needs.{needs}
+use Rattle.wire.specs.Uvc.{unknown}
 use Rattle.wire.specs.Rows.{firstOf}
 use Rattle.request.specs.Setup.{selectorOf}
 use Rattle.request.specs.Table.{hasControl, tableOf}
@@ -73,7 +74,7 @@ is-sized-requires c κs = search needs
 
 -- past the first four tests the fifth answers
 fifth : (c : tie.After-is-sized)
-    → let s = c .before .before .before .before .before .before .before .before .before .before .before .args in firstOf (requestTests (tableOf (s .u) (s .c)) (s .setup .now) (s .payload .now)) ≡ cond (not (c .is-sized .result)) 0xFF 0
+    → let s = c .before .before .before .before .before .before .before .before .before .before .before .args in firstOf (requestTests (tableOf (s .u) (s .c)) (s .setup .now) (s .payload .now)) ≡ cond (not (c .is-sized .result)) unknown 0
 unfolding requestTests
 fifth c =
     let u = c .before .before in

@@ -1,7 +1,6 @@
 use mathlib.Core.Path.{ap, sym}
 use borrow.Author.Needs.{needs}
-use Rattle.settings.specs.Settings.{evHeld}
-use Rattle.settings.specs.Settings.{itemHeld}
+use Rattle.settings.specs.Settings.{evHeld, itemHeld}
 use Rattle.settings.proofs.held.held_ev.Statement.{statement}
 use Rattle.settings.proofs.held.held_ev.Tie as tie
 

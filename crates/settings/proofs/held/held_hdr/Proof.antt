@@ -1,7 +1,6 @@
 use mathlib.Core.Path.{ap, sym}
 use borrow.Author.Needs.{needs}
-use Rattle.settings.specs.Settings.{hdrHeld}
-use Rattle.settings.specs.Settings.{itemHeld}
+use Rattle.settings.specs.Settings.{hdrHeld, itemHeld}
 use Rattle.settings.proofs.held.held_hdr.Statement.{statement}
 use Rattle.settings.proofs.held.held_hdr.Tie as tie
 

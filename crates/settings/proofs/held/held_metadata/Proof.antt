@@ -1,7 +1,6 @@
 use mathlib.Core.Path.{ap, sym}
 use borrow.Author.Needs.{needs}
-use Rattle.settings.specs.Settings.{metadataHeld}
-use Rattle.settings.specs.Settings.{itemHeld}
+use Rattle.settings.specs.Settings.{metadataHeld, itemHeld}
 use Rattle.settings.proofs.held.held_metadata.Statement.{statement}
 use Rattle.settings.proofs.held.held_metadata.Tie as tie
 

@@ -1,7 +1,6 @@
 use mathlib.Core.Path.{ap, sym}
 use borrow.Author.Needs.{needs}
-use Rattle.settings.specs.Settings.{throttleHeld}
-use Rattle.settings.specs.Settings.{itemHeld}
+use Rattle.settings.specs.Settings.{throttleHeld, itemHeld}
 use Rattle.settings.proofs.held.held_throttle.Statement.{statement}
 use Rattle.settings.proofs.held.held_throttle.Tie as tie
 

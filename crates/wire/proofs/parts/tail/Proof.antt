@@ -1,9 +1,8 @@
 use mathlib.Core.Path.{refl, sym, _∙_}
-use Prim.Native.Nat.{_-_}
+use Prim.Native.Nat.{_-_, _≤_}
 use lib.Seq.{take-nil, drop-length}
 use lib.ListN.{length, drop-of-length-le}
 use native.Mathlib.Omega.{arith}
-use Prim.Native.Nat.{_≤_}
 use borrow.Author.Needs.{needs}
 use Rattle.wire.proofs.parts.tail.Statement.{statement}
 use Rattle.wire.proofs.parts.tail.Tie as tie

@@ -1,6 +1,5 @@
 use lib.ListN.{length, length-take}
-use mathlib.Core.Path.{ap}
-use mathlib.Core.Path.{sym, _∙_}
+use mathlib.Core.Path.{ap, sym, _∙_}
 use native.Mathlib.Omega.{arith}
 use Rattle.wire.proofs.Laws.Overlay.{part, past}
 use borrow.Author.Needs.{needs}
