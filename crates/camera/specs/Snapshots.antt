@@ -27,10 +27,10 @@ use Rattle.camera.specs.Requests.{controlRefusal, outcomeBy}
 -- the selector of a key, which is the kind of its records
 abbrev pub selectorAt : ℕ → ℕ
 selectorAt k =
-    cond (eqb k 0) selector.ev
+    cond (eqb k form.evKey) selector.ev
     (cond (leb k places) selector.face
-    (cond (eqb k (places + 1)) selector.metadata
-    (cond (eqb k (places + 2)) selector.hdr
+    (cond (eqb k form.metadataKey) selector.metadata
+    (cond (eqb k form.hdrKey) selector.hdr
     selector.throttle)))
 
 -- a record of a key as a SET: the control's tests, then the value tests of its payload

@@ -5,7 +5,10 @@ use crate::requests::control_refusal;
 use controls::Item;
 use controls::code_of;
 use profile::Profile;
+use snapshot::EV_KEY;
+use snapshot::HDR_KEY;
 use snapshot::KEYS;
+use snapshot::METADATA_KEY;
 use wire::Part;
 use wire::endpoints::PLACES;
 use wire::selectors::EV;
@@ -20,14 +23,10 @@ ghost use Rattle.snapshot.specs.Form.{wellFormed};
 ghost use Rattle.camera.specs.Snapshots.{selectorAt, recordItem, loaded};
 ghost use Rattle.camera.specs.Steps.{loadDone};
 
-const METADATA_KEY: usize = PLACES + 1;
-
-const HDR_KEY: usize = PLACES + 2;
-
 fn selector_at(key: usize) -> u8
     ensures { λ r. ⌜ r ≡ selectorAt key ⌝ }
 {
-    if key == 0 {
+    if key == EV_KEY {
         return EV;
     }
     if key <= PLACES {

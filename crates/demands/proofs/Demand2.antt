@@ -9,6 +9,7 @@ use lib.Dec.{eqb}
 use lib.IntN.{pos, _*ℤ_}
 use lib.ListN.{length, getD}
 use borrow.Author.Tests.{eq-eqb, ne-eqb, eqb-true, le-ltb, leb-true}
+use Rattle.snapshot.specs.Form.{metadataKey, hdrKey, throttleKey}
 use Rattle.wire.specs.Endpoints.{firstAddress, places}
 use Rattle.wire.specs.Number.{bytesOf}
 use Rattle.wire.specs.Rows.{firstOf}
@@ -123,17 +124,17 @@ module _ (c : Camera) (l : length (c .settings .face) ≡ places) where
       go E.Unset z = refl
       go (E.Held s) z = absurd (none-never (S.Ev s) (sym z))
   unset-current _ selectors.face h = fresh-answer (c .profile .face) (c .settings .face) (face-none (c .settings) l h)
-  unset-current _ selectors.metadata h = go (c .settings .metadata) (h (places + 1) refl)
+  unset-current _ selectors.metadata h = go (c .settings .metadata) (h metadataKey refl)
     where
       go : (n : Number) → metadataHeld n ≡ none → bytesOf 4 (metadataAt (c .profile .metadata) n getCur) ≡ bytesOf 4 (metadataAt (c .profile .metadata) n getDef)
       go N.Unset z = refl
       go (N.Held n) z = absurd (none-never (S.Metadata n) (sym z))
-  unset-current _ selectors.hdr h = go (c .settings .hdr) (h (places + 2) refl)
+  unset-current _ selectors.hdr h = go (c .settings .hdr) (h hdrKey refl)
     where
       go : (n : Number) → hdrHeld n ≡ none → bytesOf 4 (hdrAt (c .profile .auto) n getCur) ≡ bytesOf 4 (hdrAt (c .profile .auto) n getDef)
       go N.Unset z = refl
       go (N.Held n) z = absurd (none-never (S.Hdr n) (sym z))
-  unset-current _ selectors.throttle h = go (c .settings .throttle) (h (places + 3) refl)
+  unset-current _ selectors.throttle h = go (c .settings .throttle) (h throttleKey refl)
     where
       bytes : Throttle → ℕ → List ℕ
       bytes t code = throttle.throttleBytes (throttle.throttleAt (c .profile .throttle) t code) (c .profile .throttle)

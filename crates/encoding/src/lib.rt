@@ -6,6 +6,10 @@ use controls::Item;
 use controls::Setting;
 use controls::ThrottleSetting;
 use settings::Settings;
+use snapshot::EV_KEY;
+use snapshot::HDR_KEY;
+use snapshot::METADATA_KEY;
+use snapshot::THROTTLE_KEY;
 use wire::endpoints::FIRST;
 use wire::endpoints::PLACES;
 use wire::selectors::EV;
@@ -23,12 +27,6 @@ ghost use Rattle.controls.specs.Settings.{settingOf};
 ghost use Rattle.settings.specs.Settings.{faceHeld};
 ghost use Rattle.encoding.specs.Encoding.{framed, row, encoded};
 ghost use Rattle.encoding.specs.Steps.{rowHeld};
-
-const METADATA_KEY: usize = PLACES + 1;
-
-const HDR_KEY: usize = PLACES + 2;
-
-const THROTTLE_KEY: usize = PLACES + 3;
 
 // Each of these writes the record of a setting at a place, as far as out reaches.
 fn put_ev(out: &mut [u8], at: usize, s: EvSetting)
@@ -184,7 +182,7 @@ pub fn measure(s: Settings) -> usize
     ensures { λ r. ⌜ r ≡ length (encoded s) ⌝ }
 {
     let face = s.face;
-    let mut n = length_held(s.held(0));
+    let mut n = length_held(s.held(EV_KEY));
     let mut i = 0;
     while i < PLACES {
         n += length_place(face[i]);
@@ -201,7 +199,7 @@ pub fn write(s: Settings, out: &mut [u8])
     ensures { λ _. ⌜ now (out .exit) ≡ overlay (now (out .entry)) 0 (encoded s) ⌝ }
 {
     let face = s.face;
-    let ev = s.held(0);
+    let ev = s.held(EV_KEY);
     put_held(out, 0, ev);
     let mut n = length_held(ev);
     let mut i = 0;

@@ -6,7 +6,7 @@ use lib.Dec.{leb, eqb}
 use lib.ListN.{getD, replicate}
 use Rattle.wire.specs.Endpoints.{firstAddress, places}
 use Rattle.wire.specs.Selectors as selector
-use Rattle.snapshot.specs.Form.{keyFor, keys}
+use Rattle.snapshot.specs.Form.{keyFor, keys, evKey, metadataKey, hdrKey, throttleKey}
 use Rattle.exposure.specs.declared.ev.Ev.{Ev}
 use Rattle.exposure.specs.declared.ev.Ev.the-variants as E
 use Rattle.throttle.specs.declared.Throttle.{Throttle}
@@ -70,11 +70,11 @@ throttleHeld (T.Held s) = some (S.Throttle s)
 -- the setting held of a key, or none
 unfoldable pub held : Settings → ℕ → Option Setting
 held s k =
-    cond (eqb k 0) (evHeld (s .ev))
+    cond (eqb k evKey) (evHeld (s .ev))
     (cond (leb k places) (faceHeld (firstAddress + (k - 1)) (getD (s .face) (k - 1) 0))
-    (cond (eqb k (places + 1)) (metadataHeld (s .metadata))
-    (cond (eqb k (places + 2)) (hdrHeld (s .hdr))
-    (cond (eqb k (places + 3)) (throttleHeld (s .throttle)) none))))
+    (cond (eqb k metadataKey) (metadataHeld (s .metadata))
+    (cond (eqb k hdrKey) (hdrHeld (s .hdr))
+    (cond (eqb k throttleKey) (throttleHeld (s .throttle)) none))))
 
 -- the same as an item
 abbrev pub itemHeld : Option Setting → Item

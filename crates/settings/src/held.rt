@@ -4,17 +4,15 @@ use controls::Item;
 use controls::Number;
 use controls::Setting;
 use exposure::Ev;
+use snapshot::EV_KEY;
+use snapshot::HDR_KEY;
+use snapshot::METADATA_KEY;
+use snapshot::THROTTLE_KEY;
 use throttle::Throttle;
 use wire::endpoints::FIRST;
 use wire::endpoints::PLACES;
 ghost use mathlib.Core.Path.{_≡_};
 ghost use Rattle.settings.specs.Settings.{evHeld, faceHeld, metadataHeld, hdrHeld, throttleHeld, held, itemHeld};
-
-const METADATA_KEY: usize = PLACES + 1;
-
-const HDR_KEY: usize = PLACES + 2;
-
-const THROTTLE_KEY: usize = PLACES + 3;
 
 fn held_ev(held: Ev) -> Item
     ensures { λ r. ⌜ r ≡ itemHeld (evHeld held) ⌝ }
@@ -66,7 +64,7 @@ impl Settings {
     pub fn held(self, key: usize) -> Item
         ensures { λ r. ⌜ r ≡ itemHeld (held self key) ⌝ }
     {
-        if key == 0 {
+        if key == EV_KEY {
             return held_ev(self.ev);
         }
         if key <= PLACES {

@@ -13,6 +13,19 @@ use Rattle.wire.specs.Endpoints.{firstAddress, lastAddress, places}
 -- The kinds are the selectors: exposure compensation (EV), face authentication, metadata, HDR, throttle.
 -- A key is a kind, of face authentication with an address. The keys are numbered by kind, then address: 0 is EV, from 1 on face
 -- authentication has a key for each address, and metadata, HDR and throttle are the last three.
+abbrev pub evKey : ℕ
+evKey = 0
+
+abbrev pub metadataKey : ℕ
+metadataKey = 1 + places
+
+abbrev pub hdrKey : ℕ
+hdrKey = 2 + places
+
+abbrev pub throttleKey : ℕ
+throttleKey = 3 + places
+
+-- how many there are
 abbrev pub keys : ℕ
 keys = 4 + places
 
@@ -28,7 +41,7 @@ lengthOf kind =
 
 -- the length of a whole record of a key; 0 where there is no such key
 abbrev pub sizeOf : ℕ → ℕ
-sizeOf k = cond (eqb k 0) 15 (cond (leb k places) 13 (cond (leb k (2 + places)) 8 (cond (eqb k (3 + places)) 24 0)))
+sizeOf k = cond (eqb k evKey) 15 (cond (leb k places) 13 (cond (leb k hdrKey) 8 (cond (eqb k throttleKey) 24 0)))
 
 -- the length of a snapshot with a record of each key
 abbrev pub longest : ℕ
@@ -37,11 +50,11 @@ longest = 250
 -- the key of a known kind, and for face authentication of an address
 abbrev pub keyFor : ℕ → ℕ → ℕ
 keyFor kind address =
-    cond (eqb kind ev) 0
+    cond (eqb kind ev) evKey
     (cond (eqb kind face) (address - (firstAddress - 1))
-    (cond (eqb kind metadata) (1 + places)
-    (cond (eqb kind hdr) (2 + places)
-    (3 + places))))
+    (cond (eqb kind metadata) metadataKey
+    (cond (eqb kind hdr) hdrKey
+    throttleKey)))
 
 -- all bytes are zero
 abbrev pub zeros : List ℕ → Bool

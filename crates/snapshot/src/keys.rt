@@ -9,13 +9,13 @@ ghost use lib.Dec.{eqb};
 ghost use Rattle.snapshot.specs.Form.{keys, sizeOf};
 ghost use Rattle.snapshot.specs.Steps.{keyBy};
 
-const EV_KEY: usize = 0;
+pub const EV_KEY: usize = 0;
 
-const METADATA_KEY: usize = PLACES + 1;
+pub const METADATA_KEY: usize = PLACES + 1;
 
-const HDR_KEY: usize = PLACES + 2;
+pub const HDR_KEY: usize = PLACES + 2;
 
-pub(crate) const THROTTLE_KEY: usize = PLACES + 3;
+pub const THROTTLE_KEY: usize = PLACES + 3;
 
 // How many keys there are; as a key, none.
 pub const KEYS: usize = PLACES + 4;

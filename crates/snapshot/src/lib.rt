@@ -10,7 +10,11 @@ mod records;
 
 pub use form::check;
 pub use form::well_formed;
+pub use keys::EV_KEY;
+pub use keys::HDR_KEY;
 pub use keys::KEYS;
+pub use keys::METADATA_KEY;
+pub use keys::THROTTLE_KEY;
 pub use keys::size_of;
 pub use records::key_at;
 pub use records::record_of;

@@ -10,7 +10,7 @@ use Rattle.wire.specs.Number.{bytesOf}
 use Rattle.wire.specs.Endpoints.{firstAddress, lastAddress, places}
 use Rattle.wire.specs.Selectors as selector
 use Rattle.wire.specs.Uvc.{getCur, getDef}
-use Rattle.snapshot.specs.Form.{keyFor}
+use Rattle.snapshot.specs.Form.{keyFor, metadataKey}
 use Rattle.request.specs.Tests as tests
 use Rattle.settings.specs.Answers.{valueOf}
 use Rattle.settings.specs.Settings.{keyOf, faceHeld}
@@ -60,7 +60,7 @@ module _ (c : Camera) where
     pub metadata-current : (n : ℕ) → held c (keyOf (S.Metadata n)) ≡ some (S.Metadata n) → answerOf c selector.metadata getCur ≡ bytesOf 4 n
     unfolding settings.held tests.answerOf valueOf answerBy metadataAt numberOr
     metadata-current n e =
-        let writable : c .profile .metadata .writable ≡ true = control-settable (c .profile) selector.metadata (held-good (c .profile) (c .settings) w (places + 1) (S.Metadata n) e .1 .control) in
+        let writable : c .profile .metadata .writable ≡ true = control-settable (c .profile) selector.metadata (held-good (c .profile) (c .settings) w metadataKey (S.Metadata n) e .1 .control) in
         rw (writable, metadata-same (c .settings .metadata) (N.Held n) e)
 
 -- the entry of the endpoint at place j, by its address's setting

@@ -9,7 +9,7 @@ use lib.Dec.{eqb, leb}
 use lib.ListN.{length, getD, replicate, getD-replicate}
 use borrow.Author.Tests.{eq-eqb, ne-eqb, eqb-true, eqb-false, le-leb, lt-leb, leb-true}
 use Rattle.wire.specs.Endpoints.{firstAddress, lastAddress, places}
-use Rattle.snapshot.specs.Form.{keys}
+use Rattle.snapshot.specs.Form.{keys, metadataKey, hdrKey, throttleKey}
 use Rattle.snapshot.specs.Settings.{over, lastOf}
 use Rattle.snapshot.proofs.Laws.Settings.{over-assoc}
 use Rattle.controls.specs.declared.Setting.{Setting}
@@ -41,23 +41,23 @@ module _ (h : Settings) (k : ℕ) where
 
   pub held-none : keys ≤ k → held h k ≡ none
   unfolding held
-  held-none l = rw (ne-eqb k 0 (omega arith), lt-leb k places (omega arith), ne-eqb k (places + 1) (omega arith), ne-eqb k (places + 2) (omega arith), ne-eqb k (places + 3) (omega arith))
+  held-none l = rw (ne-eqb k 0 (omega arith), lt-leb k places (omega arith), ne-eqb k metadataKey (omega arith), ne-eqb k hdrKey (omega arith), ne-eqb k throttleKey (omega arith))
 
 -- settings that agree on the control of key k hold the same of it
 held-same : (c d : Settings) (k : ℕ) → (k ≡ 0 → c .ev ≡ d .ev) → (1 ≤ k → k ≤ places → getD (c .face) (k - 1) 0 ≡ getD (d .face) (k - 1) 0)
-    → (k ≡ places + 1 → c .metadata ≡ d .metadata) → (k ≡ places + 2 → c .hdr ≡ d .hdr) → (k ≡ places + 3 → c .throttle ≡ d .throttle) → held c k ≡ held d k
+    → (k ≡ metadataKey → c .metadata ≡ d .metadata) → (k ≡ hdrKey → c .hdr ≡ d .hdr) → (k ≡ throttleKey → c .throttle ≡ d .throttle) → held c k ≡ held d k
 unfolding held
-held-same c d k ev face metadata hdr throttle = go (eqb k 0) (leb k places) (eqb k (places + 1)) (eqb k (places + 2)) (eqb k (places + 3)) refl refl refl refl refl
+held-same c d k ev face metadata hdr throttle = go (eqb k 0) (leb k places) (eqb k metadataKey) (eqb k hdrKey) (eqb k throttleKey) refl refl refl refl refl
   where
     by : Bool → Bool → Bool → Bool → Bool → Settings → Option Setting
     by a b m h t s = cond a (evHeld (s .ev)) (cond b (faceHeld (firstAddress + (k - 1)) (getD (s .face) (k - 1) 0)) (cond m (metadataHeld (s .metadata)) (cond h (hdrHeld (s .hdr)) (cond t (throttleHeld (s .throttle)) none))))
 
-    go : (a b m h t : Bool) → eqb k 0 ≡ a → leb k places ≡ b → eqb k (places + 1) ≡ m → eqb k (places + 2) ≡ h → eqb k (places + 3) ≡ t → by a b m h t c ≡ by a b m h t d
+    go : (a b m h t : Bool) → eqb k 0 ≡ a → leb k places ≡ b → eqb k metadataKey ≡ m → eqb k hdrKey ≡ h → eqb k throttleKey ≡ t → by a b m h t c ≡ by a b m h t d
     go true b m h t p q r s u = ap evHeld (ev (eqb-true k 0 p))
     go false true m h t p q r s u = ap (faceHeld (firstAddress + (k - 1))) (face (let n = eqb-false k 0 p in omega arith) (leb-true k places q))
-    go false false true h t p q r s u = ap metadataHeld (metadata (eqb-true k (places + 1) r))
-    go false false false true t p q r s u = ap hdrHeld (hdr (eqb-true k (places + 2) s))
-    go false false false false true p q r s u = ap throttleHeld (throttle (eqb-true k (places + 3) u))
+    go false false true h t p q r s u = ap metadataHeld (metadata (eqb-true k metadataKey r))
+    go false false false true t p q r s u = ap hdrHeld (hdr (eqb-true k hdrKey s))
+    go false false false false true p q r s u = ap throttleHeld (throttle (eqb-true k throttleKey u))
     go false false false false false p q r s u = refl
 
 -- what is put in is held
@@ -123,7 +123,7 @@ puts-length h (x ∷ l) = puts-length (put h (x .1)) l ∙ put-length h (x .1)
 -- no settings hold nothing
 pub none-held : (k : ℕ) → held noSettings k ≡ none
 unfolding held noSettings
-none-held k = go (eqb k 0) (leb k places) (eqb k (places + 1)) (eqb k (places + 2)) (eqb k (places + 3)) refl refl
+none-held k = go (eqb k 0) (leb k places) (eqb k metadataKey) (eqb k hdrKey) (eqb k throttleKey) refl refl
   where
     go : (a b m h t : Bool) → eqb k 0 ≡ a → leb k places ≡ b
         → cond a (evHeld E.Unset) (cond b (faceHeld (firstAddress + (k - 1)) (getD (replicate {A = ℕ} places 0) (k - 1) 0)) (cond m (metadataHeld N.Unset) (cond h (hdrHeld N.Unset) (cond t (throttleHeld T.Unset) none)))) ≡ none
@@ -148,7 +148,7 @@ Named k s = (keyOf s ≡ k) × Proper s
 
 pub held-named : (h : Settings) (k : ℕ) (s : Setting) → held h k ≡ some s → Named k s
 unfolding held
-held-named c k s e = go (eqb k 0) (leb k places) (eqb k (places + 1)) (eqb k (places + 2)) (eqb k (places + 3)) refl refl refl refl refl e
+held-named c k s e = go (eqb k 0) (leb k places) (eqb k metadataKey) (eqb k hdrKey) (eqb k throttleKey) refl refl refl refl refl e
   where
     of-ev : (h : Ev) → evHeld h ≡ some s → Named 0 s
     of-ev E.Unset q = absurd (none-never s q)
@@ -158,20 +158,20 @@ held-named c k s e = go (eqb k 0) (leb k places) (eqb k (places + 1)) (eqb k (pl
     of-number n control p N.Unset q = absurd (none-never s q)
     of-number n control p (N.Held m) q = some-is (Named n) (control m) s q (p m)
 
-    of-throttle : (h : Throttle) → throttleHeld h ≡ some s → Named (places + 3) s
+    of-throttle : (h : Throttle) → throttleHeld h ≡ some s → Named throttleKey s
     of-throttle T.Unset q = absurd (none-never s q)
-    of-throttle (T.Held x) q = some-is (Named (places + 3)) (S.Throttle x) s q (refl, tt)
+    of-throttle (T.Held x) q = some-is (Named throttleKey) (S.Throttle x) s q (refl, tt)
 
     of-face : (flags : ℕ) (b : Bool) → eqb flags 0 ≡ b → 1 ≤ k → k ≤ places → cond b none (some (S.Face (firstAddress + (k - 1)) flags)) ≡ some s → Named k s
     of-face flags true z l h q = absurd (none-never s q)
     of-face flags false z l h q = let n = eqb-false flags 0 z in some-is (Named k) (S.Face (firstAddress + (k - 1)) flags) s q (omega arith, (omega arith, omega arith, omega arith))
 
-    go : (a b m h t : Bool) → eqb k 0 ≡ a → leb k places ≡ b → eqb k (places + 1) ≡ m → eqb k (places + 2) ≡ h → eqb k (places + 3) ≡ t
+    go : (a b m h t : Bool) → eqb k 0 ≡ a → leb k places ≡ b → eqb k metadataKey ≡ m → eqb k hdrKey ≡ h → eqb k throttleKey ≡ t
         → cond a (evHeld (c .ev)) (cond b (faceHeld (firstAddress + (k - 1)) (getD (c .face) (k - 1) 0)) (cond m (metadataHeld (c .metadata)) (cond h (hdrHeld (c .hdr)) (cond t (throttleHeld (c .throttle)) none)))) ≡ some s
         → Named k s
     go true b m h t p q r u v x = rw (eqb-true k 0 p) (of-ev (c .ev) x)
     go false true m h t p q r u v x = of-face (getD (c .face) (k - 1) 0) _ refl (let n = eqb-false k 0 p in omega arith) (leb-true k places q) x
-    go false false true h t p q r u v x = rw (eqb-true k (places + 1) r) (of-number (places + 1) S.Metadata (λ m. (refl, tt)) (c .metadata) x)
-    go false false false true t p q r u v x = rw (eqb-true k (places + 2) u) (of-number (places + 2) S.Hdr (λ m. (refl, tt)) (c .hdr) x)
-    go false false false false true p q r u v x = rw (eqb-true k (places + 3) v) (of-throttle (c .throttle) x)
+    go false false true h t p q r u v x = rw (eqb-true k metadataKey r) (of-number metadataKey S.Metadata (λ m. (refl, tt)) (c .metadata) x)
+    go false false false true t p q r u v x = rw (eqb-true k hdrKey u) (of-number hdrKey S.Hdr (λ m. (refl, tt)) (c .hdr) x)
+    go false false false false true p q r u v x = rw (eqb-true k throttleKey v) (of-throttle (c .throttle) x)
     go false false false false false p q r u v x = absurd (none-never s x)

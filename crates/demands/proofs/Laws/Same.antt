@@ -8,6 +8,7 @@ use lib.Dec.{eqb}
 use lib.ListN.{length, getD}
 use lib.Seq.{ext-getD}
 use borrow.Author.Tests.{eqb-true}
+use Rattle.snapshot.specs.Form.{metadataKey, hdrKey, throttleKey}
 use Rattle.wire.specs.Endpoints.{firstAddress, places}
 use Rattle.controls.specs.declared.Setting.{Setting}
 use Rattle.controls.specs.declared.Setting.the-variants as S
@@ -70,7 +71,7 @@ module _ (g h : Settings) (same : (k : ℕ) → held g k ≡ held h k) (l : leng
   settings-same =
       let e = ev-same (g .ev) (h .ev) (same 0) in
       let f = ext-getD 0 (g .face) (h .face) (l ∙ sym m) (λ i b. place-same i (omega arith)) in
-      let n = metadata-same (g .metadata) (h .metadata) (same (places + 1)) in
-      let o = hdr-same (g .hdr) (h .hdr) (same (places + 2)) in
-      let t = throttle-same (g .throttle) (h .throttle) (same (places + 3)) in
+      let n = metadata-same (g .metadata) (h .metadata) (same metadataKey) in
+      let o = hdr-same (g .hdr) (h .hdr) (same hdrKey) in
+      let t = throttle-same (g .throttle) (h .throttle) (same throttleKey) in
       λ i. record { ev = e i; face = f i; metadata = n i; hdr = o i; throttle = t i }

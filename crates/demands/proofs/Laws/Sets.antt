@@ -8,6 +8,7 @@ use lib.Dec.{eqb}
 use lib.ListN.{length, getD, drop, length-drop}
 use lib.Seq.{getD-drop}
 use borrow.Author.Tests.{eq-eqb, ne-eqb, le-leb, eqb-true, eqb-false}
+use Rattle.snapshot.specs.Form.{metadataKey, hdrKey, throttleKey}
 use Rattle.wire.specs.Endpoints.{firstAddress, places}
 use Rattle.wire.specs.Number.{leAt, bytesOf}
 use Rattle.wire.specs.Rows.{Row, _⇒_, answers, firstOf}
@@ -65,9 +66,9 @@ key-kind k r s e (face q) =
     let z : getD r 5 0 - (firstAddress - 1) ≡ k = rw q at e in
     let b = sound-address r s q in
     rw (q, ne-eqb k 0 (omega arith), le-leb k places (omega arith))
-key-kind k r s e (metadata q) = let z : places + 1 ≡ k = rw q at e in rw (← z, q)
-key-kind k r s e (hdr q) = let z : places + 2 ≡ k = rw q at e in rw (← z, q)
-key-kind k r s e (throttle q) = let z : places + 3 ≡ k = rw q at e in rw (← z, q)
+key-kind k r s e (metadata q) = let z : metadataKey ≡ k = rw q at e in rw (← z, q)
+key-kind k r s e (hdr q) = let z : hdrKey ≡ k = rw q at e in rw (← z, q)
+key-kind k r s e (throttle q) = let z : throttleKey ≡ k = rw q at e in rw (← z, q)
 
 module _ (k : ℕ) (r : List ℕ) (g : Record k r) where
   record-sound : Sound r

@@ -17,7 +17,7 @@ use Rattle.request.specs.Setup as setup
 use Rattle.request.specs.Table.{Table}
 use Rattle.request.specs.Tests.{requestTests, sized, sentCount, valueTests, requestRows}
 use Rattle.request.specs.Tests as tests
-use Rattle.snapshot.specs.Form.{keys}
+use Rattle.snapshot.specs.Form.{keys, metadataKey, hdrKey}
 use Rattle.snapshot.specs.Records.{decode}
 use Rattle.snapshot.specs.Settings.{over, lastOf}
 use Rattle.controls.specs.declared.Item.{Item}
@@ -197,7 +197,7 @@ isGiven (Given s) = true
 
 -- a key's records are of one of the five controls
 pub key-control : (k : ℕ) → Control (selectorAt k)
-key-control k = go (eqb k 0) (leb k places) (eqb k (places + 1)) (eqb k (places + 2))
+key-control k = go (eqb k 0) (leb k places) (eqb k metadataKey) (eqb k hdrKey)
   where
     go : (a b c d : Bool) → Control (cond a selectors.ev (cond b selectors.face (cond c selectors.metadata (cond d selectors.hdr selectors.throttle))))
     go true b c d = ev

@@ -5,6 +5,7 @@ use mathlib.Core.Bool.{Bool, true, false, cond}
 use Prim.Native.Nat.{ℕ, _+_, _-_, _^_, _<_}
 use lib.Dec.{eqb, leb, lit<}
 use lib.ListN.{getD}
+use Rattle.snapshot.specs.Form.{metadataKey, hdrKey, throttleKey}
 use Rattle.wire.specs.Endpoints.{firstAddress, places}
 use Rattle.controls.specs.declared.Setting.{Setting}
 use Rattle.controls.specs.declared.Setting.the-variants as S
@@ -23,7 +24,7 @@ Small s = flagsOf s < 2 ^ 8
 pub held-typed : (h : Settings) → ((s : Setting) → evHeld (h .ev) ≡ some s → flagsOf s < 2 ^ 8) → ((i : ℕ) → getD (h .face) i 0 < 2 ^ 8)
     → (k : ℕ) (s : Setting) → held h k ≡ some s → flagsOf s < 2 ^ 8
 unfolding held
-held-typed h ev face k s e = go (eqb k 0) (leb k places) (eqb k (places + 1)) (eqb k (places + 2)) (eqb k (places + 3)) e
+held-typed h ev face k s e = go (eqb k 0) (leb k places) (eqb k metadataKey) (eqb k hdrKey) (eqb k throttleKey) e
   where
     of-face : (flags : ℕ) (b : Bool) (address : ℕ) → flags < 2 ^ 8 → cond b none (some (S.Face address flags)) ≡ some s → Small s
     of-face flags true address l q = absurd (none-never s q)

@@ -13,6 +13,7 @@ use Rattle.wire.specs.Uvc.{invalidControl, invalidRequest}
 use Rattle.wire.specs.Endpoints.{firstAddress, places}
 use Rattle.wire.specs.Rows.{_⇒_, firstOf}
 use Rattle.wire.specs.Selectors.{face, metadata}
+use Rattle.snapshot.specs.Form.{evKey, metadataKey, hdrKey, throttleKey}
 use Rattle.controls.specs.declared.Setting.{Setting}
 use Rattle.controls.specs.declared.Setting.the-variants as S
 use Rattle.metadata.specs.Metadata.{metadataRefusal}
@@ -82,5 +83,5 @@ pub formed-controls : (p : Profile) (s : Settings)
 unfolding wellFormed facesKept allBelow held
 formed-controls p s =
     in-turn (profileValid p) _ _ _ _ _
-    ∙ ap (λ b. profileValid p && (b && keeps p s 16 && keeps p s 17 && keeps p s 18))
-    (ap (λ b. keeps p s 0 && b) (sym (all-same places _ _ (keeps-place p s))) ∙ sym (below-front places (keeps p s)))
+    ∙ ap (λ b. profileValid p && (b && keeps p s metadataKey && keeps p s hdrKey && keeps p s throttleKey))
+    (ap (λ b. keeps p s evKey && b) (sym (all-same places _ _ (keeps-place p s))) ∙ sym (below-front places (keeps p s)))
