@@ -7,7 +7,7 @@ use native.Mathlib.Omega.{arith}
 use lib.ListN.{getD}
 use borrow.Author.Tests.{ne-eqb}
 use Rattle.wire.specs.Number.{bytesOf}
-use Rattle.wire.specs.Endpoints.{firstAddress, lastAddress, places}
+use Rattle.wire.specs.Endpoints.{firstAddress, lastAddress}
 use Rattle.wire.specs.Selectors as selector
 use Rattle.wire.specs.Uvc.{getCur, getDef}
 use Rattle.snapshot.specs.Form.{keyFor, metadataKey}
