@@ -16,7 +16,7 @@ use Rattle.settings.specs.Settings.{noSettings}
 use Rattle.settings.specs.Settings as settings
 use Rattle.profile.specs.Items.{setRefusal}
 use Rattle.settings.specs.Items.{setGives}
-use Rattle.settings.specs.Answers.{infoOf, valueOf}
+use Rattle.answering.specs.Answers.{infoOf, valueOf}
 use Rattle.camera.specs.declared.record.Camera.{Camera}
 use Rattle.camera.specs.declared.calls.Outcome.{Outcome}
 use Rattle.camera.specs.Record.{puts}

@@ -53,7 +53,9 @@ impl Camera {
         ensures { λ r. ⌜ r ≡ getDone self (now (setup .entry)) (length (now (reply .entry))) ⌝ }
         ensures { λ _. ⌜ now (reply .exit) ≡ replyOf (asked (table self) (now (setup .entry))) (wLengthOf (now (setup .entry))) (now (reply .entry)) ⌝ }
     {
-        let a = self.settings.answer(self.profile, request::selector(setup), request::code(setup));
+        let selector = request::selector(setup);
+        let code = request::code(setup);
+        let a = answering::answer(self.profile, self.settings, selector, code);
         let n = a.len;
         let bytes = a.bytes;
         let sent = request::send(&bytes[..n], request::wlength(setup), reply);

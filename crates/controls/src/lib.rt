@@ -1,5 +1,5 @@
-// Settings of the Microsoft extension unit, whichever of its five controls they are of, and what an item of a SET comes to: the words that the
-// crates of the controls share. Document 01, "The five controls".
+// Settings of the Microsoft extension unit, whichever of its five controls they are of, and what an item of a SET comes to: the words that
+// the crates of the controls share. Document 01, "The five controls".
 // Each control has a crate of its own: `exposure`, `face` with `entries`, `metadata`, `hdr` and `throttle`. Nothing in them knows of a
 // camera: each function goes by its control's limits, the setting held and the payload.
 ghost use mathlib.Core.Path.{_≡_};

@@ -53,7 +53,7 @@ use Rattle.settings.specs.Settings as settings
 use Rattle.profile.specs.Items.{setRefusal}
 use Rattle.settings.specs.Items.{allGiven, setGives}
 use Rattle.settings.specs.Items as items
-use Rattle.settings.specs.Answers.{valueOf}
+use Rattle.answering.specs.Answers.{valueOf}
 use Rattle.profile.proofs.Laws.Profile.{valid-presence, valid-ev, valid-face}
 use Rattle.profile.proofs.Laws.Selectors.{control-known}
 use Rattle.camera.specs.declared.record.Camera.{Camera}

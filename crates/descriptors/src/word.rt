@@ -1,5 +1,5 @@
-// The two-byte number at an offset that is known to lie in the set. `wire::le16` is total, and tests each place that it reads: with it the check takes
-// more than twice as long.
+// The two-byte number at an offset that is known to lie in the set. `wire::le16` is total, and tests each place that it reads: with it the
+// check takes more than twice as long.
 ghost use mathlib.Core.Path.{_≡_};
 ghost use Prim.Native.Nat.{_+_, _<_};
 ghost use lib.ListN.{length};

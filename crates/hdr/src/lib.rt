@@ -1,4 +1,4 @@
-// HDR: SET's value tests, the setting that a SET gives, and GET's answers. Document 01, "The five controls"; 001 decides for it.
+// HDR: SET's value tests, the setting that a SET gives, and GET's answers. Document 01, "The five controls"; 001 decides.
 // Its payload is a number of four bytes: 0 off, 1 on and 2 auto. The maximum is a mask of modes and no largest mode.
 use controls::Item;
 use controls::Number;

@@ -1,4 +1,4 @@
-// Metadata: limits, SET's value tests, the setting that a SET gives, and GET's answers. Document 01, "The five controls"; 001 decides for it.
+// Metadata: limits, SET's value tests, the setting that a SET gives, and GET's answers. Document 01, "The five controls"; 001 decides.
 // Its payload is a number of four bytes, the size of the buffer that frame metadata goes to; 0 turns it off and the maximum on.
 use controls::Item;
 use controls::Number;

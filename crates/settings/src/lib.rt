@@ -1,7 +1,6 @@
-// The settings of a camera's five controls together: which keep their rules, what a SET gives, what is held, and what a GET answers.
+// The settings of a camera's five controls together: which keep their rules, what a SET gives, and what is held.
 // Document 01, "Profile and camera record" and "The five controls".
 // The crates of the controls know each by itself, and `profile` their limits; nothing here knows of the streaming flag or of calls.
-mod answers;
 mod held;
 mod items;
 mod kept;

@@ -1,4 +1,4 @@
-// The throttle: limits, SET's value tests, the setting that a SET gives, and GET's answers. Document 01, "The five controls"; 001 decides for it.
+// The throttle: limits, SET's value tests, the setting that a SET gives, and GET's answers. Document 01, "The five controls"; 001 decides.
 // Its payload is five numbers of four bytes: mode, percent, minimum, maximum and step; a SET's last three are not looked at.
 use controls::Item;
 use controls::Setting;

@@ -12,7 +12,7 @@ use Rattle.wire.specs.Selectors as selector
 use Rattle.wire.specs.Uvc.{getCur, getDef}
 use Rattle.snapshot.specs.Form.{keyFor, metadataKey}
 use Rattle.request.specs.Tests as tests
-use Rattle.settings.specs.Answers.{valueOf}
+use Rattle.answering.specs.Answers.{valueOf}
 use Rattle.settings.specs.Settings.{keyOf, faceHeld}
 use Rattle.settings.specs.Settings as settings
 use Rattle.controls.specs.declared.Setting.the-variants as S

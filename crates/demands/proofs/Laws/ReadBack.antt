@@ -43,7 +43,7 @@ use Rattle.profile.specs.Profile.{settable, takes, profileValid, controlRefusal
 use Rattle.settings.specs.Settings.{faceHeld, held, put}
 use Rattle.profile.specs.Items.{itemAt, setRefusal}
 use Rattle.settings.specs.Items.{givenOf, allGiven, puts, setGives, setTaken}
-use Rattle.settings.specs.Answers.{valueOf}
+use Rattle.answering.specs.Answers.{valueOf}
 use Rattle.settings.proofs.Laws.Items.{face-set}
 use Rattle.camera.specs.declared.record.Camera.{Camera}
 use Rattle.camera.specs.Record.{withSettings}

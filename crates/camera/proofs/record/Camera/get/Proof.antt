@@ -8,8 +8,8 @@ use Rattle.request.proofs.Laws.Packed.{unpack, unpack-room, unpack-length}
 use Rattle.request.specs.Tests.{asked}
 use Rattle.request.specs.Tests as request
 use Rattle.request.specs.Answers.{longest}
-use Rattle.settings.specs.Answers.{answerOf}
-use Rattle.settings.proofs.Laws.Answers.{answer-fits}
+use Rattle.answering.specs.Answers.{answerOf}
+use Rattle.answering.proofs.Laws.Answers.{answer-fits}
 use Rattle.camera.specs.Requests.{table}
 use Rattle.camera.specs.Steps.{getDone}
 use borrow.Author.Needs.{needs}

@@ -4,10 +4,10 @@ use Rattle.face.specs.Answers.{faceAnswer}
 use Rattle.metadata.specs.Metadata.{metadataAnswer}
 use Rattle.hdr.specs.Hdr.{hdrAnswer}
 use Rattle.throttle.specs.Throttle.{throttleAnswer}
-use Rattle.settings.specs.Answers.{valueOf, answerOf}
+use Rattle.answering.specs.Answers.{valueOf, answerOf}
 use borrow.Author.Needs.{needs}
-use Rattle.settings.proofs.settings.Settings.answer.Statement.{statement}
-use Rattle.settings.proofs.settings.Settings.answer.Tie as tie
+use Rattle.answering.proofs.answer.Statement.{statement}
+use Rattle.answering.proofs.answer.Tie as tie
 
 answer-requires : tie.Need-answer-requires
 answer-requires c κs = search needs

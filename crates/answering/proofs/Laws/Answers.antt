@@ -16,8 +16,8 @@ use Rattle.hdr.specs.Hdr.{hdrAt}
 use Rattle.throttle.specs.Throttle.{throttleAt, throttleBytes}
 use Rattle.throttle.proofs.Laws.Throttle.{throttle-length}
 use Rattle.profile.specs.declared.Profile.{Profile}
 use Rattle.settings.specs.declared.settings.Settings.{Settings}
-use Rattle.settings.specs.Answers.{valueOf, answerOf}
+use Rattle.answering.specs.Answers.{valueOf, answerOf}
 
 module _ (p : Profile) (s : Settings) (selector code : ℕ) where
   value-fits : length (valueOf p s selector code) ≤ longest

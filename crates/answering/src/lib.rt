@@ -1,0 +1,35 @@
+// A GET's full answer, control by control, by a camera's profile and settings. Document 01, "The five controls".
+// The crates of the controls know their own answers; `request` cuts an answer to wLength and sends it.
+use profile::Profile;
+use request::Answer;
+use settings::Settings;
+use wire::selectors::EV;
+use wire::selectors::FACE;
+use wire::selectors::HDR;
+use wire::selectors::METADATA;
+ghost use mathlib.Core.Path.{_≡_};
+ghost use Rattle.request.specs.Answers.{packed};
+ghost use Rattle.answering.specs.Answers.{answerOf};
+
+pub fn answer(p: Profile, s: Settings, selector: u8, code: u8) -> Answer
+    ensures { λ r. ⌜ r ≡ packed (answerOf p s selector code) ⌝ }
+{
+    if selector == EV {
+        let held = s.ev;
+        return exposure::answer(p.ev, held, code);
+    }
+    if selector == FACE {
+        let held = s.face;
+        return face::answer(p.face, held, code);
+    }
+    if selector == METADATA {
+        let held = s.metadata;
+        return metadata::answer(p.metadata, held, code);
+    }
+    if selector == HDR {
+        let held = s.hdr;
+        return hdr::answer(p.auto, held, code);
+    }
+    let held = s.throttle;
+    throttle::answer(p.throttle, held, code)
+}
