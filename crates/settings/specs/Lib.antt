@@ -1,3 +1,3 @@
--- What document 01 says of the settings of its five controls, whatever the calls that change them.
+-- What document 01 says of the settings of the five controls, whatever the calls that change them.
 pub mod Settings
 pub mod Items
