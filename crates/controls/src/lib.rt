@@ -27,8 +27,6 @@ pub enum Setting {
 
 // What one item of a SET or one record of a snapshot comes to.
 pub enum Item {
-    // no record of that key
-    Absent,
     // document 01's number
     Refused(u8),
     Given(Setting),
@@ -38,6 +36,12 @@ pub enum Item {
 pub enum Number {
     Unset,
     Held(u32),
+}
+
+// The setting held of a key, or none.
+pub enum HeldSetting {
+    Unset,
+    Held(Setting),
 }
 
 // What an item comes to by the number that its tests give.
@@ -50,12 +54,11 @@ pub fn item_of(code: u8, s: Setting) -> Item
     Item::Refused(code)
 }
 
-// The number of an item, 0 where it is taken or absent.
+// The number of an item, 0 where it is taken.
 pub fn code_of(item: Item) -> u8
     ensures { λ r. ⌜ r ≡ codeOf item ⌝ }
 {
     match item {
-        Item::Absent => 0,
         Item::Refused(code) => code,
         Item::Given(_) => 0,
     }

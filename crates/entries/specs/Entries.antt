@@ -103,5 +103,5 @@ entriesPut held payload (suc n) = putFace (entriesPut held payload n) (entryAddr
 unfoldable pub facesTaken : FaceLimits → List ℕ → List ℕ → Taken
 facesTaken l held payload =
     let n = getD payload 0 0 in
-    let code = firstRefusal n 0 (faceItem l payload) in
+    let code = firstRefusal n 0 (entryRefusal l payload) in
     record { code = code; held = cond (eqb code 0) (entriesPut held payload n) held }

@@ -6,7 +6,7 @@ use lib.Dec.{eqb}
 use lib.ListN.{getD}
 use Rattle.wire.specs.Selectors.{ev, face, metadata, hdr}
 use Rattle.controls.specs.declared.Item.{Item}
-use Rattle.controls.specs.Settings.{firstRefusal}
+use Rattle.controls.specs.Settings.{codeOf, firstRefusal}
 use Rattle.exposure.specs.Ev.{evItem}
 use Rattle.entries.specs.Entries.{faceItem}
 use Rattle.metadata.specs.Metadata.{metadataItem}
@@ -29,4 +29,4 @@ itemAt p selector payload i =
 
 -- SET's value tests, entry by entry
 unfoldable pub setRefusal : Profile → ℕ → List ℕ → ℕ
-setRefusal p selector payload = firstRefusal (itemCount selector payload) 0 (itemAt p selector payload)
+setRefusal p selector payload = firstRefusal (itemCount selector payload) 0 (λ i. codeOf (itemAt p selector payload i))

@@ -4,7 +4,7 @@ use mathlib.Core.List.{List, [], _∷_, _++_}
 use mathlib.Core.Bool.{cond}
 use lib.Dec.{eqb}
 use Rattle.controls.specs.declared.Item.{Item}
-use Rattle.controls.specs.declared.Item.the-variants.{Absent, Refused, Given}
+use Rattle.controls.specs.declared.Item.the-variants.{Refused, Given}
 use Rattle.controls.specs.declared.Setting.{Setting}
 use Rattle.profile.specs.declared.Profile.{Profile}
 use Rattle.profile.specs.Items.{itemCount, itemAt, setRefusal}
@@ -14,14 +14,13 @@ use Rattle.settings.specs.Settings.{keyOf, put}
 
 -- the settings that an item gives, each with its key
 unfoldable pub givenOf : Item → List (ℕ × Setting)
-givenOf Absent = []
 givenOf (Refused code) = []
 givenOf (Given s) = (keyOf s, s) ∷ []
 
--- the settings of the n items from k on, in order
-unfoldable pub allGiven : ℕ → ℕ → (ℕ → Item) → List (ℕ × Setting)
-allGiven zero k item = []
-allGiven (suc n) k item = givenOf (item k) ++ allGiven n (suc k) item
+-- what the n from k on give, in order
+unfoldable pub allGiven : ℕ → ℕ → (ℕ → List (ℕ × Setting)) → List (ℕ × Setting)
+allGiven zero k given = []
+allGiven (suc n) k given = given k ++ allGiven n (suc k) given
 
 -- settings put in one after the other
 unfoldable pub puts : Settings → List (ℕ × Setting) → Settings
@@ -30,7 +29,7 @@ puts h (s ∷ rest) = puts (put h (s .1)) rest
 
 -- the settings that a SET gives once it is accepted
 unfoldable pub setGives : Profile → ℕ → List ℕ → List (ℕ × Setting)
-setGives p selector payload = allGiven (itemCount selector payload) 0 (itemAt p selector payload)
+setGives p selector payload = allGiven (itemCount selector payload) 0 (λ i. givenOf (itemAt p selector payload i))
 
 -- a SET's number, and the settings with all of it or as they were
 unfoldable pub setTaken : Profile → Settings → ℕ → List ℕ → Taken

@@ -13,8 +13,8 @@ use Rattle.throttle.specs.declared.Throttle.{Throttle}
 use Rattle.throttle.specs.declared.Throttle.the-variants as T
 use Rattle.controls.specs.declared.Number.{Number}
 use Rattle.controls.specs.declared.Number.the-variants as N
-use Rattle.controls.specs.declared.Item.{Item}
-use Rattle.controls.specs.declared.Item.the-variants.{Absent, Given}
+use Rattle.controls.specs.declared.HeldSetting.{HeldSetting}
+use Rattle.controls.specs.declared.HeldSetting.the-variants as H
 use Rattle.controls.specs.declared.Setting.{Setting}
 use Rattle.controls.specs.declared.Setting.the-variants as S
 use Rattle.exposure.specs.Ev.{evRefusal}
@@ -76,10 +76,10 @@ held s k =
     (cond (eqb k hdrKey) (hdrHeld (s .hdr))
     (cond (eqb k throttleKey) (throttleHeld (s .throttle)) none))))
 
--- the same as an item
-abbrev pub itemHeld : Option Setting → Item
-itemHeld none = Absent
-itemHeld (some s) = Given s
+-- the same as the code has it
+abbrev pub heldSetting : Option Setting → HeldSetting
+heldSetting none = H.Unset
+heldSetting (some s) = H.Held s
 
 -- the settings with one more
 unfoldable pub put : Settings → Setting → Settings

@@ -1,6 +1,6 @@
 // The settings that are held, key by key, as a snapshot's records have them.
 use crate::settings::Settings;
-use controls::Item;
+use controls::HeldSetting;
 use controls::Number;
 use controls::Setting;
 use exposure::Ev;
@@ -12,57 +12,57 @@ use throttle::Throttle;
 use wire::endpoints::FIRST;
 use wire::endpoints::PLACES;
 ghost use mathlib.Core.Path.{_≡_};
-ghost use Rattle.settings.specs.Settings.{evHeld, faceHeld, metadataHeld, hdrHeld, throttleHeld, held, itemHeld};
+ghost use Rattle.settings.specs.Settings.{evHeld, faceHeld, metadataHeld, hdrHeld, throttleHeld, held, heldSetting};
 
-fn held_ev(held: Ev) -> Item
-    ensures { λ r. ⌜ r ≡ itemHeld (evHeld held) ⌝ }
+fn held_ev(held: Ev) -> HeldSetting
+    ensures { λ r. ⌜ r ≡ heldSetting (evHeld held) ⌝ }
 {
     match held {
-        Ev::Unset => Item::Absent,
-        Ev::Held(s) => Item::Given(Setting::Ev(s)),
+        Ev::Unset => HeldSetting::Unset,
+        Ev::Held(s) => HeldSetting::Held(Setting::Ev(s)),
     }
 }
 
-fn held_face(address: u8, flags: u8) -> Item
-    ensures { λ r. ⌜ r ≡ itemHeld (faceHeld address flags) ⌝ }
+fn held_face(address: u8, flags: u8) -> HeldSetting
+    ensures { λ r. ⌜ r ≡ heldSetting (faceHeld address flags) ⌝ }
 {
     if flags == 0 {
-        return Item::Absent;
+        return HeldSetting::Unset;
     }
-    Item::Given(Setting::Face { address, flags })
+    HeldSetting::Held(Setting::Face { address, flags })
 }
 
-fn held_metadata(held: Number) -> Item
-    ensures { λ r. ⌜ r ≡ itemHeld (metadataHeld held) ⌝ }
+fn held_metadata(held: Number) -> HeldSetting
+    ensures { λ r. ⌜ r ≡ heldSetting (metadataHeld held) ⌝ }
 {
     match held {
-        Number::Unset => Item::Absent,
-        Number::Held(n) => Item::Given(Setting::Metadata(n)),
-    }
-}
-
-fn held_hdr(held: Number) -> Item
-    ensures { λ r. ⌜ r ≡ itemHeld (hdrHeld held) ⌝ }
-{
-    match held {
-        Number::Unset => Item::Absent,
-        Number::Held(n) => Item::Given(Setting::Hdr(n)),
+        Number::Unset => HeldSetting::Unset,
+        Number::Held(n) => HeldSetting::Held(Setting::Metadata(n)),
     }
 }
 
-fn held_throttle(held: Throttle) -> Item
-    ensures { λ r. ⌜ r ≡ itemHeld (throttleHeld held) ⌝ }
+fn held_hdr(held: Number) -> HeldSetting
+    ensures { λ r. ⌜ r ≡ heldSetting (hdrHeld held) ⌝ }
 {
     match held {
-        Throttle::Unset => Item::Absent,
-        Throttle::Held(s) => Item::Given(Setting::Throttle(s)),
+        Number::Unset => HeldSetting::Unset,
+        Number::Held(n) => HeldSetting::Held(Setting::Hdr(n)),
+    }
+}
+
+fn held_throttle(held: Throttle) -> HeldSetting
+    ensures { λ r. ⌜ r ≡ heldSetting (throttleHeld held) ⌝ }
+{
+    match held {
+        Throttle::Unset => HeldSetting::Unset,
+        Throttle::Held(s) => HeldSetting::Held(Setting::Throttle(s)),
     }
 }
 
 impl Settings {
     // The setting held of a key, or none.
-    pub fn held(self, key: usize) -> Item
-        ensures { λ r. ⌜ r ≡ itemHeld (held self key) ⌝ }
+    pub fn held(self, key: usize) -> HeldSetting
+        ensures { λ r. ⌜ r ≡ heldSetting (held self key) ⌝ }
     {
         if key == EV_KEY {
             return held_ev(self.ev);
@@ -80,6 +80,6 @@ impl Settings {
         if key == THROTTLE_KEY {
             return held_throttle(self.throttle);
         }
-        Item::Absent
+        HeldSetting::Unset
     }
 }

@@ -19,7 +19,6 @@ impl Settings {
         ensures { λ r. ⌜ r ≡ puts self (givenOf item) ⌝ }
     {
         match item {
-            Item::Absent => self,
             Item::Refused(_) => self,
             Item::Given(s) => self.put(s),
         }

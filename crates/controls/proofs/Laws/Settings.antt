@@ -1,5 +1,5 @@
 -- What an item comes to. Assumes nothing.
-use mathlib.Core.Path.{_≡_, refl}
+use mathlib.Core.Path.{_≡_, refl, sym}
 use mathlib.Core.Bool.{Bool, true, false, cond}
 use Prim.Native.Nat.{ℕ}
 use native.Mathlib.Omega.{arith}
@@ -7,7 +7,7 @@ use lib.Dec.{eqb}
 use borrow.Author.Tests.{eq-eqb, ne-eqb, eqb-true}
 use Rattle.controls.specs.declared.Setting.{Setting}
 use Rattle.controls.specs.declared.Item.the-variants.{Refused, Given}
-use Rattle.controls.specs.Settings.{itemOf}
+use Rattle.controls.specs.Settings.{itemOf, codeOf}
 
 module _ (code : ℕ) (s : Setting) where
   pub item-given : code ≡ 0 → itemOf code s ≡ Given s
@@ -17,6 +17,15 @@ module _ (code : ℕ) (s : Setting) where
   pub item-refused : (code ≡ 0 → ⊥) → itemOf code s ≡ Refused code
   unfolding itemOf
   item-refused n = rw (ne-eqb code 0 n)
+
+  -- its number is that of its tests
+  pub item-code : codeOf (itemOf code s) ≡ code
+  unfolding itemOf codeOf
+  item-code = go (eqb code 0) refl
+    where
+      go : (b : Bool) → eqb code 0 ≡ b → codeOf (cond b (Given s) (Refused code)) ≡ code
+      go true e = sym (eqb-true code 0 e)
+      go false e = refl
 
   -- an item is given only where its tests give 0
   pub given-is : (t : Setting) → itemOf code s ≡ Given t → (code ≡ 0) × (s ≡ t)

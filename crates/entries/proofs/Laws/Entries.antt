@@ -24,19 +24,11 @@ use Rattle.face.specs.Limits.{addressAt, offersAt, offersOf, placeOf}
 use Rattle.entries.specs.Entries.{entryAddress, entryFlags, seenIn, seenBefore, entryTests, entryRefusal, faceItem, putFace, entriesPut, facesTaken}
 use Rattle.face.proofs.Laws.Limits.{offers-none, offers-placed, address-placed}
 
-code-item : (code : ℕ) (s : Setting) → codeOf (itemOf code s) ≡ code
-unfolding codeOf itemOf
-code-item code s = go (eqb code 0) refl
-  where
-    go : (b : Bool) → eqb code 0 ≡ b → codeOf (cond b (Given s) (Refused code)) ≡ code
-    go true e = sym (eqb-true code 0 e)
-    go false e = refl
-
 -- entry i by the number that its tests give
 module _ (l : FaceLimits) (s : List ℕ) (i : ℕ) where
   pub entry-code : codeOf (faceItem l s i) ≡ entryRefusal l s i
   unfolding faceItem
-  entry-code = code-item (entryRefusal l s i) (S.Face (entryAddress s i) (entryFlags s i))
+  entry-code = settings.item-code (entryRefusal l s i) (S.Face (entryAddress s i) (entryFlags s i))
 
   module _ (code : ℕ) (e : code ≡ entryRefusal l s i) where
     pub entry-refused : (code ≡ 0 → ⊥) → faceItem l s i ≡ Refused code
@@ -61,12 +53,9 @@ module _ (l : FaceLimits) (s : List ℕ) (address offers flags code : ℕ) (ha :
   first-given z = rw (ha, hf) (entry-given l s 0 code first-code z)
 
 -- a SET of which no entry is refused gives them all
-pub taken-entries : (l : FaceLimits) (s : List ℕ) (n : ℕ) → firstRefusal n 0 (faceItem l s) ≡ 0
+pub taken-entries : (l : FaceLimits) (s : List ℕ) (n : ℕ) → firstRefusal n 0 (entryRefusal l s) ≡ 0
     → (i : ℕ) → i < n → faceItem l s i ≡ Given (S.Face (entryAddress s i) (entryFlags s i))
-taken-entries l s n e i h =
-    let z : i + 0 ≡ i = omega arith in
-    let c : codeOf (faceItem l s i) ≡ 0 = rw z at (none-refused n 0 (faceItem l s) e i h) in
-    entry-given l s i (entryRefusal l s i) refl (sym (entry-code l s i) ∙ c)
+taken-entries l s n e i h = entry-given l s i (entryRefusal l s i) refl (none-refused (entryRefusal l s) n e i h)
 
 -- whether one of the first n entries has an address
 unfoldable pub named : List ℕ → ℕ → ℕ → Bool
@@ -81,7 +70,7 @@ seen-named s i (suc n) = rw (seen-named s i n)
 -- i entries taken: the places listed of their addresses are marked, and the settings laid
 pub record Walked (l : FaceLimits) (held s : List ℕ) (i : ℕ) (seen : List Bool) (next : List ℕ) : Type 0 where
   pub marks : (address : ℕ) → placeOf l address < endpointLimit → getD seen (placeOf l address) false ≡ named s address i
-  pub passed : (j : ℕ) → j < i → codeOf (faceItem l s j) ≡ 0
+  pub passed : (j : ℕ) → j < i → entryRefusal l s j ≡ 0
   pub laid : next ≡ entriesPut held s i
 
 pub walked-none : (l : FaceLimits) (held s : List ℕ) → Walked l held s 0 (replicate endpointLimit false) held
@@ -130,8 +119,8 @@ module _ (l : FaceLimits) (held s : List ℕ) (i : ℕ) (seen : List Bool) (next
       laid = rw (w .laid, ha, flags-are);
     })
       where
-        go : {j : ℕ} (b : Bool) → eqb j i ≡ b → j < suc i → codeOf (faceItem l s j) ≡ 0
-        go {j} true e g = rw (eqb-true j i e) (entry-code l s i ∙ sym entry-listed ∙ z)
+        go : {j : ℕ} (b : Bool) → eqb j i ≡ b → j < suc i → entryRefusal l s j ≡ 0
+        go {j} true e g = rw (eqb-true j i e) (sym entry-listed ∙ z)
         go {j} false e g = let q = eqb-false j i e in w .passed j (omega arith)
 
 -- what a SET comes to: refused at entry i, or all of it taken
@@ -139,11 +128,11 @@ module _ (l : FaceLimits) (held s : List ℕ) (n i : ℕ) (seen : List Bool) (ne
   pub taken-refused : i < n → (code : ℕ) → code ≡ entryRefusal l s i → (code ≡ 0 → ⊥) → _≡_ {A = Taken} (record { code = code; held = held }) (facesTaken l held s)
   unfolding facesTaken
   taken-refused h code e bad =
-      let r : firstRefusal (getD s 0 0) 0 (faceItem l s) ≡ code = rw (← hn) (stops (faceItem l s) n i (w .passed) h (λ z. bad (e ∙ sym (entry-code l s i) ∙ z)) ∙ entry-code l s i ∙ sym e) in
+      let r : firstRefusal (getD s 0 0) 0 (entryRefusal l s) ≡ code = rw (← hn) (stops (entryRefusal l s) n i (w .passed) h (λ z. bad (e ∙ z)) ∙ sym e) in
       rw (r, ne-eqb code 0 bad)
 
   pub taken-all : i ≡ n → _≡_ {A = Taken} (record { code = 0; held = next }) (facesTaken l held s)
   unfolding facesTaken
   taken-all e =
-      let r : firstRefusal (getD s 0 0) 0 (faceItem l s) ≡ 0 = rw (← hn) (passes (faceItem l s) n (rw e at (w .passed))) in
+      let r : firstRefusal (getD s 0 0) 0 (entryRefusal l s) ≡ 0 = rw (← hn) (passes (entryRefusal l s) n (rw e at (w .passed))) in
       rw (r, ← hn, ← e, ← w .laid)

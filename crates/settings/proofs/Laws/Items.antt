@@ -1,5 +1,5 @@
 -- Laws of items taken one after the other. Assumes nothing.
-use mathlib.Core.Path.{_≡_, refl, ap, ap₂, sym, _∙_}
+use mathlib.Core.Path.{_≡_, refl, ap, ap₂, sym, _∙_, fun-ext}
 use mathlib.Core.List.{List, [], _∷_, _++_, append-assoc, append-nil}
 use mathlib.Core.Bool.{Bool, true, false, cond}
 use Prim.Native.Nat.{ℕ, zero, suc, _+_, _<_}
@@ -11,13 +11,13 @@ use lib.ListN.{getD}
 use borrow.Author.Tests.{ne-eqb, eqb-true}
 use Rattle.wire.specs.Selectors.{face}
 use Rattle.controls.specs.declared.Item.{Item}
-use Rattle.controls.specs.declared.Item.the-variants.{Absent, Refused, Given}
+use Rattle.controls.specs.declared.Item.the-variants.{Refused, Given}
 use Rattle.controls.specs.declared.Setting.{Setting}
 use Rattle.controls.specs.declared.Setting.the-variants as S
 use Rattle.controls.specs.Settings.{codeOf, firstRefusal}
 use Rattle.entries.specs.declared.Taken.{Taken}
-use Rattle.entries.specs.Entries.{entryAddress, entryFlags, faceItem, entriesPut, facesTaken}
-use Rattle.entries.proofs.Laws.Entries.{taken-entries}
+use Rattle.entries.specs.Entries.{entryAddress, entryFlags, entryRefusal, faceItem, entriesPut, facesTaken}
+use Rattle.entries.proofs.Laws.Entries.{entry-code, taken-entries}
 use Rattle.profile.specs.declared.Profile.{Profile}
 use Rattle.settings.specs.declared.settings.Settings.{Settings}
 use Rattle.settings.specs.declared.items.Taken as own
@@ -25,14 +25,17 @@ use Rattle.settings.specs.Settings.{put}
 use Rattle.profile.specs.Items.{itemAt, setRefusal}
 use Rattle.settings.specs.Items.{givenOf, allGiven, puts, setGives, setTaken}
 
--- one item more
-pub given-next : (i k : ℕ) (item : ℕ → Item) → allGiven (suc i) k item ≡ allGiven i k item ++ givenOf (item (i + k))
+-- one more
+given-more : (i k : ℕ) (given : ℕ → List (ℕ × Setting)) → allGiven (suc i) k given ≡ allGiven i k given ++ given (i + k)
 unfolding allGiven
-given-next zero k item = rw zero-add (append-nil (givenOf (item k)))
-given-next (suc i) k item =
+given-more zero k given = rw zero-add (append-nil (given k))
+given-more (suc i) k given =
     let e : i + suc k ≡ suc i + k = omega arith in
-    ap (λ l. givenOf (item k) ++ l) (given-next i (suc k) item ∙ ap (λ (m : ℕ). allGiven i (suc k) item ++ givenOf (item m)) e)
-    ∙ sym (append-assoc (givenOf (item k)) (allGiven i (suc k) item) (givenOf (item (suc i + k))))
+    ap (λ l. given k ++ l) (given-more i (suc k) given ∙ ap (λ (m : ℕ). allGiven i (suc k) given ++ given m) e)
+    ∙ sym (append-assoc (given k) (allGiven i (suc k) given) (given (suc i + k)))
+
+pub given-next : (i : ℕ) (given : ℕ → List (ℕ × Setting)) → allGiven (suc i) 0 given ≡ allGiven i 0 given ++ given i
+given-next i given = let e : i + 0 ≡ i = omega arith in given-more i 0 given ∙ ap (λ (m : ℕ). allGiven i 0 given ++ given m) e
 
 pub puts-append : (h : Settings) (a b : List (ℕ × Setting)) → puts h (a ++ b) ≡ puts (puts h a) b
 unfolding puts
@@ -40,12 +43,11 @@ puts-append h [] b = refl
 puts-append h (s ∷ a) b = puts-append (put h (s .1)) a b
 
 -- the settings with i + 1 items are those with i of them, and the next
-pub puts-next : (h : Settings) (i : ℕ) (item : ℕ → Item) → puts h (allGiven (i + 1) 0 item) ≡ puts (puts h (allGiven i 0 item)) (givenOf (item i))
-puts-next h i item =
-    let e : i + 0 ≡ i = omega arith in
-    ap (λ (m : ℕ). puts h (allGiven m 0 item)) (add-one i)
-    ∙ ap (puts h) (given-next i 0 item ∙ ap (λ (m : ℕ). allGiven i 0 item ++ givenOf (item m)) e)
-    ∙ puts-append h (allGiven i 0 item) (givenOf (item i))
+pub puts-next : (h : Settings) (i : ℕ) (given : ℕ → List (ℕ × Setting)) → puts h (allGiven (i + 1) 0 given) ≡ puts (puts h (allGiven i 0 given)) (given i)
+puts-next h i given =
+    ap (λ (m : ℕ). puts h (allGiven m 0 given)) (add-one i)
+    ∙ ap (puts h) (given-next i given)
+    ∙ puts-append h (allGiven i 0 given) (given i)
 
 -- a SET of one item is that item taken
 one-code : (i : Item) → codeOf i ≡ cond (eqb (codeOf i) 0) 0 (codeOf i)
@@ -57,7 +59,6 @@ one-code i = go (eqb (codeOf i) 0) refl
 
 one-given : (h : Settings) (i : Item) → puts h (givenOf i) ≡ cond (eqb (codeOf i) 0) (puts h (givenOf i)) h
 unfolding givenOf puts codeOf
-one-given h Absent = refl
 one-given h (Refused code) = go (eqb code 0)
   where
     go : (b : Bool) → h ≡ cond b h h
@@ -79,25 +80,33 @@ withFace h l = record { ev = h .ev; face = l; metadata = h .metadata; hdr = h .h
 
 entries-put : (h : Settings) (payload : List ℕ) (n : ℕ) (item : ℕ → Item)
     → ((i : ℕ) → i < n → item i ≡ Given (S.Face (entryAddress payload i) (entryFlags payload i)))
-    → puts h (allGiven n 0 item) ≡ withFace h (entriesPut (h .face) payload n)
+    → puts h (allGiven n 0 (λ i. givenOf (item i))) ≡ withFace h (entriesPut (h .face) payload n)
 unfolding puts allGiven entriesPut givenOf put
 entries-put h payload zero item t = refl
 entries-put h payload (suc n) item t =
-    let e : n + 0 ≡ n = omega arith in
-    ap (puts h) (given-next n 0 item)
-    ∙ puts-append h (allGiven n 0 item) (givenOf (item (n + 0)))
-    ∙ ap₂ (λ k (l : List (ℕ × Setting)). puts k l) (entries-put h payload n item (λ i l. t i (omega arith))) (ap givenOf (ap item e ∙ t n (omega arith)))
+    let given : ℕ → List (ℕ × Setting) = λ i. givenOf (item i) in
+    ap (puts h) (given-next n given)
+    ∙ puts-append h (allGiven n 0 given) (given n)
+    ∙ ap₂ (λ k (l : List (ℕ × Setting)). puts k l) (entries-put h payload n item (λ i l. t i (omega arith))) (ap givenOf (t n (omega arith)))
+
+-- a SET's value tests of face authentication are its entries'
+pub face-refusal : (p : Profile) (payload : List ℕ) → setRefusal p face payload ≡ firstRefusal (getD payload 0 0) 0 (entryRefusal (p .face) payload)
+unfolding setRefusal itemAt
+face-refusal p payload = ap (firstRefusal (getD payload 0 0) 0) (fun-ext λ i. entry-code (p .face) payload i)
 
 -- a SET of face authentication, by what taking its entries comes to
 pub face-set : (p : Profile) (h : Settings) (payload : List ℕ) {taken : Taken} → taken ≡ facesTaken (p .face) (h .face) payload
     → _≡_ {A = own.Taken} (record { code = taken .code; settings = withFace h (taken .held) }) (setTaken p h face payload)
-unfolding setTaken setRefusal setGives facesTaken itemAt
-face-set p h payload {taken} is =
-    let n = getD payload 0 0 in
-    let code = firstRefusal n 0 (faceItem (p .face) payload) in
-    rw is (ap (λ s. record { code = code; settings = s }) (go (eqb code 0) refl))
+unfolding setTaken setGives facesTaken itemAt
+face-set p h payload {taken} is = rw (is, face-refusal p payload) (ap (λ s. record { code = code; settings = s }) (go (eqb code 0) refl))
   where
-    go : (b : Bool) → eqb (firstRefusal (getD payload 0 0) 0 (faceItem (p .face) payload)) 0 ≡ b
-        → withFace h (cond b (entriesPut (h .face) payload (getD payload 0 0)) (h .face)) ≡ cond b (puts h (allGiven (getD payload 0 0) 0 (faceItem (p .face) payload))) h
-    go true e = sym (entries-put h payload (getD payload 0 0) (faceItem (p .face) payload) (taken-entries (p .face) payload (getD payload 0 0) (eqb-true _ 0 e)))
+    n : ℕ
+    n = getD payload 0 0
+
+    code : ℕ
+    code = firstRefusal n 0 (entryRefusal (p .face) payload)
+
+    go : (b : Bool) → eqb code 0 ≡ b
+        → withFace h (cond b (entriesPut (h .face) payload n) (h .face)) ≡ cond b (puts h (allGiven n 0 (λ i. givenOf (faceItem (p .face) payload i)))) h
+    go true e = sym (entries-put h payload n (faceItem (p .face) payload) (taken-entries (p .face) payload n (eqb-true _ 0 e)))
     go false e = refl

@@ -9,9 +9,6 @@ use Rattle.settings.proofs.settings.Settings.put_item.Tie as tie
 enum-told : tie.Need-enum-told
 enum-told c = search needs
 
-enum-told-2 : tie.Need-enum-told-2
-enum-told-2 c = search needs
-
 enum-known-item : tie.Need-enum-known-item
 enum-known-item c = search needs
 
@@ -24,15 +21,10 @@ returns c = sym (ap (λ (i : Item). puts (c .before .before .args .self) (givenO
 
 returns-2 : tie.Need-returns-2
 unfolding givenOf puts
-returns-2 c = sym (ap (λ (i : Item). puts (c .before .before .args .self) (givenOf i)) (c .enum-told2 .given .1))
-
-returns-3 : tie.Need-returns-3
-unfolding givenOf puts
-returns-3 c =
+returns-2 c =
     let i = c .before .before in
     c .put .ensures ∙ sym (ap (λ (x : Item). puts (i .before .before .args .self) (givenOf x)) (i .item .given .1))
 
 pub put-item-spec : {M : Type 1} → statement M
 put-item-spec =
-    tie.close
-    (tie.spec enum-told enum-told-2 enum-known-item put-requires returns returns-2 returns-3)
+    tie.close (tie.spec enum-told enum-known-item put-requires returns returns-2)
