@@ -2,7 +2,7 @@
 // A snapshot has a record for each setting held and no other, in ascending order of the keys. `snapshot` knows the form of any snapshot and
 // `settings` what is held; the record test and the room that a call is lent are the camera's.
 use controls::EvSetting;
-use controls::Item;
+use controls::HeldSetting;
 use controls::Setting;
 use controls::ThrottleSetting;
 use settings::Settings;
@@ -23,7 +23,7 @@ ghost use lib.Dec.{eqb};
 ghost use lib.ListN.{length};
 ghost use Rattle.wire.specs.Overlay.{overlay};
 ghost use Rattle.wire.specs.Number.{bytesOf};
-ghost use Rattle.controls.specs.Settings.{settingOf};
+ghost use Rattle.controls.specs.Settings.{settingHeld};
 ghost use Rattle.settings.specs.Settings.{faceHeld};
 ghost use Rattle.encoding.specs.Encoding.{framed, row, encoded};
 ghost use Rattle.encoding.specs.Steps.{rowHeld};
@@ -125,13 +125,12 @@ fn put_setting(out: &mut [u8], at: usize, s: Setting)
 }
 
 // The record of what a key holds, of no bytes where that is nothing.
-fn put_held(out: &mut [u8], at: usize, held: Item)
-    ensures { λ _. ⌜ now (out .exit) ≡ overlay (now (out .entry)) at (rowHeld 0 (settingOf held)) ⌝ }
+fn put_held(out: &mut [u8], at: usize, held: HeldSetting)
+    ensures { λ _. ⌜ now (out .exit) ≡ overlay (now (out .entry)) at (rowHeld 0 (settingHeld held)) ⌝ }
 {
     match held {
-        Item::Absent => {}
-        Item::Refused(_) => {}
-        Item::Given(s) => {
+        HeldSetting::Unset => {}
+        HeldSetting::Held(s) => {
             put_setting(out, at, s);
         }
     }
@@ -152,13 +151,12 @@ fn length_of(s: Setting) -> usize
     }
 }
 
-fn length_held(held: Item) -> usize
-    ensures { λ r. ⌜ r ≡ length (rowHeld 0 (settingOf held)) ⌝ }
+fn length_held(held: HeldSetting) -> usize
+    ensures { λ r. ⌜ r ≡ length (rowHeld 0 (settingHeld held)) ⌝ }
 {
     match held {
-        Item::Absent => 0,
-        Item::Refused(_) => 0,
-        Item::Given(s) => length_of(s),
+        HeldSetting::Unset => 0,
+        HeldSetting::Held(s) => length_of(s),
     }
 }
 

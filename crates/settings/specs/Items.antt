@@ -17,7 +17,7 @@ unfoldable pub givenOf : Item → List (ℕ × Setting)
 givenOf (Refused code) = []
 givenOf (Given s) = (keyOf s, s) ∷ []
 
--- what the n from k on give, in order
+-- the settings that the n from k on give, in order
 unfoldable pub allGiven : ℕ → ℕ → (ℕ → List (ℕ × Setting)) → List (ℕ × Setting)
 allGiven zero k given = []
 allGiven (suc n) k given = given k ++ allGiven n (suc k) given

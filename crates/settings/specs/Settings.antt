@@ -76,7 +76,7 @@ held s k =
     (cond (eqb k hdrKey) (hdrHeld (s .hdr))
     (cond (eqb k throttleKey) (throttleHeld (s .throttle)) none))))
 
--- the same as the code has it
+-- the same as a `HeldSetting`
 abbrev pub heldSetting : Option Setting → HeldSetting
 heldSetting none = H.Unset
 heldSetting (some s) = H.Held s

@@ -29,6 +29,17 @@ impl Settings {
         }
     }
 
+    // The settings with one more of an endpoint.
+    fn put_face(self, address: u8, flags: u8) -> Settings
+        ensures { λ r. ⌜ r ≡ put self (Setting.Face address flags) ⌝ }
+    {
+        let held = self.face;
+        let face = entries::put(held, address, flags);
+        let mut next = self;
+        next.face = face;
+        next
+    }
+
     // The settings with one more.
     pub fn put(self, s: Setting) -> Settings
         ensures { λ r. ⌜ r ≡ put self s ⌝ }
@@ -46,16 +57,7 @@ impl Settings {
                 hdr,
                 throttle,
             },
-            Setting::Face { address, flags } => {
-                let next = entries::put(face, address, flags);
-                Settings {
-                    ev,
-                    face: next,
-                    metadata,
-                    hdr,
-                    throttle,
-                }
-            }
+            Setting::Face { address, flags } => self.put_face(address, flags),
             Setting::Metadata(n) => Settings {
                 ev,
                 face,

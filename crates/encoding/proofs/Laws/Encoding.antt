@@ -20,12 +20,12 @@ use Rattle.snapshot.specs.Records.{bytes, records, encode}
 use Rattle.snapshot.proofs.Laws.Maps.{records-split}
 use Rattle.controls.specs.declared.Setting.{Setting}
 use Rattle.controls.specs.declared.Setting.the-variants as S
-use Rattle.controls.specs.declared.Item.{Item}
+use Rattle.controls.specs.declared.HeldSetting.{HeldSetting}
 use Rattle.exposure.specs.Ev.{evBytes}
 use Rattle.throttle.specs.Throttle.{throttleBytes}
-use Rattle.controls.specs.Settings.{settingOf}
+use Rattle.controls.specs.Settings.{settingHeld}
 use Rattle.settings.specs.declared.settings.Settings.{Settings}
-use Rattle.settings.specs.Settings.{held, itemHeld, faceHeld}
+use Rattle.settings.specs.Settings.{held, heldSetting, faceHeld}
 use Rattle.encoding.specs.Encoding.{row, encoded}
 use Rattle.encoding.specs.Steps.{rowHeld}
 
@@ -102,7 +102,7 @@ piece-held s k = go (held s k)
     go none = refl
     go (some t) = row-key 0 k t
 
-setting-held : (o : Option Setting) → settingOf (itemHeld o) ≡ o
+setting-held : (o : Option Setting) → settingHeld (heldSetting o) ≡ o
 setting-held none = refl
 setting-held (some s) = refl
 
@@ -136,20 +136,20 @@ module _ (s : Settings) (old : List ℕ) {out after l : List ℕ} {n k : ℕ} (w
   write-next : {len : ℕ} → len ≡ length (piece s k) → Progress s old after (n + len) (k + 1)
   write-next e = record { measured = measure-next s (w .measured) e; is = write-turn }
 
--- a key's own record: by its item, or of a place by its address and flags
-module _ (s : Settings) (k : ℕ) {i : Item} (is-item : i ≡ itemHeld (held s k)) where
-  item-row : rowHeld 0 (settingOf i) ≡ piece s k
-  item-row = ap (λ j. rowHeld 0 (settingOf j)) is-item ∙ ap (rowHeld 0) (setting-held (held s k)) ∙ piece-held s k
+-- a key's own record: by what it holds, or of a place by its address and flags
+module _ (s : Settings) (k : ℕ) {h : HeldSetting} (is-held : h ≡ heldSetting (held s k)) where
+  held-row : rowHeld 0 (settingHeld h) ≡ piece s k
+  held-row = ap (λ j. rowHeld 0 (settingHeld j)) is-held ∙ ap (rowHeld 0) (setting-held (held s k)) ∙ piece-held s k
 
-  module _ {n len : ℕ} (is-len : len ≡ length (rowHeld 0 (settingOf i))) where
-    pub item-measured : Measured s n k → Measured s (n + len) (k + 1)
-    item-measured w = measure-next s w (is-len ∙ ap length item-row)
+  module _ {n len : ℕ} (is-len : len ≡ length (rowHeld 0 (settingHeld h))) where
+    pub held-measured : Measured s n k → Measured s (n + len) (k + 1)
+    held-measured w = measure-next s w (is-len ∙ ap length held-row)
 
-    pub item-written : {old out after : List ℕ} → Progress s old out n k → after ≡ overlay out n (rowHeld 0 (settingOf i)) → Progress s old after (n + len) (k + 1)
-    item-written w e = write-next s _ w item-row e (is-len ∙ ap length item-row)
+    pub held-written : {old out after : List ℕ} → Progress s old out n k → after ≡ overlay out n (rowHeld 0 (settingHeld h)) → Progress s old after (n + len) (k + 1)
+    held-written w e = write-next s _ w held-row e (is-len ∙ ap length held-row)
 
-  pub item-last : {n : ℕ} {old out after : List ℕ} → Progress s old out n k → after ≡ overlay out n (rowHeld 0 (settingOf i)) → after ≡ overlay old 0 (below s (k + 1))
-  item-last w e = write-turn s _ w item-row e
+  pub held-last : {n : ℕ} {old out after : List ℕ} → Progress s old out n k → after ≡ overlay out n (rowHeld 0 (settingHeld h)) → after ≡ overlay old 0 (below s (k + 1))
+  held-last w e = write-turn s _ w held-row e
 
 module _ (s : Settings) (i : ℕ) (h : i < places) {face : List ℕ} (is-face : face ≡ s .face) {len : ℕ} (is-len : len ≡ cond (eqb (getD face i 0) 0) 0 13) where
   place-row : rowHeld 0 (faceHeld (firstAddress + i) (getD face i 0)) ≡ piece s (i + 1)
@@ -173,12 +173,12 @@ unfolding records
 none-written s old = record { measured = none-measured s; is = sym (no-bytes old) }
 
 -- the first key's
-module _ (s : Settings) {i : Item} (is-item : i ≡ itemHeld (held s 0)) {len : ℕ} (is-len : len ≡ length (rowHeld 0 (settingOf i))) where
+module _ (s : Settings) {h : HeldSetting} (is-held : h ≡ heldSetting (held s 0)) {len : ℕ} (is-len : len ≡ length (rowHeld 0 (settingHeld h))) where
   pub first-measured : Measured s len 1
-  first-measured = rw zero-add at (item-measured s 0 is-item {n = 0} is-len (none-measured s))
+  first-measured = rw zero-add at (held-measured s 0 is-held {n = 0} is-len (none-measured s))
 
-  pub first-written : {old after : List ℕ} → after ≡ overlay old 0 (rowHeld 0 (settingOf i)) → Progress s old after len 1
-  first-written {old} e = rw zero-add at (item-written s 0 is-item {n = 0} is-len (none-written s old) e)
+  pub first-written : {old after : List ℕ} → after ≡ overlay old 0 (rowHeld 0 (settingHeld h)) → Progress s old after len 1
+  first-written {old} e = rw zero-add at (held-written s 0 is-held {n = 0} is-len (none-written s old) e)
 
 -- and the last
 pub all-measured : (s : Settings) {n : ℕ} → Measured s n keys → n ≡ length (encoded s)

@@ -1,7 +1,7 @@
 use mathlib.Core.Path.{ap, sym, _∙_}
 use lib.ListN.{length}
-use Rattle.controls.specs.declared.Item.{Item}
-use Rattle.controls.specs.Settings.{settingOf}
+use Rattle.controls.specs.declared.HeldSetting.{HeldSetting}
+use Rattle.controls.specs.Settings.{settingHeld}
 use Rattle.encoding.specs.Steps.{rowHeld}
 use borrow.Author.Needs.{needs}
 use Rattle.encoding.proofs.length_held.Statement.{statement}
@@ -9,9 +9,6 @@ use Rattle.encoding.proofs.length_held.Tie as tie
 
 enum-told : tie.Need-enum-told
 enum-told c = search needs
-
-enum-told-2 : tie.Need-enum-told-2
-enum-told-2 c = search needs
 
 enum-known-held : tie.Need-enum-known-held
 enum-known-held c = search needs
@@ -23,14 +20,11 @@ returns : tie.Need-returns
 returns c = search needs
 
 returns-2 : tie.Need-returns-2
-returns-2 c = search needs
-
-returns-3 : tie.Need-returns-3
-returns-3 c =
+returns-2 c =
     let h = c .before .before in
-    c .length-of .ensures ∙ sym (ap (λ (i : Item). length (rowHeld 0 (settingOf i))) (h .held .given .1))
+    c .length-of .ensures ∙ sym (ap (λ (h : HeldSetting). length (rowHeld 0 (settingHeld h))) (h .held .given .1))
 
 pub length-held-spec : {M : Type 1} → statement M
 length-held-spec =
     tie.close
-    (tie.spec enum-told enum-told-2 enum-known-held length-of-requires returns returns-2 returns-3)
+    (tie.spec enum-told enum-known-held length-of-requires returns returns-2)

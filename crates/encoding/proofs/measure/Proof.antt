@@ -2,7 +2,7 @@ use mathlib.Core.Path.{_≡_, refl, subst}
 use Prim.Native.Nat.{ℕ, _+_, _-_, _≤_}
 use native.Mathlib.Omega.{arith}
 use Rattle.wire.specs.Endpoints.{places}
-use Rattle.encoding.proofs.Laws.Encoding.{Measured, first-measured, place-measured, item-measured, all-measured}
+use Rattle.encoding.proofs.Laws.Encoding.{Measured, first-measured, place-measured, held-measured, all-measured}
 use borrow.Author.Needs.{needs}
 use Rattle.encoding.proofs.measure.Statement.{statement}
 use Rattle.encoding.proofs.measure.Tie as tie
@@ -52,15 +52,15 @@ places-measured c =
 
 metadata-measured : (c : tie.After-length-held2 Inv-loop μ-loop)
     → Measured (c .before .before .before .before .before .before .before .args .s) (c .before .before .before .loop .n + c .length-held2 .result) (places + 2)
-metadata-measured c = item-measured _ _ (c .before .held2 .ensures) (c .length-held2 .ensures) (places-measured (c .before .before))
+metadata-measured c = held-measured _ _ (c .before .held2 .ensures) (c .length-held2 .ensures) (places-measured (c .before .before))
 
 hdr-measured : (c : tie.After-length-held3 Inv-loop μ-loop)
     → Measured (c .before .before .before .before .before .before .before .before .before .args .s) (c .before .before .before .before .before .loop .n + c .before .before .length-held2 .result + c .length-held3 .result) (places + 3)
-hdr-measured c = item-measured _ _ (c .before .held3 .ensures) (c .length-held3 .ensures) (metadata-measured (c .before .before))
+hdr-measured c = held-measured _ _ (c .before .held3 .ensures) (c .length-held3 .ensures) (metadata-measured (c .before .before))
 
 throttle-measured : (c : tie.After-length-held4 Inv-loop μ-loop)
     → Measured (c .before .before .before .before .before .before .before .before .before .before .before .args .s) (c .before .before .before .before .before .before .before .loop .n + c .before .before .before .before .length-held2 .result + c .before .before .length-held3 .result + c .length-held4 .result) (places + 4)
-throttle-measured c = item-measured _ _ (c .before .held4 .ensures) (c .length-held4 .ensures) (hdr-measured (c .before .before))
+throttle-measured c = held-measured _ _ (c .before .held4 .ensures) (c .length-held4 .ensures) (hdr-measured (c .before .before))
 
 held-requires-2 : tie.Need-held-requires-2 Inv-loop μ-loop
 held-requires-2 c κs = search needs

@@ -8,7 +8,7 @@ use Rattle.wire.specs.Endpoints.{places}
 use Rattle.wire.specs.Overlay.{overlay}
 use Rattle.wire.proofs.Laws.Overlay as laid
 use Rattle.encoding.specs.Encoding.{encoded}
-use Rattle.encoding.proofs.Laws.Encoding.{Measured, Progress, first-measured, first-written, place-measured, place-written, item-written, item-last, below-all}
+use Rattle.encoding.proofs.Laws.Encoding.{Measured, Progress, first-measured, first-written, place-measured, place-written, held-written, held-last, below-all}
 use Rattle.encoding.proofs.write.Statement.{statement}
 use Rattle.encoding.proofs.write.Tie as tie
 
@@ -92,13 +92,13 @@ metadata-written : (c : tie.After-length-held2 Inv-loop μ-loop) → let l = c .
     Progress (a .s) (a .out .now) (c .before .before .before .put-held2 .last .0) (l .loop .n + c .length-held2 .result) (places + 2)
 metadata-written c =
     let p = c .before .before .before in
-    item-written _ _ (p .before .before .held2 .ensures) (c .length-held2 .ensures) (places-written (p .before .before .before)) (p .put-held2 .ensures)
+    held-written _ _ (p .before .before .held2 .ensures) (c .length-held2 .ensures) (places-written (p .before .before .before)) (p .put-held2 .ensures)
 
 hdr-written : (c : tie.After-length-held3 Inv-loop μ-loop) → let m = c .before .before .before .before .before .before in let l = m .before .before .before .before .before .before .before in let a = l .before .before .before .before .before .before .before .before .before .args in
     Progress (a .s) (a .out .now) (c .before .before .before .put-held3 .last .0) (l .loop .n + m .length-held2 .result + c .length-held3 .result) (places + 3)
 hdr-written c =
     let p = c .before .before .before in
-    item-written _ _ (p .before .before .held3 .ensures) (c .length-held3 .ensures) (metadata-written (p .before .before .before)) (p .put-held3 .ensures)
+    held-written _ _ (p .before .before .held3 .ensures) (c .length-held3 .ensures) (metadata-written (p .before .before .before)) (p .put-held3 .ensures)
 
 held-requires-2 : tie.Need-held-requires-2 Inv-loop μ-loop
 held-requires-2 c κs = search needs
@@ -133,7 +133,7 @@ put-held-requires-4 c κs = search needs
 written : (c : tie.After-slice-known6 Inv-loop μ-loop) → let a = c .before .before .before .before .before .before .before .before .before .before .before .before .before .before .before .before .before .before .before .before .before .before .before .before .before .before .before .args in c .before .before .put-held4 .last .0 ≡ overlay (a .out .now) 0 (encoded (a .s))
 written c =
     let p = c .before .before in
-    item-last _ _ (p .before .held4 .ensures) (hdr-written (p .before .before .before)) (p .put-held4 .ensures) ∙ ap (overlay _ 0) (below-all _)
+    held-last _ _ (p .before .held4 .ensures) (hdr-written (p .before .before .before)) (p .put-held4 .ensures) ∙ ap (overlay _ 0) (below-all _)
 
 same-length : tie.Need-same-length Inv-loop μ-loop
 same-length c = ap length (written c) ∙ laid.same-length _ _ _

@@ -1,4 +1,4 @@
-use mathlib.Core.Path.{ap, sym}
+use mathlib.Core.Path.{ap, sym, _∙_}
 use Rattle.settings.specs.Settings.{put}
 use borrow.Author.Needs.{needs}
 use Rattle.settings.proofs.settings.Settings.put.Statement.{statement}
@@ -10,8 +10,8 @@ enum-known-s c = search needs
 enum-known-s-2 : tie.Need-enum-known-s-2
 enum-known-s-2 c = search needs
 
-put-requires : tie.Need-put-requires
-put-requires c κs = search needs
+put-face-requires : tie.Need-put-face-requires
+put-face-requires c κs = search needs
 
 enum-known-s-3 : tie.Need-enum-known-s-3
 enum-known-s-3 c = search needs
@@ -29,10 +29,9 @@ returns c =
     sym (ap (put (s .before .before .before .args .self)) (s .s .given .1))
 
 returns-2 : tie.Need-returns-2
-unfolding put
 returns-2 c =
     let s = c .before .before in
-    rw (c .put .ensures) (sym (ap (put (s .before .before .before .args .self)) (s .s2 .given .1)))
+    c .put-face .ensures ∙ sym (ap (put (s .before .before .before .args .self)) (s .s2 .given .1))
 
 returns-3 : tie.Need-returns-3
 unfolding put
@@ -58,7 +57,7 @@ put-spec =
     (tie.spec
     enum-known-s
     enum-known-s-2
-    put-requires
+    put-face-requires
     enum-known-s-3
     enum-known-s-4
     enum-known-s-5
