@@ -1,7 +1,7 @@
 -- Document 01, "Settings sheet": loading a snapshot and writing one.
 use Prim.Native.Nat.{ℕ}
 use mathlib.Core.List.{List, [], _∷_, _++_}
-use mathlib.Core.Option.{Option, none, some}
+use mathlib.Core.Option.{Option, Option·map, Option·elim}
 use mathlib.Core.Bool.{Bool, cond, not}
 use lib.Dec.{leb, ltb, eqb}
 use lib.ListN.{length, drop}
@@ -12,12 +12,12 @@ use Rattle.wire.specs.Uvc.{malformedRecord, malformedSnapshot, noRoom}
 use Rattle.snapshot.specs.Form as form
 use Rattle.snapshot.specs.Records.{decode}
 use Rattle.controls.specs.declared.Item.{Item}
-use Rattle.controls.specs.declared.Item.the-variants.{Absent, Refused}
+use Rattle.controls.specs.declared.Item.the-variants.{Refused}
 use Rattle.controls.specs.declared.Setting.{Setting}
-use Rattle.controls.specs.Settings.{firstRefusal}
+use Rattle.controls.specs.Settings.{codeOf, firstRefusal}
 use Rattle.profile.specs.declared.Profile.{Profile}
 use Rattle.profile.specs.Items.{itemAt}
-use Rattle.settings.specs.Items.{allGiven}
+use Rattle.settings.specs.Items.{givenOf, allGiven}
 use Rattle.encoding.specs.Encoding.{encoded}
 use Rattle.camera.specs.declared.record.Camera.{Camera}
 use Rattle.camera.specs.declared.calls.Outcome.{Outcome}
@@ -39,19 +39,19 @@ recordItem p streaming k r =
     let code = controlRefusal p streaming (selectorAt k) in
     cond (eqb code 0) (itemAt p (selectorAt k) (drop 4 r) 0) (Refused code)
 
--- the record of key k in a snapshot
-unfoldable pub itemFor : Profile → Bool → ℕ → Option (List ℕ) → Item
-itemFor p streaming k none = Absent
-itemFor p streaming k (some r) = recordItem p streaming k r
+-- the record of key k in a snapshot as a SET, or none
+abbrev pub loadItem : Profile → Bool → List ℕ → ℕ → Option Item
+loadItem p streaming s k = Option·map (recordItem p streaming k) (decode s k)
 
-abbrev pub loadItem : Profile → Bool → List ℕ → ℕ → Item
-loadItem p streaming s k = itemFor p streaming k (decode s k)
+-- the first refusal of its records, in ascending order of their keys
+unfoldable pub loadRefusal : Profile → Bool → List ℕ → ℕ
+loadRefusal p streaming s = firstRefusal form.keys 0 (λ k. Option·elim (loadItem p streaming s k) 0 codeOf)
 
 -- the form of the whole snapshot, then record by record; first fault answering
 unfoldable pub loadTests : Profile → Bool → List ℕ → List Row
 loadTests p streaming s =
     (not (form.wellFormed s) ⇒ malformedSnapshot)
-    ∷ answers (firstRefusal form.keys 0 (loadItem p streaming s))
+    ∷ answers (loadRefusal p streaming s)
     ∷ []
 
 unfoldable pub loadCode : Camera → List ℕ → ℕ
@@ -59,7 +59,7 @@ loadCode c s = firstOf (((not (wellFormed c) ⇒ malformedRecord) ∷ []) ++ loa
 
 -- the settings that an accepted load gives: its records', in order
 unfoldable pub loadGives : Profile → Bool → List ℕ → List (ℕ × Setting)
-loadGives p streaming s = allGiven form.keys 0 (loadItem p streaming s)
+loadGives p streaming s = allGiven form.keys 0 (λ k. Option·elim (loadItem p streaming s k) [] givenOf)
 
 unfoldable pub loaded : Camera → List ℕ → Outcome
 loaded c s =

@@ -4,15 +4,13 @@ use mathlib.Core.List.{List}
 use Rattle.request.specs.Setup.{wLengthOf}
 use Rattle.request.specs.Reply.{sentOf}
 use Rattle.request.specs.Tests.{asked}
-use Rattle.controls.specs.Settings.{firstRefusal}
-use Rattle.snapshot.specs.Form.{keys}
 use Rattle.profile.specs.Items.{setRefusal}
 use Rattle.settings.specs.Items.{setGives}
 use Rattle.camera.specs.declared.record.Camera.{Camera}
 use Rattle.camera.specs.declared.calls.Outcome.{Outcome}
 use Rattle.camera.specs.Record.{puts}
 use Rattle.camera.specs.Requests.{table, outcomeBy}
-use Rattle.camera.specs.Snapshots.{loadItem, loadGives}
+use Rattle.camera.specs.Snapshots.{loadRefusal, loadGives}
 
 -- past test 7: a SET of a selector, and a GET
 unfoldable pub setDone : Camera → ℕ → List ℕ → Outcome
@@ -28,5 +26,5 @@ getDone c s room =
 -- past the form: a load of the records
 unfoldable pub loadDone : Camera → List ℕ → Outcome
 loadDone c s =
-    outcomeBy (firstRefusal keys 0 (loadItem (c .profile) (c .streaming) s)) c
+    outcomeBy (loadRefusal (c .profile) (c .streaming) s) c
     (record { code = 0; count = 0; camera = puts c (loadGives (c .profile) (c .streaming) s) })

@@ -1,7 +1,7 @@
 -- Loading a snapshot record by record, and what a load answers. Assumes nothing.
 use mathlib.Core.Path.{_≡_, refl, ap, ap₂, sym, _∙_}
-use mathlib.Core.List.{List, _++_, append-nil}
-use mathlib.Core.Option.{none}
+use mathlib.Core.List.{List, [], _++_, append-nil}
+use mathlib.Core.Option.{Option, none, Option·map, Option·elim}
 use mathlib.Core.Bool.{Bool, true, false, cond, not}
 use Prim.Native.Nat.{ℕ, zero, suc, _+_, _-_, _≤_, _<_}
 use native.Mathlib.Nat.{zero-add}
@@ -16,8 +16,9 @@ use Rattle.snapshot.specs.Form as form
 use Rattle.snapshot.specs.Records.{keyOf, decode}
 use Rattle.snapshot.proofs.Laws.Walk.{At, first-at, none-before, record-at, next-at, next-above, next-within, none-between}
 use Rattle.controls.specs.declared.Item.{Item}
-use Rattle.controls.specs.declared.Item.the-variants.{Absent, Refused}
-use Rattle.controls.specs.Settings.{codeOf, firstRefusal}
+use Rattle.controls.specs.declared.Item.the-variants.{Refused}
+use Rattle.controls.specs.declared.Setting.{Setting}
+use Rattle.controls.specs.Settings.{codeOf}
 use Rattle.controls.proofs.Laws.Items.{stops, passes}
 use Rattle.profile.specs.declared.Profile.{Profile}
 use Rattle.settings.specs.declared.settings.Settings.{Settings}
@@ -28,7 +29,7 @@ use Rattle.camera.specs.declared.record.Camera.{Camera}
 use Rattle.camera.specs.declared.calls.Outcome.{Outcome}
 use Rattle.camera.specs.Record.{withSettings, wellFormed}
 use Rattle.camera.specs.Requests.{controlRefusal, refused, outcomeBy}
-use Rattle.camera.specs.Snapshots.{selectorAt, recordItem, itemFor, loadItem, loadTests, loadCode, loadGives, loaded}
+use Rattle.camera.specs.Snapshots.{selectorAt, recordItem, loadItem, loadRefusal, loadTests, loadCode, loadGives, loaded}
 use Rattle.camera.specs.Steps.{loadDone}
 
 -- a record of key k as a SET, by what the calls ensure
@@ -49,62 +50,71 @@ module _ (p : Profile) (streaming : Bool) (k : ℕ) (r : List ℕ) {selector cod
       ∙ rw (eq-eqb (controlRefusal p streaming (selectorAt k)) 0 (sym code-is ∙ z))
 
 -- keys without a record give nothing
-module _ (item : ℕ → Item) where
-  given-skip : (d n : ℕ) → ((j : ℕ) → n ≤ j → j < d + n → item j ≡ Absent) → allGiven (d + n) 0 item ≡ allGiven n 0 item
-  unfolding givenOf
+module _ (given : ℕ → List (ℕ × Setting)) where
+  given-skip : (d n : ℕ) → ((j : ℕ) → n ≤ j → j < d + n → given j ≡ []) → allGiven (d + n) 0 given ≡ allGiven n 0 given
   given-skip zero n h = rw zero-add
   given-skip (suc d) n h =
       let e : suc d + n ≡ suc (d + n) = omega arith in
-      let q : item (d + n + 0) ≡ Absent = h (d + n + 0) (omega arith) (omega arith) in
-      ap (λ (m : ℕ). allGiven m 0 item) e
-      ∙ given-next (d + n) 0 item
-      ∙ ap (λ i. allGiven (d + n) 0 item ++ givenOf i) q
-      ∙ append-nil (allGiven (d + n) 0 item)
+      ap (λ (m : ℕ). allGiven m 0 given) e
+      ∙ given-next (d + n) given
+      ∙ ap (λ l. allGiven (d + n) 0 given ++ l) (h (d + n) (omega arith) (omega arith))
+      ∙ append-nil (allGiven (d + n) 0 given)
       ∙ given-skip d n (λ j l u. h j l (omega arith))
 
-  given-between : (n m : ℕ) → n ≤ m → ((j : ℕ) → n ≤ j → j < m → item j ≡ Absent) → allGiven m 0 item ≡ allGiven n 0 item
+  given-between : (n m : ℕ) → n ≤ m → ((j : ℕ) → n ≤ j → j < m → given j ≡ []) → allGiven m 0 given ≡ allGiven n 0 given
   given-between n m l h =
       let e : m - n + n ≡ m = omega arith in
-      ap (λ (k : ℕ). allGiven k 0 item) (sym e) ∙ given-skip (m - n) n (λ j a b. h j a (omega arith))
+      ap (λ (k : ℕ). allGiven k 0 given) (sym e) ∙ given-skip (m - n) n (λ j a b. h j a (omega arith))
 
 module _ (c : Camera) (s : List ℕ) where
-  abbrev item : ℕ → Item
-  item = loadItem (c .profile) (c .streaming) s
+  -- the number of a record, and what it gives
+  abbrev codeBy : ℕ → Option (List ℕ) → ℕ
+  codeBy k o = Option·elim (Option·map (recordItem (c .profile) (c .streaming) k) o) 0 codeOf
 
-  absent : (j : ℕ) → decode s j ≡ none → item j ≡ Absent
-  unfolding itemFor
-  absent j e = ap (itemFor (c .profile) (c .streaming) j) e
+  abbrev givenBy : ℕ → Option (List ℕ) → List (ℕ × Setting)
+  givenBy k o = Option·elim (Option·map (recordItem (c .profile) (c .streaming) k) o) [] givenOf
 
-  absent-code : (j : ℕ) → item j ≡ Absent → codeOf (item j) ≡ 0
-  unfolding codeOf
-  absent-code j e = ap codeOf e
+  abbrev codeAt : ℕ → ℕ
+  codeAt k = codeBy k (decode s k)
+
+  abbrev givenAt : ℕ → List (ℕ × Setting)
+  givenAt k = givenBy k (decode s k)
+
+  absent-code : (j : ℕ) → decode s j ≡ none → codeAt j ≡ 0
+  unfolding Option·elim
+  absent-code j e = ap (codeBy j) e
+
+  absent-given : (j : ℕ) → decode s j ≡ none → givenAt j ≡ []
+  unfolding Option·elim
+  absent-given j e = ap (givenBy j) e
 
   -- what stands before the record of key k: those below it are taken
   pub record Loads (h : Settings) (at k : ℕ) : Type 0 where
     pub here : At s at k
-    pub is : h ≡ puts (c .settings) (allGiven k 0 item)
-    pub taken : (j : ℕ) → j < k → codeOf (item j) ≡ 0
+    pub is : h ≡ puts (c .settings) (allGiven k 0 givenAt)
+    pub taken : (j : ℕ) → j < k → codeAt j ≡ 0
 
   pub nothing-loaded : form.wellFormed s ≡ true → {k : ℕ} → k ≡ keyOf (drop 0 s) → Loads (c .settings) 0 k
   unfolding puts allGiven
   nothing-loaded w e = rw e (record {
     here = first-at s w;
-    is = sym (ap (puts (c .settings)) (given-between item 0 (keyOf (drop 0 s)) (omega arith) (λ j l u. absent j (none-before s w j u))));
-    taken = λ j l. absent-code j (absent j (none-before s w j l));
+    is = sym (ap (puts (c .settings)) (given-between givenAt 0 (keyOf (drop 0 s)) (omega arith) (λ j l u. absent-given j (none-before s w j u))));
+    taken = λ j l. absent-code j (none-before s w j l);
   })
 
   -- a turn, by what the calls ensure
   module _ {h : Settings} {at k n : ℕ} {r : List ℕ} {i : Item} {code : ℕ} (w : Loads h at k) (l : k < keys) (is-size : n ≡ sizeOf k)
       (is-part : r ≡ take n (drop at s)) (is-item : i ≡ recordItem (c .profile) (c .streaming) k r) (is-code : code ≡ codeOf i) where
-    item-here : i ≡ item k
-    unfolding itemFor
-    item-here =
-        is-item
-        ∙ ap (recordItem (c .profile) (c .streaming) k) (is-part ∙ ap (λ (m : ℕ). take m (drop at s)) is-size)
-        ∙ sym (ap (itemFor (c .profile) (c .streaming) k) (record-at (w .here) l))
+    item-here : i ≡ recordItem (c .profile) (c .streaming) k (take (sizeOf k) (drop at s))
+    item-here = is-item ∙ ap (recordItem (c .profile) (c .streaming) k) (is-part ∙ ap (λ (m : ℕ). take m (drop at s)) is-size)
 
-    code-here : code ≡ codeOf (item k)
-    code-here = is-code ∙ ap codeOf item-here
+    code-here : code ≡ codeAt k
+    unfolding Option·elim
+    code-here = is-code ∙ ap codeOf item-here ∙ sym (ap (codeBy k) (record-at (w .here) l))
+
+    given-here : givenOf i ≡ givenAt k
+    unfolding Option·elim
+    given-here = ap givenOf item-here ∙ sym (ap (givenBy k) (record-at (w .here) l))
 
     pub load-within : at + n ≤ length s
     load-within = omega (arith, is-size, next-within (w .here) l)
@@ -113,9 +123,9 @@ module _ (c : Camera) (s : List ℕ) where
     load-above e = omega (arith, e, ap (λ (x : ℕ). keyOf (drop (at + x) s)) is-size, next-above (w .here) l)
 
     pub load-stops : (code ≡ 0 → ⊥) → refused code c ≡ loadDone c s
-    unfolding loadDone
+    unfolding loadDone loadRefusal
     load-stops bad =
-        let e = code-here ∙ sym (stops item keys k (w .taken) l (λ z. bad (code-here ∙ z))) in
+        let e = code-here ∙ sym (stops codeAt keys k (w .taken) l (λ z. bad (code-here ∙ z))) in
         rw (← e, ne-eqb code 0 bad)
 
     pub load-next : code ≡ 0 → {next : Settings} → next ≡ puts h (givenOf i) → {j : ℕ} → j ≡ keyOf (drop (at + n) s) → Loads next (at + n) j
@@ -123,26 +133,26 @@ module _ (c : Camera) (s : List ℕ) where
         let m : at + n ≡ at + sizeOf k = ap (λ (x : ℕ). at + x) is-size in
         let q : j ≡ keyOf (drop (at + sizeOf k) s) = e ∙ ap (λ (x : ℕ). keyOf (drop x s)) m in
         let above : k < j = omega (arith, q, next-above (w .here) l) in
-        let gap : (i : ℕ) → k + 1 ≤ i → i < j → item i ≡ Absent = λ i a b. absent i (none-between (w .here) l i (omega arith) (omega (arith, q))) in
+        let gap : (i : ℕ) → k + 1 ≤ i → i < j → decode s i ≡ none = λ i a b. none-between (w .here) l i (omega arith) (omega (arith, q)) in
         rw (m, q) (record {
           here = next-at (w .here) l;
           is = is-put
-              ∙ ap₂ (λ x y. puts x (givenOf y)) (w .is) item-here
-              ∙ sym (puts-next (c .settings) k item)
-              ∙ ap (puts (c .settings)) (sym (given-between item (k + 1) (keyOf (drop (at + sizeOf k) s)) (omega (arith, q, above)) (λ i a b. gap i a (omega (arith, q)))));
+              ∙ ap₂ puts (w .is) given-here
+              ∙ sym (puts-next (c .settings) k givenAt)
+              ∙ ap (puts (c .settings)) (sym (given-between givenAt (k + 1) (keyOf (drop (at + sizeOf k) s)) (omega (arith, q, above)) (λ i a b. absent-given i (gap i a (omega (arith, q))))));
           taken = λ i b. go i (leb (k + 1) i) refl (λ a. gap i a (omega (arith, q)));
         })
       where
-        go : (i : ℕ) (b : Bool) → leb (k + 1) i ≡ b → (k + 1 ≤ i → item i ≡ Absent) → codeOf (item i) ≡ 0
+        go : (i : ℕ) (b : Bool) → leb (k + 1) i ≡ b → (k + 1 ≤ i → decode s i ≡ none) → codeAt i ≡ 0
         go i true p gap = absent-code i (gap (leb-true (k + 1) i p))
-        go i false p gap = let u = leb-false (k + 1) i p in below-more (λ j. codeOf (item j) ≡ 0) k (w .taken) (sym code-here ∙ z) i (omega arith)
+        go i false p gap = let u = leb-false (k + 1) i p in below-more (λ j. codeAt j ≡ 0) k (w .taken) (sym code-here ∙ z) i (omega arith)
 
   pub load-end : {h : Settings} {at k : ℕ} → Loads h at k → keys ≤ k → {camera : Camera} → camera ≡ withSettings c h
       → _≡_ {A = Outcome} (record { code = 0; count = 0; camera = camera }) (loadDone c s)
-  unfolding loadDone loadGives
+  unfolding loadDone loadRefusal loadGives
   load-end {k = k} w l e =
       let q : k ≡ keys = omega (arith, w .here .few) in
-      let z = passes item keys (λ j u. w .taken j (omega arith)) in
+      let z = passes codeAt keys (λ j u. w .taken j (omega arith)) in
       rw (e, w .is, q, z)
 
 -- what a load answers, by its form
@@ -180,7 +190,7 @@ module _ (c : Camera) (s : List ℕ) where
   load-records formed f = rw (formed, f) (go (eqb code 0) refl)
     where
       code : ℕ
-      code = firstRefusal keys 0 (loadItem (c .profile) (c .streaming) s)
+      code = loadRefusal (c .profile) (c .streaming) s
 
       done : Outcome
       done = record { code = 0; count = 0; camera = withSettings c (puts (c .settings) (loadGives (c .profile) (c .streaming) s)) }
