@@ -1,7 +1,7 @@
 -- The owner's demand 2 on the camera: new settings, the sensor's number, GET_CUR, LEN, and what is written reads back. Assumes nothing.
 use mathlib.Core.Path.{_≡_, refl, ap, ap₂, sym, _∙_, subst}
 use mathlib.Core.List.{List, []}
-use mathlib.Core.Option.{none}
+use mathlib.Core.Option.{none, Option·map}
 use mathlib.Core.Bool.{Bool, true, false, cond, not, _&&_, and-eq-true-iff}
 use Prim.Native.Nat.{ℕ, _+_, _*_, _≤_, _<_, min}
 use native.Mathlib.Omega.{arith}
@@ -32,7 +32,7 @@ use Rattle.throttle.specs.declared.Throttle.the-variants as T
 use Rattle.exposure.specs.declared.ev.Ev.{Ev}
 use Rattle.exposure.specs.declared.ev.Ev.the-variants as E
 use Rattle.face.specs.declared.limits.FaceLimits.{FaceLimits}
-use Rattle.controls.specs.Settings.{numberOr, settingOf}
+use Rattle.controls.specs.Settings.{numberOr}
 use Rattle.exposure.specs.Ev as ev
 use Rattle.face.specs.Limits.{endpoints, addressAt}
 use Rattle.face.specs.Answers.{entryOf, heldAt, flagsAt, faceAnswer}
@@ -59,7 +59,7 @@ use Rattle.profile.proofs.Laws.Selectors.{control-known}
 use Rattle.camera.specs.declared.record.Camera.{Camera}
 use Rattle.camera.specs.Record.{fresh, held, puts, wellFormed}
 use Rattle.camera.specs.Requests.{stateOf, table, answerOf, requestCode, requestDone, requested}
-use Rattle.camera.specs.Snapshots.{selectorAt, itemFor, loadGives}
+use Rattle.camera.specs.Snapshots.{selectorAt, recordItem, loadGives}
 use Rattle.camera.specs.Calls.{sensed, Call, request, load, outcome, left, next}
 use Rattle.camera.proofs.Laws.Record.{formed-profile}
 use Rattle.demands.specs.Lists.{setAccepted, gives, run}
@@ -350,7 +350,7 @@ snapshot-read-back c w t =
     record {
       formed = snapshot-formed c w;
       records = λ k. ap (λ m. m k) d;
-      settings = λ k. ap (λ m. settingOf (itemFor (c .profile) true k (m k))) d ∙ written-item c w t k (held c k) refl;
+      settings = λ k. ap (λ m. Option·map (recordItem (c .profile) true k) (m k)) d ∙ written-item c w t k (held c k) refl;
       written = λ out h. writes c out w h;
     }
 

@@ -1,7 +1,7 @@
 -- The owner's demand 3. Assumes nothing.
 use mathlib.Core.Path.{_≡_, refl, ap, ap₂, sym, _∙_, subst}
 use mathlib.Core.List.{List, [], _∷_, _++_}
-use mathlib.Core.Option.{Option, none, some, Option·map}
+use mathlib.Core.Option.{Option, none, some, Option·map, Option·elim}
 use mathlib.Core.Bool.{Bool, true, not}
 use Prim.Native.Nat.{ℕ, _≤_}
 use lib.ListN.{length, take, drop}
@@ -22,20 +22,23 @@ use Rattle.merging.proofs.Laws.Answers.{Answer}
 use Rattle.merging.proofs.Laws.Answers as answers
 use Rattle.merging.proofs.Laws.Settings.{snapshot-append}
 use Rattle.controls.specs.declared.Setting.{Setting}
-use Rattle.controls.specs.Settings.{settingOf, codeOf}
+use Rattle.controls.specs.declared.Item.the-variants.{Given}
+use Rattle.controls.specs.Settings.{codeOf}
+use Rattle.settings.specs.Items.{givenOf}
 use Rattle.profile.specs.declared.Profile.{Profile}
 use Rattle.profile.specs.Profile.{profileValid}
 use Rattle.camera.specs.declared.record.Camera.{Camera}
 use Rattle.camera.specs.declared.calls.Outcome.{Outcome}
 use Rattle.camera.specs.Record.{fresh, held, wellFormed, puts}
 use Rattle.encoding.specs.Encoding.{row}
-use Rattle.camera.specs.Snapshots.{loadTests, loadCode, loadGives, loaded, itemFor, snapshot, writeCode, written, writtenOut}
+use Rattle.camera.specs.Snapshots.{recordItem, loadTests, loadCode, loadGives, loaded, snapshot, writeCode, written, writtenOut}
 use Rattle.camera.specs.Calls.{Call, load}
 use Rattle.demands.specs.Lists.{gives, leaves, flagAfter, given, snapshotAfter, run}
 use Rattle.demands.specs.Records.{Ok, Typed, handed, Written}
 use Rattle.demands.specs.Demand3.{MergesTo, Whole, Merges, AcceptedInTurn, Restores}
 use Rattle.demands.proofs.Laws.Held.{none-held}
 use Rattle.camera.proofs.Laws.Record.{formed-profile}
+use Rattle.camera.proofs.Laws.Loading.{codeBy, givenBy}
 use Rattle.demands.proofs.Laws.Kept.{held-good}
 use Rattle.demands.proofs.Laws.Fits.{held-fitting}
 use Rattle.demands.proofs.Laws.Steps.{step, outcome-code, gives-good, not-off}
@@ -184,15 +187,25 @@ load-in-turn c h a b ea eb =
 
 -- the record of what a well-formed camera holds of a key
 module _ (c : Camera) (w : wellFormed c ≡ true) (t : Typed c) where
-  pub written-item : (k : ℕ) (o : Option Setting) → held c k ≡ o → settingOf (itemFor (c .profile) true k (Option·map (row k) o)) ≡ o
-  unfolding itemFor
+  pub written-item : (k : ℕ) (o : Option Setting) → held c k ≡ o → Option·map (recordItem (c .profile) true k) (Option·map (row k) o) ≡ Option·map Given o
   written-item k none e = refl
-  written-item k (some s) e = let g = held-good (c .profile) (c .settings) w k s e in ap settingOf (row-taken (c .profile) k s (held-fitting c w t k s e) (g .0) (g .1))
+  written-item k (some s) e = let g = held-good (c .profile) (c .settings) w k s e in ap some (row-taken (c .profile) k s (held-fitting c w t k s e) (g .0) (g .1))
 
-  written-code : (k : ℕ) (o : Option Setting) → held c k ≡ o → codeOf (itemFor (c .profile) true k (Option·map (row k) o)) ≡ 0
-  unfolding itemFor codeOf
-  written-code k none e = refl
-  written-code k (some s) e = let g = held-good (c .profile) (c .settings) w k s e in ap codeOf (row-taken (c .profile) k s (held-fitting c w t k s e) (g .0) (g .1))
+  written-code : (k : ℕ) → codeBy (c .profile) true k (Option·map (row k) (held c k)) ≡ 0
+  unfolding Option·elim codeOf
+  written-code k = ap (λ o. Option·elim o 0 codeOf) (written-item k (held c k) refl) ∙ go (held c k)
+    where
+      go : (o : Option Setting) → Option·elim (Option·map Given o) 0 codeOf ≡ 0
+      go none = refl
+      go (some s) = refl
+
+  written-given : (k : ℕ) → lastOf (givenBy (c .profile) true k (Option·map (row k) (held c k))) k ≡ held c k
+  unfolding Option·elim givenOf
+  written-given k = ap (λ o. lastOf (Option·elim o [] givenOf) k) (written-item k (held c k) refl) ∙ go (held c k) refl
+    where
+      go : (o : Option Setting) → held c k ≡ o → lastOf (Option·elim (Option·map Given o) [] givenOf) k ≡ o
+      go none e = refl
+      go (some s) e = rw (held-good (c .profile) (c .settings) w k s e .0, eq-eqb k k refl)
 
 -- the bytes that writing hands over are the snapshot
 handed-snapshot : (c : Camera) (out : List ℕ) → wellFormed c ≡ true → length (snapshot c) ≤ length out → handed c out ≡ snapshot c
@@ -206,7 +219,7 @@ module _ (c : Camera) (w : wellFormed c ≡ true) (t : Typed c) where
   p = c .profile
 
   rows-accepted : Accepted p true (snapshot c)
-  rows-accepted = record { formed = snapshot-formed c w; each = λ k. rw (snapshot-decodes c w) (written-code c w t k (held c k) refl) }
+  rows-accepted = record { formed = snapshot-formed c w; each = λ k. rw (snapshot-decodes c w) (written-code c w t k) }
 
   loads : Load (fresh p true) (snapshot c)
   loads = record { formed = fresh-ok p (formed-profile c w) true .formed; tests = accepted-load p true (snapshot c) rows-accepted }
@@ -215,7 +228,7 @@ module _ (c : Camera) (w : wellFormed c ≡ true) (t : Typed c) where
   restores k =
       let o = fresh-ok p (formed-profile c w) true in
       load-held (fresh p true) (o .formed) (o .places) (snapshot c) loads k
-      ∙ ap₂ over (none-held k) (load-settings p true (snapshot c) k ∙ ap (λ f. settingOf (itemFor p true k (f k))) (snapshot-decodes c w) ∙ written-item c w t k (held c k) refl)
+      ∙ ap₂ over (none-held k) (load-settings p true (snapshot c) k ∙ ap (λ m. lastOf (givenBy p true k (m k)) k) (snapshot-decodes c w) ∙ written-given c w t k)
       ∙ over-none (held c k)
 
   pub load-written : Restores c

@@ -1,7 +1,7 @@
 -- Loading a snapshot counts as its records' SETs, and a record is well formed by its settings' own. Assumes nothing.
 use mathlib.Core.Path.{_≡_, refl, ap, ap₂, sym, _∙_, subst}
 use mathlib.Core.List.{List, [], _∷_, _++_}
-use mathlib.Core.Option.{Option, none, some}
+use mathlib.Core.Option.{Option, none, some, Option·elim}
 use mathlib.Core.Bool.{Bool, true, false, cond}
 use Prim.Native.Nat.{ℕ, zero, suc}
 use lib.Dec.{eqb}
@@ -15,7 +15,7 @@ use Rattle.snapshot.specs.Records as records
 use Rattle.snapshot.proofs.Laws.Maps.{decode-good}
 use Rattle.snapshot.proofs.Laws.Entries.{entryAt, entries, records-entries}
 use Rattle.controls.specs.declared.Setting.{Setting}
-use Rattle.controls.specs.Settings.{codeOf, firstRefusal}
+use Rattle.controls.specs.Settings.{firstRefusal}
 use Rattle.profile.specs.declared.Profile.{Profile}
 use Rattle.profile.specs.Profile.{profileValid}
 use Rattle.settings.specs.Settings.{kept}
@@ -25,9 +25,10 @@ use Rattle.settings.proofs.Laws.Items.{puts-append}
 use Rattle.camera.specs.declared.record.Camera.{Camera}
 use Rattle.camera.specs.Record.{held, wellFormed, puts, withSettings}
 use Rattle.encoding.specs.Encoding.{row}
-use Rattle.camera.specs.Snapshots.{itemFor, loadItem, loadTests, loadGives, loaded}
+use Rattle.camera.specs.Snapshots.{loadRefusal, loadTests, loadGives, loaded}
 use Rattle.camera.specs.Calls.{request, load, next}
 use Rattle.camera.proofs.Laws.Record.{formed-profile}
+use Rattle.camera.proofs.Laws.Loading.{codeBy, givenBy}
 use Rattle.demands.specs.Lists.{gives, given, run}
 use Rattle.demands.specs.Records.{Ok, Typed}
 use Rattle.demands.specs.Loading.{setOf, setCode, AsSet, setsOf, firstFault, EachAccepted, CountsAsSets, OwnSet, KeepsSetRules}
@@ -44,24 +45,24 @@ record-as-set p v streaming k r g = sets.record-as-set k r g p v streaming
 
 -- the records of a snapshot, in order
 module _ (p : Profile) (v : profileValid p ≡ true) (f : Bool) (m : ℕ → Option (List ℕ)) (g : records.Good m) where
-  fault-entries : (n k : ℕ) → firstFault p f (entries n k m) ≡ firstRefusal n k (λ j. itemFor p f j (m j))
-  unfolding entries firstRefusal itemFor codeOf
+  fault-entries : (n k : ℕ) → firstFault p f (entries n k m) ≡ firstRefusal n k (λ j. codeBy p f j (m j))
+  unfolding entries firstRefusal Option·elim
   fault-entries zero k = refl
   fault-entries (suc n) k = go (m k) (g k) (fault-entries n (suc k))
     where
-      go : (o : Option (List ℕ)) → GoodAt k o → firstFault p f (entries n (suc k) m) ≡ firstRefusal n (suc k) (λ j. itemFor p f j (m j))
+      go : (o : Option (List ℕ)) → GoodAt k o → firstFault p f (entries n (suc k) m) ≡ firstRefusal n (suc k) (λ j. codeBy p f j (m j))
           → firstFault p f (entryAt k o ++ entries n (suc k) m)
-          ≡ cond (eqb (codeOf (itemFor p f k o)) 0) (firstRefusal n (suc k) (λ j. itemFor p f j (m j))) (codeOf (itemFor p f k o))
+          ≡ cond (eqb (codeBy p f k o) 0) (firstRefusal n (suc k) (λ j. codeBy p f j (m j))) (codeBy p f k o)
       go none q e = e
       go (some r) q e = ap₂ (λ (x y : ℕ). cond (eqb x 0) y x) (record-as-set p v f k r q .code) e
 
-  given-entries : (n k : ℕ) → given p f (setsOf p (entries n k m)) ≡ allGiven n k (λ j. itemFor p f j (m j))
-  unfolding entries allGiven itemFor givenOf
+  given-entries : (n k : ℕ) → given p f (setsOf p (entries n k m)) ≡ allGiven n k (λ j. givenBy p f j (m j))
+  unfolding entries allGiven Option·elim
   given-entries zero k = refl
   given-entries (suc n) k = go (m k) (g k) (given-entries n (suc k))
     where
-      go : (o : Option (List ℕ)) → GoodAt k o → given p f (setsOf p (entries n (suc k) m)) ≡ allGiven n (suc k) (λ j. itemFor p f j (m j))
-          → given p f (setsOf p (entryAt k o ++ entries n (suc k) m)) ≡ givenOf (itemFor p f k o) ++ allGiven n (suc k) (λ j. itemFor p f j (m j))
+      go : (o : Option (List ℕ)) → GoodAt k o → given p f (setsOf p (entries n (suc k) m)) ≡ allGiven n (suc k) (λ j. givenBy p f j (m j))
+          → given p f (setsOf p (entryAt k o ++ entries n (suc k) m)) ≡ givenBy p f k o ++ allGiven n (suc k) (λ j. givenBy p f j (m j))
       go none q e = e
       go (some r) q e = ap₂ _++_ (record-as-set p v f k r q .settings []) e
 
@@ -98,12 +99,12 @@ run-sets p c o (e ∷ l) =
 -- a snapshot without a form fault, on a camera that is not refused 0x21
 module _ (c : Camera) (o : Ok (c .profile) c) (s : List ℕ) (w : form.wellFormed s ≡ true) where
   load-fault : loaded c s .code ≡ firstFault (c .profile) (c .streaming) (recordsOf s)
-  unfolding loadTests
+  unfolding loadTests loadRefusal
   load-fault =
       let p = c .profile in
       let f = c .streaming in
       load-answer c s (o .formed)
-      ∙ rw w (sets.row-number (firstRefusal form.keys 0 (loadItem p f s)))
+      ∙ rw w (sets.row-number (loadRefusal p f s))
       ∙ sym (ap (firstFault p f) (records-entries s w) ∙ fault-entries p (formed-profile c (o .formed)) f (decode s) (decode-good s) form.keys 0)
 
   load-given : loaded c s .code ≡ 0 → gives (c .profile) (c .streaming) (load s) ≡ given (c .profile) (c .streaming) (setsOf (c .profile) (recordsOf s))

@@ -21,13 +21,13 @@ use Rattle.snapshot.specs.Settings.{over, lastOf}
 use Rattle.controls.specs.declared.EvSetting.{EvSetting}
 use Rattle.exposure.specs.declared.ev.Ev.the-variants as E
 use Rattle.controls.specs.declared.ThrottleSetting.{ThrottleSetting}
+use Rattle.controls.specs.declared.Item.the-variants.{Given}
 use Rattle.controls.specs.declared.Setting.the-variants as S
 use Rattle.exposure.specs.Ev.{divisor, evBytes, unitsPerStop}
 use Rattle.face.specs.Limits.{endpoints, addressAt}
 use Rattle.face.specs.Answers.{entryOf, heldAt, flagsAt}
 use Rattle.entries.specs.Entries.{entryAddress, entryFlags}
 use Rattle.throttle.specs.Throttle.{throttleBytes}
-use Rattle.controls.specs.Settings.{settingOf}
 use Rattle.profile.specs.declared.Profile.{Profile}
 use Rattle.profile.specs.Selectors.{Control}
 use Rattle.profile.specs.Profile.{has, takes}
@@ -148,7 +148,7 @@ pub record Gets (p : Profile) (s : List ℕ) : Type 0 where
 pub record SnapshotReadsBack (c : Camera) : Type 0 where
   pub formed : form.wellFormed (snapshot c) ≡ true
   pub records : (k : ℕ) → decode (snapshot c) k ≡ Option·map (row k) (held c k)
-  pub settings : (k : ℕ) → settingOf (loadItem (c .profile) true (snapshot c) k) ≡ held c k
+  pub settings : (k : ℕ) → loadItem (c .profile) true (snapshot c) k ≡ Option·map Given (held c k)
   pub written : (out : List ℕ) → length (snapshot c) ≤ length out → Written c (snapshot c) out
 
 -- 01's largest snapshot of a profile: 159 bytes are room for any camera's.

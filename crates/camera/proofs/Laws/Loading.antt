@@ -66,27 +66,27 @@ module _ (given : ℕ → List (ℕ × Setting)) where
       let e : m - n + n ≡ m = omega arith in
       ap (λ (k : ℕ). allGiven k 0 given) (sym e) ∙ given-skip (m - n) n (λ j a b. h j a (omega arith))
 
+-- the number of a record of key k, and what it gives: 0 and nothing where there is none
+abbrev pub codeBy : Profile → Bool → ℕ → Option (List ℕ) → ℕ
+codeBy p streaming k o = Option·elim (Option·map (recordItem p streaming k) o) 0 codeOf
+
+abbrev pub givenBy : Profile → Bool → ℕ → Option (List ℕ) → List (ℕ × Setting)
+givenBy p streaming k o = Option·elim (Option·map (recordItem p streaming k) o) [] givenOf
+
 module _ (c : Camera) (s : List ℕ) where
-  -- the number of a record, and what it gives
-  abbrev codeBy : ℕ → Option (List ℕ) → ℕ
-  codeBy k o = Option·elim (Option·map (recordItem (c .profile) (c .streaming) k) o) 0 codeOf
-
-  abbrev givenBy : ℕ → Option (List ℕ) → List (ℕ × Setting)
-  givenBy k o = Option·elim (Option·map (recordItem (c .profile) (c .streaming) k) o) [] givenOf
-
   abbrev codeAt : ℕ → ℕ
-  codeAt k = codeBy k (decode s k)
+  codeAt k = codeBy (c .profile) (c .streaming) k (decode s k)
 
   abbrev givenAt : ℕ → List (ℕ × Setting)
-  givenAt k = givenBy k (decode s k)
+  givenAt k = givenBy (c .profile) (c .streaming) k (decode s k)
 
   absent-code : (j : ℕ) → decode s j ≡ none → codeAt j ≡ 0
   unfolding Option·elim
-  absent-code j e = ap (codeBy j) e
+  absent-code j e = ap (codeBy (c .profile) (c .streaming) j) e
 
   absent-given : (j : ℕ) → decode s j ≡ none → givenAt j ≡ []
   unfolding Option·elim
-  absent-given j e = ap (givenBy j) e
+  absent-given j e = ap (givenBy (c .profile) (c .streaming) j) e
 
   -- what stands before the record of key k: those below it are taken
   pub record Loads (h : Settings) (at k : ℕ) : Type 0 where
@@ -110,11 +110,11 @@ module _ (c : Camera) (s : List ℕ) where
 
     code-here : code ≡ codeAt k
     unfolding Option·elim
-    code-here = is-code ∙ ap codeOf item-here ∙ sym (ap (codeBy k) (record-at (w .here) l))
+    code-here = is-code ∙ ap codeOf item-here ∙ sym (ap (codeBy (c .profile) (c .streaming) k) (record-at (w .here) l))
 
     given-here : givenOf i ≡ givenAt k
     unfolding Option·elim
-    given-here = ap givenOf item-here ∙ sym (ap (givenBy k) (record-at (w .here) l))
+    given-here = ap givenOf item-here ∙ sym (ap (givenBy (c .profile) (c .streaming) k) (record-at (w .here) l))
 
     pub load-within : at + n ≤ length s
     load-within = omega (arith, is-size, next-within (w .here) l)

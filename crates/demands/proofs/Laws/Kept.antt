@@ -18,7 +18,7 @@ use Rattle.wire.proofs.Laws.Rows.{quiet}
 use Rattle.snapshot.specs.Form.{keys}
 use Rattle.snapshot.specs.Settings.{over, lastOf}
 use Rattle.controls.specs.declared.Item.{Item}
-use Rattle.controls.specs.declared.Item.the-variants.{Absent, Refused, Given}
+use Rattle.controls.specs.declared.Item.the-variants.{Refused, Given}
 use Rattle.controls.specs.declared.Setting.{Setting}
 use Rattle.controls.specs.declared.Setting.the-variants as S
 use Rattle.controls.specs.Settings.{itemOf}
@@ -124,10 +124,8 @@ module _ (p : Profile) (v : profileValid p ≡ true) (payload : List ℕ) (i : �
   item-good _ hdr c e = one-good _ (S.Hdr (leAt 4 payload 0)) c (λ z. z) (λ z. tt) e
   item-good _ throttle c e = one-good _ (S.Throttle (record { mode = leAt 4 payload 0; percent = leAt 4 payload 4 })) c (λ z. z) (λ z. tt) e
 
--- and so are all that items give
-given-good : (p : Profile) (item : Item) → ((s : Setting) → item ≡ Given s → Good p s) → Each (Good p) (givenOf item)
+pub given-good : (p : Profile) (item : Item) → ((s : Setting) → item ≡ Given s → Good p s) → Each (Good p) (givenOf item)
 unfolding givenOf
-given-good p Absent h = tt
 given-good p (Refused code) h = tt
 given-good p (Given s) h = (refl, h s refl, tt)
 
@@ -135,10 +133,11 @@ each-append : (P : Setting → Type 0) (a b : List (ℕ × Setting)) → Each P 
 each-append P [] b p q = q
 each-append P (x ∷ a) b p q = (p .0, p .1, each-append P a b (p .2) q)
 
-pub all-good : (p : Profile) (n k : ℕ) (item : ℕ → Item) → ((j : ℕ) (s : Setting) → item j ≡ Given s → Good p s) → Each (Good p) (allGiven n k item)
+-- and so are all that several give
+pub all-good : (p : Profile) (n k : ℕ) (given : ℕ → List (ℕ × Setting)) → ((j : ℕ) → Each (Good p) (given j)) → Each (Good p) (allGiven n k given)
 unfolding allGiven
-all-good p zero k item h = tt
-all-good p (suc n) k item h = each-append (Good p) (givenOf (item k)) (allGiven n (suc k) item) (given-good p (item k) (h k)) (all-good p n (suc k) item h)
+all-good p zero k given h = tt
+all-good p (suc n) k given h = each-append (Good p) (given k) (allGiven n (suc k) given) (h k) (all-good p n (suc k) given h)
 
 pub each-proper : (p : Profile) (l : List (ℕ × Setting)) → Each (Good p) l → Each Proper l
 each-proper p [] g = tt

@@ -1,10 +1,9 @@
 -- Loading a snapshot: what it answers and gives, record by record. Assumes nothing.
 use mathlib.Core.Path.{_≡_, refl, ap, ap₂, sym, _∙_}
 use mathlib.Core.List.{List, [], _∷_}
-use mathlib.Core.Option.{Option, none, some}
+use mathlib.Core.Option.{Option, none, some, Option·elim}
 use mathlib.Core.Bool.{Bool, true, false, cond, not, true≢false}
 use Prim.Native.Nat.{ℕ, zero, suc, _+_, _-_, _≤_, _<_}
-use native.Mathlib.Nat.{add-zero}
 use native.Mathlib.Omega.{arith}
 use lib.Dec.{eqb, leb}
 use lib.ListN.{getD, drop}
@@ -24,15 +23,15 @@ use Rattle.snapshot.proofs.Laws.Maps.{decode-good, none-above}
 use Rattle.snapshot.proofs.Laws.Settings.{over-none, last-append}
 use Rattle.merging.proofs.Laws.Merging.{decode-merged, merged-formed}
 use Rattle.controls.specs.declared.Item.{Item}
-use Rattle.controls.specs.declared.Item.the-variants.{Absent, Refused, Given}
+use Rattle.controls.specs.declared.Item.the-variants.{Refused, Given}
 use Rattle.controls.specs.declared.Setting.{Setting}
-use Rattle.controls.specs.Settings.{itemOf, settingOf, codeOf, firstRefusal}
+use Rattle.controls.specs.Settings.{itemOf, codeOf}
 use Rattle.exposure.specs.Ev.{evItem}
 use Rattle.entries.specs.Entries.{faceItem}
 use Rattle.metadata.specs.Metadata.{metadataItem}
 use Rattle.hdr.specs.Hdr.{hdrItem}
 use Rattle.throttle.specs.Throttle.{throttleItem}
-use Rattle.controls.proofs.Laws.Settings.{given-is}
+use Rattle.controls.proofs.Laws.Settings.{item-given, item-code, given-is}
 use Rattle.profile.specs.declared.Profile.{Profile}
 use Rattle.settings.specs.Settings.{keyOf}
 use Rattle.camera.specs.Requests.{controlRefusal}
@@ -40,71 +39,44 @@ use Rattle.profile.specs.Items.{itemAt}
 use Rattle.settings.specs.Items.{givenOf, allGiven}
 use Rattle.controls.proofs.Laws.Items.{passes, none-refused}
 use Rattle.profile.specs.Selectors.{Control, ev, face, metadata, hdr, throttle}
-use Rattle.camera.specs.Snapshots.{selectorAt, recordItem, itemFor, loadItem, loadTests, loadGives}
+use Rattle.camera.specs.Snapshots.{selectorAt, recordItem, loadRefusal, loadTests, loadGives}
+use Rattle.camera.proofs.Laws.Loading.{codeBy, givenBy}
 use Rattle.demands.proofs.Laws.Sets.{is-kind, row-number}
 use Rattle.demands.proofs.Laws.Steps.{not-off, isGiven, key-control}
 
--- items whose settings stand under the number of the item
-abbrev Keyed : (ℕ → Item) → Type 0
-Keyed item = (k : ℕ) (s : Setting) → item k ≡ Given s → keyOf s ≡ k
+-- settings under the number of what gives them
+abbrev Keyed : (ℕ → List (ℕ × Setting)) → Type 0
+Keyed given = (k j : ℕ) → (k ≡ j → ⊥) → lastOf (given k) j ≡ none
 
--- the last setting that one item gives
-module _ (item : ℕ → Item) (keyed : Keyed item) where
-  last-one : (k j : ℕ) → lastOf (givenOf (item k)) j ≡ cond (eqb k j) (settingOf (item k)) none
-  unfolding givenOf
-  last-one k j = go (item k) refl
-    where
-      nothing : (b : Bool) → none ≡ cond {A = Option Setting} b none none
-      nothing true = refl
-      nothing false = refl
-
-      go : (i : Item) → item k ≡ i → lastOf (givenOf i) j ≡ cond (eqb k j) (settingOf i) none
-      go Absent e = nothing (eqb k j)
-      go (Refused code) e = nothing (eqb k j)
-      go (Given s) e = rw (keyed k s e)
-
-  -- and that n items give, from key k on
-  last-below : (n k j : ℕ) → j < k → lastOf (allGiven n k item) j ≡ none
+-- the last setting of a key that n of them give, from k on
+module _ (given : ℕ → List (ℕ × Setting)) (keyed : Keyed given) where
+  last-below : (n k j : ℕ) → j < k → lastOf (allGiven n k given) j ≡ none
   unfolding allGiven
   last-below zero k j h = refl
-  last-below (suc n) k j h =
-      last-append (givenOf (item k)) (allGiven n (suc k) item) j
-      ∙ ap₂ over (last-one k j ∙ simp (ne-eqb k j (omega arith))) (last-below n (suc k) j (omega arith))
+  last-below (suc n) k j h = last-append (given k) (allGiven n (suc k) given) j ∙ ap₂ over (keyed k j (omega arith)) (last-below n (suc k) j (omega arith))
 
-  last-all : (n k j : ℕ) → k ≤ j → j < n + k → lastOf (allGiven n k item) j ≡ settingOf (item j)
+  last-all : (n k j : ℕ) → k ≤ j → j < n + k → lastOf (allGiven n k given) j ≡ lastOf (given j) j
   unfolding allGiven
   last-all zero k j h l = absurd (omega arith)
-  last-all (suc n) k j h l = last-append (givenOf (item k)) (allGiven n (suc k) item) j ∙ go (eqb k j) refl (λ p. last-all n (suc k) j p (omega arith))
+  last-all (suc n) k j h l = last-append (given k) (allGiven n (suc k) given) j ∙ go (eqb k j) refl (λ p. last-all n (suc k) j p (omega arith))
     where
-      go : (b : Bool) → eqb k j ≡ b → (suc k ≤ j → lastOf (allGiven n (suc k) item) j ≡ settingOf (item j))
-          → over (lastOf (givenOf (item k)) j) (lastOf (allGiven n (suc k) item) j) ≡ settingOf (item j)
+      go : (b : Bool) → eqb k j ≡ b → (suc k ≤ j → lastOf (allGiven n (suc k) given) j ≡ lastOf (given j) j)
+          → over (lastOf (given k) j) (lastOf (allGiven n (suc k) given) j) ≡ lastOf (given j) j
       go true e ih =
           let q : k ≡ j = eqb-true k j e in
-          ap₂ over (last-one k j ∙ simp e) (last-below n (suc k) j (omega arith)) ∙ ap (λ i. settingOf (item i)) q
+          ap₂ over (ap (λ i. lastOf (given i) j) q) (last-below n (suc k) j (omega arith))
       go false e ih =
           let q : k ≡ j → ⊥ = eqb-false k j e in
-          ap₂ over (last-one k j ∙ simp e) (ih (omega arith)) ∙ over-none _
+          ap₂ over (keyed k j q) (ih (omega arith)) ∙ over-none _
 
-  last-above : (n k j : ℕ) → n + k ≤ j → lastOf (allGiven n k item) j ≡ none
+  last-above : (n k j : ℕ) → n + k ≤ j → lastOf (allGiven n k given) j ≡ none
   unfolding allGiven
   last-above zero k j h = refl
-  last-above (suc n) k j h =
-      last-append (givenOf (item k)) (allGiven n (suc k) item) j
-      ∙ ap₂ over (last-one k j ∙ simp (ne-eqb k j (omega arith))) (last-above n (suc k) j (omega arith))
+  last-above (suc n) k j h = last-append (given k) (allGiven n (suc k) given) j ∙ ap₂ over (keyed k j (omega arith)) (last-above n (suc k) j (omega arith))
 
--- an item is by its tests' number and its setting
-by-number : (code : ℕ) (s : Setting) → codeOf (itemOf code s) ≡ code
-unfolding itemOf codeOf
-by-number code s = go (eqb code 0) refl
-  where
-    go : (b : Bool) → eqb code 0 ≡ b → codeOf (cond b (Given s) (Refused code)) ≡ code
-    go true e = sym (eqb-true code 0 e)
-    go false e = refl
-
--- and where its number is 0 gives the setting
+-- an item whose number is 0 gives the setting
 pub taken : (code : ℕ) (s : Setting) → codeOf (itemOf code s) ≡ 0 → itemOf code s ≡ Given s
-unfolding itemOf
-taken code s e = rw (eq-eqb code 0 (sym (by-number code s) ∙ e))
+taken code s e = item-given code s (sym (item-code code s) ∙ e)
 
 -- the setting that a control's payload gives stands under the key of its kind and address
 item-key : (p : Profile) (r : List ℕ) (s : Setting) (selector : ℕ) → Control selector → itemAt p selector (drop 4 r) 0 ≡ Given s → keyOf s ≡ form.keyFor selector (getD r 5 0)
@@ -144,69 +116,76 @@ module _ (p : Profile) (streaming : Bool) where
       go true q z = item-taken p (selectorAt k) (drop 4 r) 0 (key-control k) z
       go false q z = absurd (eqb-false _ 0 q z)
 
-  -- the settings of a snapshot's records stand under the records' keys
-  load-keyed : (s : List ℕ) → Keyed (loadItem p streaming s)
-  unfolding itemFor recordItem isGiven
-  load-keyed s k t e = go (decode s k) (decode-good s k) e
+  -- the setting that a record gives stands under its key
+  record-key : (k : ℕ) (r : List ℕ) → Record k r → (t : Setting) → recordItem p streaming k r ≡ Given t → keyOf t ≡ k
+  unfolding recordItem isGiven
+  record-key k r g t e = go (eqb (controlRefusal p streaming (selectorAt k)) 0) e
     where
-      given : (r : List ℕ) → Record k r → (b : Bool) → cond b (itemAt p (selectorAt k) (drop 4 r) 0) (Refused (controlRefusal p streaming (selectorAt k))) ≡ Given t → keyOf t ≡ k
-      given r g true i = record-keyed p k r t g i
-      given r g false i = absurd (true≢false (sym (ap isGiven i)))
+      go : (b : Bool) → cond b (itemAt p (selectorAt k) (drop 4 r) 0) (Refused (controlRefusal p streaming (selectorAt k))) ≡ Given t → keyOf t ≡ k
+      go true i = record-keyed p k r t g i
+      go false i = absurd (true≢false (sym (ap isGiven i)))
 
-      go : (o : Option (List ℕ)) → GoodAt k o → itemFor p streaming k o ≡ Given t → keyOf t ≡ k
-      go none g i = absurd (true≢false (sym (ap isGiven i)))
-      go (some r) g i = given r g (eqb (controlRefusal p streaming (selectorAt k)) 0) i
+  load-keyed : (s : List ℕ) → Keyed (λ k. givenBy p streaming k (decode s k))
+  unfolding Option·elim givenOf
+  load-keyed s k j n = go (decode s k) (decode-good s k)
+    where
+      one : (i : Item) → ((t : Setting) → i ≡ Given t → keyOf t ≡ k) → lastOf (givenOf i) j ≡ none
+      one (Refused code) h = refl
+      one (Given t) h = rw (h t refl, ne-eqb k j n)
+
+      go : (o : Option (List ℕ)) → GoodAt k o → lastOf (givenBy p streaming k o) j ≡ none
+      go none g = refl
+      go (some r) g = one (recordItem p streaming k r) (record-key k r g)
 
   -- behind the last key there is no record
-  load-end : (s : List ℕ) (k : ℕ) → keys ≤ k → loadItem p streaming s k ≡ Absent
-  unfolding itemFor
-  load-end s k h = rw (none-above (decode s) (decode-good s) k h)
+  load-end : (s : List ℕ) (k : ℕ) → keys ≤ k → decode s k ≡ none
+  load-end s = none-above (decode s) (decode-good s)
 
   -- what a load gives: each record's setting
-  pub load-settings : (s : List ℕ) (k : ℕ) → lastOf (loadGives p streaming s) k ≡ settingOf (loadItem p streaming s k)
-  unfolding loadGives
+  pub load-settings : (s : List ℕ) (k : ℕ) → lastOf (loadGives p streaming s) k ≡ lastOf (givenBy p streaming k (decode s k)) k
+  unfolding loadGives Option·elim
   load-settings s k = go (leb keys k) refl
     where
-      go : (b : Bool) → leb keys k ≡ b → lastOf (allGiven keys 0 (loadItem p streaming s)) k ≡ settingOf (loadItem p streaming s k)
-      go true e = let h = leb-true keys k e in last-above _ (load-keyed s) keys 0 k (omega arith) ∙ ap settingOf (sym (load-end s k h))
+      go : (b : Bool) → leb keys k ≡ b → lastOf (allGiven keys 0 (λ j. givenBy p streaming j (decode s j))) k ≡ lastOf (givenBy p streaming k (decode s k)) k
+      go true e =
+          let h = leb-true keys k e in
+          last-above _ (load-keyed s) keys 0 k (omega arith) ∙ sym (ap (λ o. lastOf (givenBy p streaming k o) k) (load-end s k h))
       go false e = let h = leb-false keys k e in last-all _ (load-keyed s) keys 0 k (omega arith) (omega arith)
 
   -- an accepted load: well formed, and no record is refused
   pub record Accepted (s : List ℕ) : Type 0 where
     pub formed : form.wellFormed s ≡ true
-    pub each : (k : ℕ) → codeOf (loadItem p streaming s k) ≡ 0
+    pub each : (k : ℕ) → codeBy p streaming k (decode s k) ≡ 0
 
   pub load-accepted : (s : List ℕ) → firstOf (loadTests p streaming s) ≡ 0 → Accepted s
-  unfolding loadTests codeOf
+  unfolding loadTests loadRefusal Option·elim
   load-accepted s e =
-      let n = firstRefusal keys 0 (loadItem p streaming s) in
+      let n = loadRefusal p streaming s in
       let q = quiet ((not (form.wellFormed s) ⇒ malformedSnapshot) ∷ []) (answers n ∷ []) refl e in
       record { formed = not-off (form.wellFormed s) (q .0 .0); each = λ k. go (sym (row-number n) ∙ q .1) k (leb keys k) refl }
     where
-      go : firstRefusal keys 0 (loadItem p streaming s) ≡ 0 → (k : ℕ) (b : Bool) → leb keys k ≡ b → codeOf (loadItem p streaming s k) ≡ 0
-      go z k true q = ap codeOf (load-end s k (leb-true keys k q))
-      go z k false q = let h = leb-false keys k q in ap (λ (j : ℕ). codeOf (loadItem p streaming s j)) (sym (add-zero k)) ∙ none-refused keys 0 (loadItem p streaming s) z k h
+      go : loadRefusal p streaming s ≡ 0 → (k : ℕ) (b : Bool) → leb keys k ≡ b → codeBy p streaming k (decode s k) ≡ 0
+      go z k true q = ap (codeBy p streaming k) (load-end s k (leb-true keys k q))
+      go z k false q = none-refused (λ j. codeBy p streaming j (decode s j)) keys z k (leb-false keys k q)
 
   pub accepted-load : (s : List ℕ) → Accepted s → firstOf (loadTests p streaming s) ≡ 0
-  unfolding loadTests
-  accepted-load s a = rw (a .formed, passes (loadItem p streaming s) keys (λ j h. a .each j))
+  unfolding loadTests loadRefusal
+  accepted-load s a = rw (a .formed, passes (λ j. codeBy p streaming j (decode s j)) keys (λ j h. a .each j))
 
   -- of two records that are taken, the merge has one
-  over-taken : (k : ℕ) (x y : Option (List ℕ)) → codeOf (itemFor p streaming k x) ≡ 0 → codeOf (itemFor p streaming k y) ≡ 0
-      → codeOf (itemFor p streaming k (over x y)) ≡ 0
+  over-taken : (k : ℕ) (x y : Option (List ℕ)) → codeBy p streaming k x ≡ 0 → codeBy p streaming k y ≡ 0 → codeBy p streaming k (over x y) ≡ 0
   over-taken k x none a b = a
   over-taken k x (some r) a b = b
 
-  over-setting : (k : ℕ) (x y : Option (List ℕ)) → codeOf (itemFor p streaming k y) ≡ 0
-      → settingOf (itemFor p streaming k (over x y)) ≡ over (settingOf (itemFor p streaming k x)) (settingOf (itemFor p streaming k y))
-  unfolding itemFor isGiven
-  over-setting k x none b = refl
-  over-setting k x (some r) b = go (recordItem p streaming k r) (record-taken k r b)
+  over-setting : (k : ℕ) (x y : Option (List ℕ)) → GoodAt k y → codeBy p streaming k y ≡ 0
+      → lastOf (givenBy p streaming k (over x y)) k ≡ over (lastOf (givenBy p streaming k x) k) (lastOf (givenBy p streaming k y) k)
+  unfolding Option·elim givenOf isGiven
+  over-setting k x none g b = refl
+  over-setting k x (some r) g b = go (recordItem p streaming k r) (record-key k r g) (record-taken k r b)
     where
-      go : (i : Item) → isGiven i ≡ true → settingOf i ≡ over (settingOf (itemFor p streaming k x)) (settingOf i)
-      go Absent e = absurd (true≢false (sym e))
-      go (Refused code) e = absurd (true≢false (sym e))
-      go (Given s) e = refl
+      go : (i : Item) → ((t : Setting) → i ≡ Given t → keyOf t ≡ k) → isGiven i ≡ true → lastOf (givenOf i) k ≡ over (lastOf (givenBy p streaming k x) k) (lastOf (givenOf i) k)
+      go (Refused code) h e = absurd (true≢false (sym e))
+      go (Given t) h e = rw (h t refl, eq-eqb k k refl)
 
   -- a camera that accepts two snapshots accepts their merge
   pub merged-accepted : (a b : List ℕ) → Accepted a → Accepted b → Accepted (merged a b)
@@ -220,6 +199,6 @@ module _ (p : Profile) (streaming : Bool) where
       → (k : ℕ) → lastOf (loadGives p streaming (merged a b)) k ≡ over (lastOf (loadGives p streaming a) k) (lastOf (loadGives p streaming b) k)
   merged-settings a b y k =
       load-settings (merged a b) k
-      ∙ ap (λ m. settingOf (itemFor p streaming k (m k))) (decode-merged a b)
-      ∙ over-setting k (decode a k) (decode b k) (y .each k)
+      ∙ ap (λ m. lastOf (givenBy p streaming k (m k)) k) (decode-merged a b)
+      ∙ over-setting k (decode a k) (decode b k) (decode-good b k) (y .each k)
       ∙ sym (ap₂ over (load-settings a k) (load-settings b k))

@@ -44,7 +44,7 @@ use Rattle.settings.specs.Settings.{faceHeld, held, put}
 use Rattle.profile.specs.Items.{itemAt, setRefusal}
 use Rattle.settings.specs.Items.{givenOf, allGiven, puts, setGives, setTaken}
 use Rattle.answering.specs.Answers.{valueOf}
-use Rattle.settings.proofs.Laws.Items.{face-set}
+use Rattle.settings.proofs.Laws.Items.{face-refusal, face-set}
 use Rattle.camera.specs.declared.record.Camera.{Camera}
 use Rattle.camera.specs.Record.{withSettings}
 use Rattle.camera.specs.Requests.{answerOf}
@@ -55,10 +55,11 @@ use Rattle.demands.proofs.Laws.Kept.{item-good}
 use Rattle.demands.proofs.Laws.Loads.{taken}
 
 -- one item that no test refuses is put in
-one-put : (h : Settings) (item : ℕ → Item) (code : ℕ) (s : Setting) → item 0 ≡ itemOf code s → firstRefusal 1 0 item ≡ 0 → puts h (allGiven 1 0 item) ≡ put h s
+one-put : (h : Settings) (item : ℕ → Item) (code : ℕ) (s : Setting) → item 0 ≡ itemOf code s → firstRefusal 1 0 (λ i. codeOf (item i)) ≡ 0
+    → puts h (allGiven 1 0 (λ i. givenOf (item i))) ≡ put h s
 unfolding allGiven givenOf puts
 one-put h item code s e z =
-    let g : item 0 ≡ Given s = e ∙ taken code s (ap codeOf (sym e) ∙ none-refused 1 0 item z 0 (lit< tt)) in
+    let g : item 0 ≡ Given s = e ∙ taken code s (ap codeOf (sym e) ∙ none-refused (λ i. codeOf (item i)) 1 z 0 (lit< tt)) in
     rw g
 
 -- the four controls of one setting
@@ -115,17 +116,19 @@ pub record Taken (p : Profile) (payload : List ℕ) (i : ℕ) : Type 0 where
 
 module _ (p : Profile) (payload : List ℕ) (z : setRefusal p selectors.face payload ≡ 0) where
   pub entry-taken : profileValid p ≡ true → controlRefusal p selectors.face ≡ 0 → (i : ℕ) → i < getD payload 0 0 → Taken p payload i
-  unfolding setRefusal itemAt
+  unfolding itemAt
   entry-taken v r i h =
-      let g = taken-entries (p .face) payload (getD payload 0 0) z i h in
+      let g = taken-entries (p .face) payload (getD payload 0 0) (sym (face-refusal p payload) ∙ z) i h in
       let proper = item-good p v payload i _ selectors.face face r g .proper in
       let x = accepted (p .face) payload i _ _ g in
       record { first = proper .0; last = proper .1; some = proper .2; new = x .new; known = x .known }
 
   -- they are put in one after the other
   pub face-put : (h : Settings) → puts h (setGives p selectors.face payload) .face ≡ entriesPut (h .face) payload (getD payload 0 0)
-  unfolding setTaken facesTaken setRefusal itemAt
-  face-put h = let e = ap (λ t. t .settings .face) (face-set p h payload refl) in sym (rw (eq-eqb _ 0 z) at e)
+  unfolding setTaken facesTaken
+  face-put h =
+      let e = ap (λ t. t .settings .face) (face-set p h payload refl) in
+      sym (rw (eq-eqb _ 0 z, eq-eqb _ 0 (sym (face-refusal p payload) ∙ z)) at e)
 
 -- one put in at its address, and at another
 module _ (face : List ℕ) (address flags : ℕ) (low : firstAddress ≤ address) where

@@ -21,7 +21,7 @@ use Rattle.snapshot.specs.Form as form
 use Rattle.snapshot.specs.Records.{Record}
 use Rattle.snapshot.proofs.Laws.Sound.{Sound, Kind, ev, face, metadata, hdr, throttle, kind-of, sound-address, stands-sound, stands-size}
 use Rattle.controls.specs.declared.Item.{Item}
-use Rattle.controls.specs.declared.Item.the-variants.{Absent, Refused, Given}
+use Rattle.controls.specs.declared.Item.the-variants.{Refused, Given}
 use Rattle.face.proofs.Laws.Limits.{count-least}
 use Rattle.entries.proofs.Laws.Payload.{takes-first}
 use Rattle.controls.specs.Settings.{codeOf, firstRefusal}
@@ -47,7 +47,6 @@ row-number n = go (eqb n 0) refl
 -- an item with a number gives nothing
 refused-nothing : (i : Item) → eqb (codeOf i) 0 ≡ false → givenOf i ≡ []
 unfolding codeOf givenOf
-refused-nothing Absent e = refl
 refused-nothing (Refused code) e = refl
 refused-nothing (Given s) e = absurd (true≢false e)
 

@@ -1,7 +1,7 @@
 -- What one call leaves of a well-formed record: the settings that it gives are put in, and the flag is set. Assumes nothing.
 use mathlib.Core.Path.{_≡_, refl, ap, sym, _∙_, subst}
 use mathlib.Core.List.{List, [], _∷_, _++_}
-use mathlib.Core.Option.{Option, none, some}
+use mathlib.Core.Option.{Option, none, some, Option·elim}
 use mathlib.Core.Bool.{Bool, true, false, cond, not, _&&_, true≢false, and-eq-true-iff}
 use Prim.Native.Nat.{ℕ}
 use lib.Dec.{eqb, ltb, leb}
@@ -21,12 +21,12 @@ use Rattle.snapshot.specs.Form.{keys, metadataKey, hdrKey}
 use Rattle.snapshot.specs.Records.{decode}
 use Rattle.snapshot.specs.Settings.{over, lastOf}
 use Rattle.controls.specs.declared.Item.{Item}
-use Rattle.controls.specs.declared.Item.the-variants.{Absent, Refused, Given}
+use Rattle.controls.specs.declared.Item.the-variants.{Refused, Given}
 use Rattle.controls.specs.declared.Setting.{Setting}
 use Rattle.profile.specs.declared.Profile.{Profile}
 use Rattle.profile.specs.Profile.{has, settable, takes, profileValid, controlRefusal}
 use Rattle.profile.specs.Items.{itemCount, itemAt, setRefusal}
-use Rattle.settings.specs.Items.{setGives}
+use Rattle.settings.specs.Items.{givenOf, setGives}
 use Rattle.settings.specs.Items as items
 use Rattle.profile.specs.Selectors.{Control, ev, face, metadata, hdr, throttle}
 use Rattle.settings.proofs.Laws.Kept.{control-kept}
@@ -37,13 +37,14 @@ use Rattle.camera.specs.declared.calls.Outcome.{Outcome}
 use Rattle.camera.specs.Record.{held, wellFormed, puts}
 use Rattle.camera.specs.Requests.{requestCode, refused, outcomeBy, requestDone, requested, rules, table}
 use Rattle.camera.specs.Requests as camera
-use Rattle.camera.specs.Snapshots.{selectorAt, snapshot, recordItem, itemFor, loadItem, loadTests, loadCode, loadGives, loaded, written, writeCode}
+use Rattle.camera.specs.Snapshots.{selectorAt, snapshot, recordItem, loadTests, loadCode, loadGives, loaded, written, writeCode}
 use Rattle.camera.specs.Calls.{sensed, Call, request, stream, load, write, sense, outcome, next}
 use Rattle.camera.proofs.Laws.Record.{formed-profile, streamed-done}
+use Rattle.camera.proofs.Laws.Loading.{givenBy}
 use Rattle.demands.specs.Lists.{setAccepted, gives, leaves}
 use Rattle.demands.specs.Records.{Ok}
 use Rattle.demands.proofs.Laws.Held.{Each, puts-held, puts-length}
-use Rattle.demands.proofs.Laws.Kept.{Good, control-streaming, item-good, all-good, each-proper, puts-formed}
+use Rattle.demands.proofs.Laws.Kept.{Good, control-streaming, item-good, given-good, all-good, each-proper, puts-formed}
 
 -- rows whose tests all fail add nothing
 first-quiet : (a b : List Row) → firstOf b ≡ 0 → firstOf (a ++ b) ≡ firstOf a
@@ -191,7 +192,6 @@ module _ (p : Profile) (streaming : Bool) (s payload : List ℕ) (a : setAccepte
 
 -- which items give a setting
 unfoldable pub isGiven : Item → Bool
-isGiven Absent = false
 isGiven (Refused code) = false
 isGiven (Given s) = true
 
@@ -220,19 +220,20 @@ module _ (p : Profile) (v : profileValid p ≡ true) where
       go false q i = absurd (true≢false (sym (ap isGiven i)))
 
   load-good : (streaming : Bool) (s : List ℕ) → Each (Good p) (loadGives p streaming s)
-  unfolding loadGives itemFor isGiven
-  load-good streaming s = all-good p keys 0 (loadItem p streaming s) (λ k t e. go k t (decode s k) e)
+  unfolding loadGives Option·elim
+  load-good streaming s = all-good p keys 0 (λ k. givenBy p streaming k (decode s k)) (λ k. go k (decode s k))
     where
-      go : (k : ℕ) (t : Setting) (o : Option (List ℕ)) → itemFor p streaming k o ≡ Given t → Good p t
-      go k t none e = absurd (true≢false (sym (ap isGiven e)))
-      go k t (some r) e = record-good streaming k r t e
+      go : (k : ℕ) (o : Option (List ℕ)) → Each (Good p) (givenBy p streaming k o)
+      go k none = tt
+      go k (some r) = given-good p (recordItem p streaming k r) (record-good streaming k r)
 
   set-good : (streaming : Bool) (s payload : List ℕ) → setAccepted p streaming s payload ≡ true → Each (Good p) (setGives p (setup.selectorOf s) payload)
   unfolding setGives
   set-good streaming s payload a =
       let c = set-control p streaming s payload a in
       let k = control-known (p .controls) (setup.selectorOf s) (valid-presence p v) (accepted-control p streaming s payload a .0) in
-      all-good p (itemCount (setup.selectorOf s) payload) 0 (itemAt p (setup.selectorOf s) payload) (λ i t e. item-good p v payload i t (setup.selectorOf s) k c e)
+      all-good p (itemCount (setup.selectorOf s) payload) 0 (λ i. givenOf (itemAt p (setup.selectorOf s) payload i))
+      (λ i. given-good p (itemAt p (setup.selectorOf s) payload i) (λ t e. item-good p v payload i t (setup.selectorOf s) k c e))
 
   pub gives-good : (streaming : Bool) (call : Call) → Each (Good p) (gives p streaming call)
   unfolding gives
@@ -255,18 +256,18 @@ module _ (p : Profile) (c : Camera) (o : Ok p c) (call : Call) where
   abbrev given : List (ℕ × Setting)
   given = gives (c .profile) (c .streaming) call
 
-  given-good : Each (Good (c .profile)) given
-  given-good = gives-good (c .profile) (formed-profile c (o .formed)) (c .streaming) call
+  each-good : Each (Good (c .profile)) given
+  each-good = gives-good (c .profile) (formed-profile c (o .formed)) (c .streaming) call
 
   puts-ok : Ok p (puts c given)
   puts-ok = record {
     profile = o .profile;
-    formed = puts-formed (c .profile) (c .settings) (o .formed) given (o .places) given-good;
+    formed = puts-formed (c .profile) (c .settings) (o .formed) given (o .places) each-good;
     places = puts-length (c .settings) given ∙ o .places;
   }
 
   given-held : (k : ℕ) → held (puts c given) k ≡ over (held c k) (lastOf given k)
-  given-held = puts-held (c .settings) given (each-proper (c .profile) given given-good) (o .places)
+  given-held = puts-held (c .settings) given (each-proper (c .profile) given each-good) (o .places)
 
 -- What one call leaves of such a record.
 pub record Step (p : Profile) (c : Camera) (call : Call) : Type 0 where
