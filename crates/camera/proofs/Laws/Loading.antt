@@ -29,7 +29,7 @@ use Rattle.camera.specs.declared.record.Camera.{Camera}
 use Rattle.camera.specs.declared.calls.Outcome.{Outcome}
 use Rattle.camera.specs.Record.{withSettings, wellFormed}
 use Rattle.camera.specs.Requests.{controlRefusal, refused, outcomeBy}
-use Rattle.camera.specs.Snapshots.{selectorAt, recordItem, loadItem, loadRefusal, loadTests, loadCode, loadGives, loaded}
+use Rattle.camera.specs.Snapshots.{selectorAt, recordItem, loadRefusal, loadTests, loadCode, loadGives, loaded}
 use Rattle.camera.specs.Steps.{loadDone}
 
 -- a record of key k as a SET, by what the calls ensure

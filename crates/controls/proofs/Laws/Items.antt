@@ -41,7 +41,7 @@ module _ (code : ℕ → ℕ) where
       go true p q ih (suc j) l = let s : j + suc k ≡ suc j + k = omega arith in rw s at (ih q j (omega arith))
       go false p q ih j l = absurd (eqb-false (code k) 0 p q)
 
-  -- the same from number 0 on, as a loop goes through them
+  -- the same from 0 on, as a loop goes through them
   pub stops : (n i : ℕ) → ((j : ℕ) → j < i → code j ≡ 0) → i < n → (code i ≡ 0 → ⊥) → firstRefusal n 0 code ≡ code i
   stops n i before h bad =
       let e : (j : ℕ) → j + 0 ≡ j = λ j. omega arith in

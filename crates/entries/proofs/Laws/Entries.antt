@@ -1,7 +1,7 @@
 -- Entries of a SET, one by one and one after the other. Assumes nothing.
 use mathlib.Core.Path.{_≡_, refl, ap, ap₂, sym, _∙_}
 use mathlib.Core.List.{List}
-use mathlib.Core.Bool.{Bool, true, false, cond, _||_, or-true, or-false}
+use mathlib.Core.Bool.{Bool, true, false, _||_, or-true, or-false}
 use Prim.Native.Nat.{ℕ, zero, suc, _+_, _*_, _≤_, _<_}
 use native.Mathlib.Numerals.{add-one}
 use native.Mathlib.Omega.{arith}
@@ -13,9 +13,8 @@ use Rattle.wire.specs.Endpoints.{endpointLimit}
 use Rattle.wire.specs.Number.{leAt}
 use Rattle.wire.specs.Uvc.{outOfRange}
 use Rattle.controls.specs.declared.Item.the-variants.{Refused, Given}
-use Rattle.controls.specs.declared.Setting.{Setting}
 use Rattle.controls.specs.declared.Setting.the-variants as S
-use Rattle.controls.specs.Settings.{itemOf, codeOf, firstRefusal}
+use Rattle.controls.specs.Settings.{codeOf, firstRefusal}
 use Rattle.controls.proofs.Laws.Settings as settings
 use Rattle.controls.proofs.Laws.Items.{none-refused, stops, passes}
 use Rattle.face.specs.declared.limits.FaceLimits.{FaceLimits}
