@@ -1,2 +1,2 @@
 -- What document 01 says of a GET of a control, by profile and settings.
-pub mod Answers
+pub mod Answering

@@ -9,10 +9,10 @@ use wire::selectors::HDR;
 use wire::selectors::METADATA;
 ghost use mathlib.Core.Path.{_≡_};
 ghost use Rattle.request.specs.Answers.{packed};
-ghost use Rattle.answering.specs.Answers.{answerOf};
+ghost use Rattle.answering.specs.Answering.{controlAnswer};
 
 pub fn answer(p: Profile, s: Settings, selector: u8, code: u8) -> Answer
-    ensures { λ r. ⌜ r ≡ packed (answerOf p s selector code) ⌝ }
+    ensures { λ r. ⌜ r ≡ packed (controlAnswer p s selector code) ⌝ }
 {
     if selector == EV {
         let held = s.ev;
@@ -28,7 +28,7 @@ pub fn answer(p: Profile, s: Settings, selector: u8, code: u8) -> Answer
     }
     if selector == HDR {
         let held = s.hdr;
-        return hdr::answer(p.auto, held, code);
+        return hdr::answer(p.hdr, held, code);
     }
     let held = s.throttle;
     throttle::answer(p.throttle, held, code)

@@ -3,6 +3,7 @@
 use camera::Camera;
 use exposure::EvLimits;
 use face::FaceLimits;
+use hdr::HdrLimits;
 use metadata::MetadataLimits;
 use profile::Profile;
 use throttle::ThrottleLimits;
@@ -17,8 +18,8 @@ fn profile() -> Profile
         interface: 0,
         controls: 0x3024,
         ev: EvLimits {
-            low: -2,
-            high: 2,
+            minimum: -2,
+            maximum: 2,
             steps: 0x1F,
         },
         face: FaceLimits {
@@ -30,7 +31,7 @@ fn profile() -> Profile
             maximum: 0,
             writable: false,
         },
-        auto: false,
+        hdr: HdrLimits { auto: false },
         throttle: ThrottleLimits {
             minimum: 5,
             maximum: 100,

@@ -55,7 +55,7 @@ pub(crate) fn bytes(s: &[u8], width: usize) {
         return;
     }
     spaced(s);
-    fill(wire::least(s.len(), 255) * 3 - 1, width);
+    fill(wire::min(s.len(), 255) * 3 - 1, width);
 }
 
 // A number of document 01.

@@ -5,17 +5,18 @@ use mathlib.Core.Bool.{Bool, cond}
 use lib.IntN.{pos}
 use lib.ListN.{length}
 use Rattle.wire.specs.Uvc.{malformedRecord}
-use Rattle.exposure.specs.Ev.{compensation}
+use Rattle.exposure.specs.Exposure.{sensorValue}
 use Rattle.camera.specs.declared.record.Camera.{Camera}
 use Rattle.camera.specs.declared.calls.Outcome.{Outcome}
 use Rattle.camera.specs.declared.calls.Sensed.{Sensed}
-use Rattle.camera.specs.Record.{withStreaming, wellFormed}
-use Rattle.camera.specs.Requests.{outcomeBy, requested, replied}
-use Rattle.camera.specs.Snapshots.{loaded, written, writtenOut}
+use Rattle.camera.specs.Record.{withStreaming, recordWellFormed}
+use Rattle.camera.specs.Requests.{outcomeBy, requested, requestedReply}
+use Rattle.camera.specs.Loading.{loaded}
+use Rattle.camera.specs.Writing.{written, writtenOut}
 
 -- the test that every call begins with
 abbrev pub recordCode : Camera → ℕ
-recordCode c = cond (wellFormed c) 0 malformedRecord
+recordCode c = cond (recordWellFormed c) 0 malformedRecord
 
 -- a streaming notice sets only the flag
 unfoldable pub streamed : Camera → Bool → Outcome
@@ -25,7 +26,7 @@ streamed c on = outcomeBy (recordCode c) c (record { code = 0; count = 0; camera
 unfoldable pub sensed : Camera → Sensed
 sensed c = record {
   code = recordCode c;
-  value = cond (wellFormed c) (compensation (c .profile .ev) (c .settings .ev)) (pos 0);
+  value = cond (recordWellFormed c) (sensorValue (c .profile .ev) (c .settings .ev)) (pos 0);
   camera = c;
 }
 
@@ -56,7 +57,7 @@ lent sense = []
 
 -- and as it ends
 abbrev pub left : Camera → Call → List ℕ
-left c (request setup payload reply) = replied c setup payload reply
+left c (request setup payload reply) = requestedReply c setup payload reply
 left c (stream on) = []
 left c (load s) = []
 left c (write out) = writtenOut c out

@@ -7,8 +7,9 @@ use Rattle.controls.specs.declared.Setting.{Setting}
 use Rattle.profile.specs.declared.Profile.{Profile}
 use Rattle.settings.specs.declared.settings.Settings.{Settings}
 use Rattle.settings.specs.Settings.{noSettings}
-use Rattle.settings.specs.Settings as settings
-use Rattle.settings.specs.Items as items
+use Rattle.settings.specs.Held.{settingsHeld}
+use Rattle.settings.specs.Kept.{settingsWellFormed}
+use Rattle.settings.specs.Items.{putAll}
 use Rattle.camera.specs.declared.record.Camera.{Camera}
 
 -- no settings, and streaming as it is started
@@ -23,12 +24,12 @@ withSettings c s = record { profile = c .profile; streaming = c .streaming; sett
 
 -- the setting held of a key, or none
 abbrev pub held : Camera → ℕ → Option Setting
-held c = settings.held (c .settings)
+held c = settingsHeld (c .settings)
 
 -- the record with settings put in one after the other
 abbrev pub puts : Camera → List (ℕ × Setting) → Camera
-puts c l = withSettings c (items.puts (c .settings) l)
+puts c l = withSettings c (putAll (c .settings) l)
 
 -- the profile is valid, and every setting keeps its rules; all other records are 0x21
-abbrev pub wellFormed : Camera → Bool
-wellFormed c = settings.wellFormed (c .profile) (c .settings)
+abbrev pub recordWellFormed : Camera → Bool
+recordWellFormed c = settingsWellFormed (c .profile) (c .settings)

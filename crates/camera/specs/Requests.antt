@@ -5,38 +5,38 @@ use mathlib.Core.Bool.{Bool, cond, not, _&&_}
 use lib.Dec.{eqb}
 use Rattle.wire.specs.Selectors.{throttle}
 use Rattle.wire.specs.Uvc.{setCur, wrongState}
-use Rattle.request.specs.Setup.{isSetRequest, selectorOf}
+use Rattle.request.specs.Setup.{isSetRequest, setupSelector}
 use Rattle.request.specs.Table.{Table}
-use Rattle.request.specs.Tests as request
-use Rattle.request.specs.Requests as request-leaves
+use Rattle.request.specs.Tests.{fullAnswer, tableRefusal, requestCode, sentCount}
+use Rattle.request.specs.Requests.{replied}
 use Rattle.profile.specs.declared.Profile.{Profile}
 use Rattle.settings.specs.declared.settings.Settings.{Settings}
-use Rattle.profile.specs.Profile.{has, settable, takes, lengthOf}
+use Rattle.profile.specs.Profile.{has, isSettable, setLength, payloadLength}
 use Rattle.settings.specs.Settings.{noSettings}
-use Rattle.settings.specs.Settings as settings
+use Rattle.settings.specs.Kept.{settingsWellFormed}
 use Rattle.profile.specs.Items.{setRefusal}
 use Rattle.settings.specs.Items.{setGives}
-use Rattle.answering.specs.Answers.{infoOf, valueOf}
+use Rattle.answering.specs.Answering.{infoOf, valueOf}
 use Rattle.camera.specs.declared.record.Camera.{Camera}
 use Rattle.camera.specs.declared.calls.Outcome.{Outcome}
 use Rattle.camera.specs.Record.{puts}
 
 -- test 7: a SET of the throttle while the stream is stopped
-abbrev pub stateOf : (streaming : Bool) → (selector code : ℕ) → ℕ
-stateOf streaming selector code = cond (eqb selector throttle && eqb code setCur && not streaming) wrongState 0
+abbrev pub stateRefusal : (streaming : Bool) → (selector code : ℕ) → ℕ
+stateRefusal streaming selector code = cond (eqb selector throttle && eqb code setCur && not streaming) wrongState 0
 
 -- the table of a camera's controls
 abbrev pub tableWith : Profile → Bool → Settings → Table
 tableWith p streaming s = record {
-  formed = settings.wellFormed p s;
+  formed = settingsWellFormed p s;
   unit = p .unit;
   interface = p .interface;
   present = has p;
-  settable = settable p;
-  takes = takes p;
-  state = stateOf streaming;
+  settable = isSettable p;
+  setLength = setLength p;
+  state = stateRefusal streaming;
   values = setRefusal p;
-  len = lengthOf p;
+  len = payloadLength p;
   info = infoOf p;
   value = valueOf p s;
 }
@@ -49,16 +49,16 @@ abbrev pub rules : Profile → Bool → Table
 rules p streaming = tableWith p streaming noSettings
 
 -- the full answer to a GET
-abbrev pub answerOf : Camera → ℕ → ℕ → List ℕ
-answerOf c = request.answerOf (table c)
+abbrev pub cameraAnswer : Camera → ℕ → ℕ → List ℕ
+cameraAnswer c = fullAnswer (table c)
 
 -- the number of a SET before its payload is looked at: the control is there, takes a SET, and streams if it is the throttle
 abbrev pub controlRefusal : Profile → Bool → ℕ → ℕ
-controlRefusal p streaming = request.controlRefusal (rules p streaming)
+controlRefusal p streaming = tableRefusal (rules p streaming)
 
 -- the number of a request; `room` is the length of the reply buffer
-abbrev pub requestCode : Camera → List ℕ → List ℕ → ℕ → ℕ
-requestCode c = request.requestCode (table c)
+abbrev pub requestedCode : Camera → List ℕ → List ℕ → ℕ → ℕ
+requestedCode c = requestCode (table c)
 
 -- a refusal: its number, no count, and the record as it came in
 abbrev pub refused : ℕ → Camera → Outcome
@@ -72,12 +72,12 @@ outcomeBy code c done = cond (eqb code 0) done (refused code c)
 unfoldable pub requestDone : Camera → List ℕ → List ℕ → Outcome
 requestDone c s payload =
     cond (isSetRequest s)
-    (record { code = 0; count = 0; camera = puts c (setGives (c .profile) (selectorOf s) payload) })
-    (record { code = 0; count = request.sentCount (table c) s; camera = c })
+    (record { code = 0; count = 0; camera = puts c (setGives (c .profile) (setupSelector s) payload) })
+    (record { code = 0; count = sentCount (table c) s; camera = c })
 
 unfoldable pub requested : Camera → List ℕ → List ℕ → ℕ → Outcome
-requested c s payload room = outcomeBy (requestCode c s payload room) c (requestDone c s payload)
+requested c s payload room = outcomeBy (requestedCode c s payload room) c (requestDone c s payload)
 
 -- the reply buffer afterwards
-abbrev pub replied : Camera → List ℕ → List ℕ → List ℕ → List ℕ
-replied c = request-leaves.replied (table c)
+abbrev pub requestedReply : Camera → List ℕ → List ℕ → List ℕ → List ℕ
+requestedReply c = replied (table c)

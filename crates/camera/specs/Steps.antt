@@ -1,7 +1,7 @@
 -- What the code's steps go by, which its private functions' promises cite. No statement and no public promise depends on this file.
 use Prim.Native.Nat.{ℕ}
 use mathlib.Core.List.{List}
-use Rattle.request.specs.Setup.{wLengthOf}
+use Rattle.request.specs.Setup.{setupWLength}
 use Rattle.request.specs.Reply.{sentOf}
 use Rattle.request.specs.Tests.{asked}
 use Rattle.profile.specs.Items.{setRefusal}
@@ -10,7 +10,7 @@ use Rattle.camera.specs.declared.record.Camera.{Camera}
 use Rattle.camera.specs.declared.calls.Outcome.{Outcome}
 use Rattle.camera.specs.Record.{puts}
 use Rattle.camera.specs.Requests.{table, outcomeBy}
-use Rattle.camera.specs.Snapshots.{loadRefusal, loadGives}
+use Rattle.camera.specs.Loading.{loadRefusal, loadGives}
 
 -- past test 7: a SET of a selector, and a GET
 unfoldable pub setDone : Camera → ℕ → List ℕ → Outcome
@@ -20,7 +20,7 @@ setDone c selector payload =
 
 unfoldable pub getDone : Camera → List ℕ → ℕ → Outcome
 getDone c s room =
-    let sent = sentOf (asked (table c) s) (wLengthOf s) room in
+    let sent = sentOf (asked (table c) s) (setupWLength s) room in
     record { code = sent .code; count = sent .count; camera = c }
 
 -- past the form: a load of the records

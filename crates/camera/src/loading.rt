@@ -3,7 +3,7 @@ use crate::calls::Outcome;
 use crate::record::Camera;
 use crate::requests::control_refusal;
 use controls::Item;
-use controls::code_of;
+use controls::item_code;
 use profile::Profile;
 use snapshot::EV_KEY;
 use snapshot::HDR_KEY;
@@ -20,7 +20,7 @@ use wire::uvc::MALFORMED_RECORD;
 ghost use mathlib.Core.Path.{_≡_};
 ghost use mathlib.Core.Bool.{true};
 ghost use Rattle.snapshot.specs.Form.{wellFormed};
-ghost use Rattle.camera.specs.Snapshots.{selectorAt, recordItem, loaded};
+ghost use Rattle.camera.specs.Loading.{selectorAt, recordItem, loaded};
 ghost use Rattle.camera.specs.Steps.{loadDone};
 
 fn selector_at(key: usize) -> u8
@@ -63,10 +63,10 @@ impl Camera {
         let mut at = 0;
         let mut key = snapshot::key_at(s, 0);
         while key < KEYS {
-            let size = snapshot::size_of(key);
+            let size = snapshot::record_length(key);
             let r = wire::part_at(s, Part { at, len: size });
             let item = record_item(self.profile, self.streaming, key, r);
-            let code = code_of(item);
+            let code = item_code(item);
             if code != 0 {
                 return self.refuse(code);
             }

@@ -8,15 +8,15 @@ use wire::uvc::SET_CUR;
 use wire::uvc::WRONG_STATE;
 ghost use mathlib.Core.Path.{_≡_};
 ghost use lib.ListN.{length};
-ghost use Rattle.request.specs.Setup.{wLengthOf};
+ghost use Rattle.request.specs.Setup.{setupWLength};
 ghost use Rattle.request.specs.Reply.{replyOf};
 ghost use Rattle.request.specs.Tests.{asked};
-ghost use Rattle.camera.specs.Requests.{stateOf, controlRefusal, table, requested, replied};
+ghost use Rattle.camera.specs.Requests.{stateRefusal, controlRefusal, table, requested, requestedReply};
 ghost use Rattle.camera.specs.Steps.{setDone, getDone};
 
 // Test 7: the throttle is set only while streaming.
 fn state_refusal(streaming: bool, selector: u8, code: u8) -> u8
-    ensures { λ r. ⌜ r ≡ stateOf streaming selector code ⌝ }
+    ensures { λ r. ⌜ r ≡ stateRefusal streaming selector code ⌝ }
 {
     if (selector == THROTTLE) & (code == SET_CUR) & !streaming {
         return WRONG_STATE;
@@ -51,7 +51,7 @@ impl Camera {
     // Test 9 of a GET, then as much of its answer as wLength asks for.
     fn get(self, setup: &[u8], reply: &mut [u8]) -> Outcome
         ensures { λ r. ⌜ r ≡ getDone self (now (setup .entry)) (length (now (reply .entry))) ⌝ }
-        ensures { λ _. ⌜ now (reply .exit) ≡ replyOf (asked (table self) (now (setup .entry))) (wLengthOf (now (setup .entry))) (now (reply .entry)) ⌝ }
+        ensures { λ _. ⌜ now (reply .exit) ≡ replyOf (asked (table self) (now (setup .entry))) (setupWLength (now (setup .entry))) (now (reply .entry)) ⌝ }
     {
         let selector = request::selector(setup);
         let code = request::code(setup);
@@ -69,14 +69,14 @@ impl Camera {
     // A request: eight setup bytes and a payload; a GET's answer goes to the start of `reply`.
     pub fn request(self, setup: &[u8], payload: &[u8], reply: &mut [u8]) -> Outcome
         ensures { λ r. ⌜ r ≡ requested self (now (setup .entry)) (now (payload .entry)) (length (now (reply .entry))) ⌝ }
-        ensures { λ _. ⌜ now (reply .exit) ≡ replied self (now (setup .entry)) (now (payload .entry)) (now (reply .entry)) ⌝ }
+        ensures { λ _. ⌜ now (reply .exit) ≡ requestedReply self (now (setup .entry)) (now (payload .entry)) (now (reply .entry)) ⌝ }
     {
         if !self.settings.well_formed(self.profile) {
             return self.refuse(MALFORMED_RECORD);
         }
         let selector = request::selector(setup);
         let control = self.profile.control(selector, payload);
-        let code = request::refusal(self.profile.table(), control, setup, payload);
+        let code = request::refusal(self.profile.extension_unit(), control, setup, payload);
         if code != 0 {
             return self.refuse(code);
         }

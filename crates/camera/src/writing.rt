@@ -5,7 +5,7 @@ use wire::uvc::MALFORMED_RECORD;
 use wire::uvc::NO_ROOM;
 ghost use mathlib.Core.Path.{_≡_};
 ghost use lib.ListN.{length};
-ghost use Rattle.camera.specs.Snapshots.{written, writtenOut};
+ghost use Rattle.camera.specs.Writing.{written, writtenOut};
 
 impl Camera {
     // Writes the camera's snapshot, 01's settings sheet, to the start of out.

@@ -1,2 +1,2 @@
 -- Settings and what an item of a SET comes to, whichever control they are of.
-pub mod Settings
+pub mod Controls

@@ -3,7 +3,7 @@
 // Each control has a crate of its own: `exposure`, `face` with `entries`, `metadata`, `hdr` and `throttle`. Nothing in them knows of a
 // camera: each function goes by its control's limits, the setting held and the payload.
 ghost use mathlib.Core.Path.{_≡_};
-ghost use Rattle.controls.specs.Settings.{itemOf, codeOf, numberOr};
+ghost use Rattle.controls.specs.Controls.{itemOf, itemCode, numberOr};
 
 // The flag of a step, and a number of such steps.
 pub struct EvSetting {
@@ -33,7 +33,7 @@ pub enum Item {
 }
 
 // The setting held of a control whose payload is one number, or none.
-pub enum Number {
+pub enum HeldNumber {
     Unset,
     Held(u32),
 }
@@ -55,8 +55,8 @@ pub fn item_of(code: u8, s: Setting) -> Item
 }
 
 // The number of an item, 0 where it is taken.
-pub fn code_of(item: Item) -> u8
-    ensures { λ r. ⌜ r ≡ codeOf item ⌝ }
+pub fn item_code(item: Item) -> u8
+    ensures { λ r. ⌜ r ≡ itemCode item ⌝ }
 {
     match item {
         Item::Refused(code) => code,
@@ -65,11 +65,11 @@ pub fn code_of(item: Item) -> u8
 }
 
 // The number held, or n while there is none.
-pub fn number_or(n: u32, held: Number) -> u32
+pub fn number_or(n: u32, held: HeldNumber) -> u32
     ensures { λ r. ⌜ r ≡ numberOr n held ⌝ }
 {
     match held {
-        Number::Unset => n,
-        Number::Held(m) => m,
+        HeldNumber::Unset => n,
+        HeldNumber::Held(m) => m,
     }
 }

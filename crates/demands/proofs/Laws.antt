@@ -6,7 +6,7 @@ pub mod Lists
 pub mod Loads
 pub mod Longest
 pub mod ReadBack
-pub mod Records
+pub mod Cameras
 pub mod Same
 pub mod Sensor
 pub mod Sets

@@ -1,8 +1,8 @@
 -- The owner's demands on the camera, the laws under them, one topic to a file, and the claim of the table.
 pub mod Laws
-pub mod Demand1
-pub mod Demand2
-pub mod Demand3
+pub mod Refusals
+pub mod Answers
+pub mod Lists
 pub mod Loading
-pub mod Programs
+pub mod Program
 pub mod Table

@@ -8,39 +8,40 @@ use lib.Dec.{eqb}
 use lib.ListN.{drop}
 use borrow.Author.Tests.{eq-eqb, eqb-false}
 use Rattle.wire.specs.Rows.{firstOf}
-use Rattle.request.specs.Tests as tests
-use Rattle.snapshot.specs.Form as form
-use Rattle.snapshot.specs.Records.{decode, GoodAt, Record, Entry, recordsOf}
+use Rattle.request.specs.Tests.{setAccepted}
+use Rattle.snapshot.specs.Keys.{keys}
+use Rattle.snapshot.specs.Form.{wellFormed}
+use Rattle.snapshot.specs.Records.{decode, GoodAt, RecordOf, KeyedRecord, recordsOf}
 use Rattle.snapshot.specs.Records as records
 use Rattle.snapshot.proofs.Laws.Maps.{decode-good}
 use Rattle.snapshot.proofs.Laws.Entries.{entryAt, entries, records-entries}
 use Rattle.controls.specs.declared.Setting.{Setting}
-use Rattle.controls.specs.Settings.{firstRefusal}
+use Rattle.controls.specs.Controls.{firstRefusal}
 use Rattle.profile.specs.declared.Profile.{Profile}
 use Rattle.profile.specs.Profile.{profileValid}
-use Rattle.settings.specs.Settings.{kept}
-use Rattle.settings.specs.Items as items
+use Rattle.settings.specs.Kept.{kept}
+use Rattle.settings.specs.Items.{putAll}
 use Rattle.settings.specs.Items.{givenOf, allGiven}
 use Rattle.settings.proofs.Laws.Items.{puts-append}
 use Rattle.camera.specs.declared.record.Camera.{Camera}
-use Rattle.camera.specs.Record.{held, wellFormed, puts, withSettings}
-use Rattle.encoding.specs.Encoding.{row}
-use Rattle.camera.specs.Snapshots.{loadRefusal, loadTests, loadGives, loaded}
+use Rattle.camera.specs.Record.{held, recordWellFormed, puts, withSettings}
+use Rattle.encoding.specs.Encoding.{recordOf}
+use Rattle.camera.specs.Loading.{loadRefusal, loadTests, loadGives, loaded}
 use Rattle.camera.specs.Calls.{request, load, next}
 use Rattle.camera.proofs.Laws.Record.{formed-profile}
 use Rattle.camera.proofs.Laws.Loading.{codeBy, givenBy}
-use Rattle.demands.specs.Lists.{gives, given, run}
-use Rattle.demands.specs.Records.{Ok, Typed}
-use Rattle.demands.specs.Loading.{setOf, setCode, AsSet, setsOf, firstFault, EachAccepted, CountsAsSets, OwnSet, KeepsSetRules}
+use Rattle.demands.specs.Runs.{gives, given, run}
+use Rattle.demands.specs.Cameras.{Ok, Typed}
+use Rattle.demands.specs.Loading.{recordSet, setCode, AsSet, recordSets, firstFault, EachAccepted, CountsAsSets, OwnSet, KeepsSetRules}
 use Rattle.demands.proofs.Laws.Held.{Each}
 use Rattle.demands.proofs.Laws.Kept.{Good, good-kept, kept-formed, held-good}
 use Rattle.demands.proofs.Laws.Fits.{held-fitting}
-use Rattle.demands.proofs.Laws.Records.{row-record, row-taken}
+use Rattle.demands.proofs.Laws.Cameras.{record-of, record-of-taken}
 use Rattle.demands.proofs.Laws.Sets as sets
 use Rattle.demands.proofs.Laws.Steps.{step, load-answer, load-next, request-next, gives-good}
 
 -- every record in form, of any key
-pub record-as-set : (p : Profile) → profileValid p ≡ true → (streaming : Bool) (k : ℕ) (r : List ℕ) → Record k r → AsSet p streaming k r
+pub record-as-set : (p : Profile) → profileValid p ≡ true → (streaming : Bool) (k : ℕ) (r : List ℕ) → RecordOf k r → AsSet p streaming k r
 record-as-set p v streaming k r g = sets.record-as-set k r g p v streaming
 
 -- the records of a snapshot, in order
@@ -56,20 +57,20 @@ module _ (p : Profile) (v : profileValid p ≡ true) (f : Bool) (m : ℕ → Opt
       go none q e = e
       go (some r) q e = ap₂ (λ (x y : ℕ). cond (eqb x 0) y x) (record-as-set p v f k r q .code) e
 
-  given-entries : (n k : ℕ) → given p f (setsOf p (entries n k m)) ≡ allGiven n k (λ j. givenBy p f j (m j))
+  given-entries : (n k : ℕ) → given p f (recordSets p (entries n k m)) ≡ allGiven n k (λ j. givenBy p f j (m j))
   unfolding entries allGiven Option·elim
   given-entries zero k = refl
   given-entries (suc n) k = go (m k) (g k) (given-entries n (suc k))
     where
-      go : (o : Option (List ℕ)) → GoodAt k o → given p f (setsOf p (entries n (suc k) m)) ≡ allGiven n (suc k) (λ j. givenBy p f j (m j))
-          → given p f (setsOf p (entryAt k o ++ entries n (suc k) m)) ≡ givenBy p f k o ++ allGiven n (suc k) (λ j. givenBy p f j (m j))
+      go : (o : Option (List ℕ)) → GoodAt k o → given p f (recordSets p (entries n (suc k) m)) ≡ allGiven n (suc k) (λ j. givenBy p f j (m j))
+          → given p f (recordSets p (entryAt k o ++ entries n (suc k) m)) ≡ givenBy p f k o ++ allGiven n (suc k) (λ j. givenBy p f j (m j))
       go none q e = e
       go (some r) q e = ap₂ _++_ (record-as-set p v f k r q .settings []) e
 
 -- no fault is every SET's acceptance
 module _ (p : Profile) (f : Bool) where
-  fault-none : (l : List Entry) → firstFault p f l ≡ 0 → EachAccepted p f l
-  unfolding tests.setAccepted
+  fault-none : (l : List KeyedRecord) → firstFault p f l ≡ 0 → EachAccepted p f l
+  unfolding setAccepted
   fault-none [] e = tt
   fault-none (x ∷ l) e = go (eqb (setCode p f (x .0) (x .1)) 0) refl e (fault-none l)
     where
@@ -78,26 +79,26 @@ module _ (p : Profile) (f : Bool) where
       go true q z ih = (q, ih z)
       go false q z ih = absurd (eqb-false _ 0 q z)
 
-  none-fault : (l : List Entry) → EachAccepted p f l → firstFault p f l ≡ 0
-  unfolding tests.setAccepted
+  none-fault : (l : List KeyedRecord) → EachAccepted p f l → firstFault p f l ≡ 0
+  unfolding setAccepted
   none-fault [] a = refl
   none-fault (x ∷ l) a = let q : eqb (setCode p f (x .0) (x .1)) 0 ≡ true = a .0 in rw q (none-fault l (a .1))
 
 -- SETs one after the other put in what they give
-run-sets : (p : Profile) (c : Camera) → Ok p c → (l : List Entry) → run c (setsOf p l) ≡ puts c (given p (c .streaming) (setsOf p l))
-unfolding items.puts
+run-sets : (p : Profile) (c : Camera) → Ok p c → (l : List KeyedRecord) → run c (recordSets p l) ≡ puts c (given p (c .streaming) (recordSets p l))
+unfolding putAll
 run-sets p c o [] = refl
 run-sets p c o (e ∷ l) =
-    let call = request (setOf p (e .0) (e .1)) (drop 4 (e .1)) [] in
+    let call = request (recordSet p (e .0) (e .1)) (drop 4 (e .1)) [] in
     let s = step p c o call in
     let d : next c call ≡ puts c (gives p (c .streaming) call) =
-    request-next c (setOf p (e .0) (e .1)) (drop 4 (e .1)) [] (o .formed) ∙ ap (λ q. puts c (gives q (c .streaming) call)) (o .profile) in
+    request-next c (recordSet p (e .0) (e .1)) (drop 4 (e .1)) [] (o .formed) ∙ ap (λ q. puts c (gives q (c .streaming) call)) (o .profile) in
     run-sets p (next c call) (s .ok) l
-    ∙ ap₂ (λ b f. puts b (given p f (setsOf p l))) d (s .streaming-after)
-    ∙ ap (withSettings c) (sym (puts-append (c .settings) (gives p (c .streaming) call) (given p (c .streaming) (setsOf p l))))
+    ∙ ap₂ (λ b f. puts b (given p f (recordSets p l))) d (s .streaming-after)
+    ∙ ap (withSettings c) (sym (puts-append (c .settings) (gives p (c .streaming) call) (given p (c .streaming) (recordSets p l))))
 
 -- a snapshot without a form fault, on a camera that is not refused 0x21
-module _ (c : Camera) (o : Ok (c .profile) c) (s : List ℕ) (w : form.wellFormed s ≡ true) where
+module _ (c : Camera) (o : Ok (c .profile) c) (s : List ℕ) (w : wellFormed s ≡ true) where
   load-fault : loaded c s .code ≡ firstFault (c .profile) (c .streaming) (recordsOf s)
   unfolding loadTests loadRefusal
   load-fault =
@@ -105,15 +106,15 @@ module _ (c : Camera) (o : Ok (c .profile) c) (s : List ℕ) (w : form.wellForme
       let f = c .streaming in
       load-answer c s (o .formed)
       ∙ rw w (sets.row-number (loadRefusal p f s))
-      ∙ sym (ap (firstFault p f) (records-entries s w) ∙ fault-entries p (formed-profile c (o .formed)) f (decode s) (decode-good s) form.keys 0)
+      ∙ sym (ap (firstFault p f) (records-entries s w) ∙ fault-entries p (formed-profile c (o .formed)) f (decode s) (decode-good s) keys 0)
 
-  load-given : loaded c s .code ≡ 0 → gives (c .profile) (c .streaming) (load s) ≡ given (c .profile) (c .streaming) (setsOf (c .profile) (recordsOf s))
+  load-given : loaded c s .code ≡ 0 → gives (c .profile) (c .streaming) (load s) ≡ given (c .profile) (c .streaming) (recordSets (c .profile) (recordsOf s))
   unfolding gives loadGives
   load-given e =
       let p = c .profile in
       let f = c .streaming in
       rw (eq-eqb (firstOf (loadTests p f s)) 0 (sym (load-answer c s (o .formed)) ∙ e))
-      (sym (ap (λ l. given p f (setsOf p l)) (records-entries s w) ∙ given-entries p (formed-profile c (o .formed)) f (decode s) (decode-good s) form.keys 0))
+      (sym (ap (λ l. given p f (recordSets p l)) (records-entries s w) ∙ given-entries p (formed-profile c (o .formed)) f (decode s) (decode-good s) keys 0))
 
   pub load-counts : CountsAsSets c s
   load-counts = record {
@@ -126,17 +127,17 @@ module _ (c : Camera) (o : Ok (c .profile) c) (s : List ℕ) (w : form.wellForme
 
 -- a record of a valid profile, and its settings' own SETs
 module _ (c : Camera) (v : profileValid (c .profile) ≡ true) where
-  own-given : wellFormed c ≡ true → Typed c → (k : ℕ) (s : Setting) → held c k ≡ some s → OwnSet (c .profile) k s
+  own-given : recordWellFormed c ≡ true → Typed c → (k : ℕ) (s : Setting) → held c k ≡ some s → OwnSet (c .profile) k s
   unfolding givenOf
   own-given w t k s e =
       let g = held-good (c .profile) (c .settings) w k s e in
-      record-as-set (c .profile) v true k (row k s) (row-record k s (g .0) (g .1 .proper)) .settings []
-      ∙ ap givenOf (row-taken (c .profile) k s (held-fitting c w t k s e) (g .0) (g .1))
+      record-as-set (c .profile) v true k (recordOf s) (record-of k s (g .0) (g .1 .proper)) .settings []
+      ∙ ap givenOf (record-of-taken (c .profile) k s (held-fitting c w t k s e) (g .0) (g .1))
       ∙ ap (λ (j : ℕ). (j, s) ∷ []) (g .0)
 
   own-kept : (k : ℕ) (s : Setting) → OwnSet (c .profile) k s → kept (c .profile) (some s) ≡ true
   own-kept k s e =
-      let g = gives-good (c .profile) v true (request (setOf (c .profile) k (row k s)) (drop 4 (row k s)) []) in
+      let g = gives-good (c .profile) v true (request (recordSet (c .profile) k (recordOf s)) (drop 4 (recordOf s)) []) in
       good-kept (c .profile) s (subst (Each (Good (c .profile))) e g .1)
 
   pub own-sets : Typed c → KeepsSetRules c

@@ -11,14 +11,14 @@ benchProfile = record {
   unit = 4;
   interface = 0;
   controls = 0x3024;
-  ev = record { low = negsuc 1; high = pos 2; steps = 0x1F };
+  ev = record { minimum = negsuc 1; maximum = pos 2; steps = 0x1F };
   face = record {
     count = 1;
     addresses = 0x81 ∷ 0 ∷ 0 ∷ 0 ∷ 0 ∷ 0 ∷ 0 ∷ 0 ∷ [];
     offers = 0x03 ∷ 0 ∷ 0 ∷ 0 ∷ 0 ∷ 0 ∷ 0 ∷ 0 ∷ [];
   };
   metadata = record { maximum = 0; writable = false };
-  auto = false;
+  hdr = record { auto = false };
   throttle = record { minimum = 5; maximum = 100; step = 5 };
 }
 

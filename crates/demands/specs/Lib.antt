@@ -1,10 +1,10 @@
 -- What the owner's demands say of the camera's calls, and document 01's rows for the bench camera as one table.
+pub mod Runs
+pub mod Cameras
+pub mod Refusals
+pub mod Answers
 pub mod Lists
-pub mod Records
-pub mod Demand1
-pub mod Demand2
-pub mod Demand3
 pub mod Loading
-pub mod Programs
+pub mod Program
 pub mod Bench
 pub mod Table

@@ -7,13 +7,13 @@ use lib.ListN.{length, replicate}
 use lib.IntN.{ℤ, pos, negsuc}
 use Rattle.wire.specs.Selectors as selector
 use Rattle.wire.specs.Uvc.{setCur}
-use Rattle.request.specs.Setup.{isSetRequest, selectorOf, unitOf, interfaceOf, wLengthOf}
+use Rattle.request.specs.Setup.{isSetRequest, setupSelector, setupUnit, setupInterface, setupWLength}
 use Rattle.frame.specs.declared.items.Counted.{Counted}
-use Rattle.frame.specs.Answers.{countOf, payloadOf}
+use Rattle.frame.specs.Items.{blockCount, blockPayload}
 use Rattle.camera.specs.Requests.{requested}
-use Rattle.camera.specs.Snapshots.{snapshot}
+use Rattle.camera.specs.Writing.{snapshot}
 use Rattle.camera.specs.Calls.{Call, request, sensed}
-use Rattle.demands.specs.Lists.{run}
+use Rattle.demands.specs.Runs.{run}
 use Rattle.demands.specs.Bench.{bench}
 
 -- what a row tells
@@ -28,14 +28,14 @@ pub data Answer : Type 0 where
   block : Counted → List ℕ → Answer
 
 infix 10 _is_
-pub data Row : Type 0 where
-  _is_ : (defined written : Answer) → Row
+pub data Line : Type 0 where
+  _is_ : (defined paperAnswer : Answer) → Line
 
-abbrev pub defined : Row → Answer
+abbrev pub defined : Line → Answer
 defined (a is b) = a
 
-abbrev pub written : Row → Answer
-written (a is b) = b
+abbrev pub paperAnswer : Line → Answer
+paperAnswer (a is b) = b
 
 -- a request: its setup packet and its payload
 abbrev pub Request : Type 0
@@ -46,15 +46,15 @@ abbrev pub set : (control : ℕ) → List ℕ → Request
 set control payload = (0x21 ∷ setCur ∷ 0x00 ∷ control ∷ 0x00 ∷ 0x04 ∷ length payload ∷ 0x00 ∷ [], payload)
 
 -- of exposure compensation: the lowest byte of the flags, that of the value, and each of the value's upper three
-abbrev pub ev : (flags value upper : ℕ) → Request
-ev flags value upper = set selector.ev (flags ∷ 0 ∷ 0 ∷ 0 ∷ 0 ∷ 0 ∷ 0 ∷ value ∷ upper ∷ upper ∷ upper ∷ [])
+abbrev pub setEv : (flags value upper : ℕ) → Request
+setEv flags value upper = set selector.ev (flags ∷ 0 ∷ 0 ∷ 0 ∷ 0 ∷ 0 ∷ 0 ∷ value ∷ upper ∷ upper ∷ upper ∷ [])
 
-abbrev pub hdr : (mode : ℕ) → Request
-hdr mode = set selector.hdr (mode ∷ 0 ∷ 0 ∷ 0 ∷ [])
+abbrev pub setHdr : (mode : ℕ) → Request
+setHdr mode = set selector.hdr (mode ∷ 0 ∷ 0 ∷ 0 ∷ [])
 
 -- of the throttle, in mode 1
-abbrev pub throttle : (percent : ℕ) → Request
-throttle percent = set selector.throttle (1 ∷ 0 ∷ 0 ∷ 0 ∷ percent ∷ 0 ∷ 0 ∷ 0 ∷ replicate 12 0)
+abbrev pub setThrottle : (percent : ℕ) → Request
+setThrottle percent = set selector.throttle (1 ∷ 0 ∷ 0 ∷ 0 ∷ percent ∷ 0 ∷ 0 ∷ 0 ∷ replicate 12 0)
 
 -- a request to the bench camera, which has no reply buffer to lend, and what the next record then holds
 abbrev pub after : Request → Answer
@@ -63,33 +63,33 @@ after r =
     answer (done .code) (done .count) (sensed (done .camera) .value) (snapshot (done .camera))
 
 -- it is accepted, and its payload is then the one record of the snapshot
-abbrev pub accepts : Request → (twelfths : ℤ) → Row
-accepts r twelfths = after r is answer 0 0 twelfths ((4 + length (r .1)) ∷ 0 ∷ selectorOf (r .0) ∷ 0 ∷ r .1)
+abbrev pub accepts : Request → (twelfths : ℤ) → Line
+accepts r twelfths = after r is answer 0 0 twelfths ((4 + length (r .1)) ∷ 0 ∷ setupSelector (r .0) ∷ 0 ∷ r .1)
 
 -- it is refused, and nothing is set
-abbrev pub refuses : Request → (number : ℕ) → Row
+abbrev pub refuses : Request → (number : ℕ) → Line
 refuses r number = after r is answer number 0 (pos 0) []
 
 -- a setup packet is a SET of the bench camera's unit
-abbrev pub isSet : List ℕ → (control wLength : ℕ) → Row
-isSet s control wLength =
-    setup (isSetRequest s) (selectorOf s) (unitOf s) (interfaceOf s) (wLengthOf s) is setup true control 4 0 wLength
+abbrev pub selects : List ℕ → (control wLength : ℕ) → Line
+selects s control wLength =
+    setup (isSetRequest s) (setupSelector s) (setupUnit s) (setupInterface s) (setupWLength s) is setup true control 4 0 wLength
 
 -- requests one after the other leave a snapshot
 abbrev pub call : Request → Call
 call r = request (r .0) (r .1) []
 
-abbrev pub leave : List Request → List ℕ → Row
+abbrev pub leave : List Request → List ℕ → Line
 leave rs bytes = saved (snapshot (run bench (map call rs))) is saved bytes
 
 -- a metadata block has so many items, and the first this payload; or it is refused
 abbrev pub read : List ℕ → Answer
-read s = block (countOf s) (payloadOf s 0)
+read s = block (blockCount s) (blockPayload s 0)
 
-abbrev pub holds : List ℕ → (items : ℕ) → (payload : List ℕ) → Row
+abbrev pub holds : List ℕ → (items : ℕ) → (payload : List ℕ) → Line
 holds s items payload = read s is block (record { code = 0; items = items }) payload
 
-abbrev pub isRefused : List ℕ → (number : ℕ) → Row
+abbrev pub isRefused : List ℕ → (number : ℕ) → Line
 isRefused s number = read s is block (record { code = number; items = 0 }) []
 
 -- the first row's request
@@ -100,29 +100,29 @@ firstCase = set selector.ev (0x02 ∷ 0x00 ∷ 0x00 ∷ 0x00 ∷ 0x00 ∷ 0x00 �
 abbrev pub item : (size : ℕ) → List ℕ → List ℕ
 item size payload = 0x06 ∷ 0x00 ∷ 0x00 ∷ 0x00 ∷ size ∷ 0x00 ∷ 0x00 ∷ 0x00 ∷ payload
 
-abbrev pub rows : List Row
+abbrev pub rows : List Line
 rows =
     -- EV, -3 steps of 1/4 stop
     accepts firstCase (negsuc 8)
     -- D1 with 8 and with 9
-    ∷ accepts (ev 0x02 0x08 0x00) (pos 24)
-    ∷ refuses (ev 0x02 0x09 0x00) 0x04
+    ∷ accepts (setEv 0x02 0x08 0x00) (pos 24)
+    ∷ refuses (setEv 0x02 0x09 0x00) 0x04
     -- two flags
-    ∷ refuses (ev 0x11 0x00 0x00) 0x08
+    ∷ refuses (setEv 0x11 0x00 0x00) 0x08
     -- D0 with -12 and with -13
-    ∷ accepts (ev 0x01 0xF4 0xFF) (negsuc 23)
-    ∷ refuses (ev 0x01 0xF3 0xFF) 0x04
+    ∷ accepts (setEv 0x01 0xF4 0xFF) (negsuc 23)
+    ∷ refuses (setEv 0x01 0xF3 0xFF) 0x04
     -- HDR 2 and 3
-    ∷ refuses (hdr 2) 0x08
-    ∷ refuses (hdr 3) 0x04
+    ∷ refuses (setHdr 2) 0x08
+    ∷ refuses (setHdr 3) 0x04
     -- throttle 80, 82 and 105
-    ∷ accepts (throttle 80) (pos 0)
-    ∷ refuses (throttle 82) 0x08
-    ∷ refuses (throttle 105) 0x04
+    ∷ accepts (setThrottle 80) (pos 0)
+    ∷ refuses (setThrottle 82) 0x08
+    ∷ refuses (setThrottle 105) 0x04
     -- the HDR SET
-    ∷ isSet (0x21 ∷ 0x01 ∷ 0x00 ∷ 0x0D ∷ 0x00 ∷ 0x04 ∷ 0x04 ∷ 0x00 ∷ []) selector.hdr 4
+    ∷ selects (0x21 ∷ 0x01 ∷ 0x00 ∷ 0x0D ∷ 0x00 ∷ 0x04 ∷ 0x04 ∷ 0x00 ∷ []) selector.hdr 4
     -- the first case, then HDR 1
-    ∷ leave (firstCase ∷ hdr 1 ∷ [])
+    ∷ leave (firstCase ∷ setHdr 1 ∷ [])
     (0x0F ∷ 0x00 ∷ 0x03 ∷ 0x00 ∷ 0x02 ∷ 0x00 ∷ 0x00 ∷ 0x00 ∷ 0x00 ∷ 0x00 ∷ 0x00 ∷ 0xFD ∷ 0xFF ∷ 0xFF ∷ 0xFF
     ∷ 0x08 ∷ 0x00 ∷ 0x0D ∷ 0x00 ∷ 0x01 ∷ 0x00 ∷ 0x00 ∷ 0x00
     ∷ [])

@@ -1,7 +1,7 @@
 // What the types of a camera record say of one that a program holds: flags are of a byte, there are 15 face places, and a metadata maximum
 // has four bytes; and with that the theorems that ask for it.
 use camera::Camera;
-use exposure::Ev;
+use exposure::HeldEv;
 use wire::endpoints::PLACES;
 ghost use mathlib.Core.Path.{_≡_};
 ghost use mathlib.Core.Option.{some};
@@ -9,16 +9,16 @@ ghost use Prim.Native.Nat.{ℕ, _<_, _^_};
 ghost use lib.ListN.{length, getD};
 ghost use Rattle.wire.specs.Endpoints.{places};
 ghost use Rattle.controls.specs.declared.Setting.{Setting};
-ghost use Rattle.settings.specs.Settings.{evHeld};
-ghost use Rattle.demands.specs.Records.{flagsOf};
-ghost use Rattle.demands.specs.Programs.{OfProgram};
+ghost use Rattle.settings.specs.Held.{evHeld};
+ghost use Rattle.demands.specs.Cameras.{settingFlags};
+ghost use Rattle.demands.specs.Program.{OfProgram};
 
-fn ev_typed(held: Ev)
-    ensures { λ _. ⌜ ((s : Setting) → evHeld held ≡ some s → flagsOf s < 2 ^ 8) ⌝ }
+fn ev_typed(held: HeldEv)
+    ensures { λ _. ⌜ ((s : Setting) → evHeld held ≡ some s → settingFlags s < 2 ^ 8) ⌝ }
 {
     match held {
-        Ev::Unset => {}
-        Ev::Held(s) => {
+        HeldEv::Unset => {}
+        HeldEv::Held(s) => {
             let _flags = s.flags;
         }
     }

@@ -3,12 +3,12 @@
 use Prim.Native.Nat.{ℕ}
 use mathlib.Core.Path.{_≡_, refl}
 use mathlib.Core.List.{List, [], _∷_}
-use Rattle.wire.specs.Number.{number, leAt}
+use Rattle.wire.specs.Numbers.{number, leAt}
 use Rattle.descriptors.specs.declared.header.Interface.the-variants.{Nowhere, First}
 use Rattle.descriptors.specs.Codes.{badField, pastParent}
 use Rattle.registry.specs.Registry.{goodFields}
-use Rattle.descriptors.specs.Header.{allowed, propertyRefusal, subsetRefusal, refusal, descriptorAt}
-use Rattle.descriptors.specs.Reading.{refused, sound, contents, contentsOf, goodHeader, setOf}
+use Rattle.descriptors.specs.Header.{allowed, propertyRefusal, subsetRefusal, descriptorRefusal, descriptorAt}
+use Rattle.descriptors.specs.Set.{refused, sound, contents, contentsOf, goodHeader, readSet}
 
 printed : List ℕ
 printed =
@@ -34,18 +34,18 @@ stray =
     10 ∷ 0 ∷ 0 ∷ 0 ∷ 0 ∷ 0 ∷ 0 ∷ 10 ∷ 31 ∷ 0 ∷ 8 ∷ 0 ∷ 1 ∷ 0 ∷ 0 ∷ 0 ∷ 21 ∷ 0 ∷ 8 ∷ 0 ∷
     2 ∷ 0 ∷ 1 ∷ 0 ∷ 12 ∷ 0 ∷ 5 ∷ 0 ∷ 5 ∷ 0 ∷ 0 ∷ []
 
-printed-is : setOf printed ≡ refused badField 10
-unfolding printed number leAt allowed goodFields propertyRefusal subsetRefusal refusal descriptorAt contents contentsOf goodHeader setOf
+printed-is : readSet printed ≡ refused badField 10
+unfolding printed number leAt allowed goodFields propertyRefusal subsetRefusal descriptorRefusal descriptorAt contents contentsOf goodHeader readSet
 printed-is = refl
 
-mended-is : setOf mended ≡ sound (record { at = 10; interface = Nowhere } ∷ [])
-unfolding mended number leAt allowed goodFields propertyRefusal subsetRefusal refusal descriptorAt contents contentsOf goodHeader setOf
+mended-is : readSet mended ≡ sound (record { at = 10; interface = Nowhere } ∷ [])
+unfolding mended number leAt allowed goodFields propertyRefusal subsetRefusal descriptorRefusal descriptorAt contents contentsOf goodHeader readSet
 mended-is = refl
 
-nested-is : setOf nested ≡ sound (record { at = 10; interface = Nowhere } ∷ record { at = 42; interface = First 5 } ∷ [])
-unfolding nested number leAt allowed goodFields propertyRefusal subsetRefusal refusal descriptorAt contents contentsOf goodHeader setOf
+nested-is : readSet nested ≡ sound (record { at = 10; interface = Nowhere } ∷ record { at = 42; interface = First 5 } ∷ [])
+unfolding nested number leAt allowed goodFields propertyRefusal subsetRefusal descriptorRefusal descriptorAt contents contentsOf goodHeader readSet
 nested-is = refl
 
-stray-is : setOf stray ≡ refused pastParent 26
-unfolding stray number leAt allowed goodFields propertyRefusal subsetRefusal refusal descriptorAt contents contentsOf goodHeader setOf
+stray-is : readSet stray ≡ refused pastParent 26
+unfolding stray number leAt allowed goodFields propertyRefusal subsetRefusal descriptorRefusal descriptorAt contents contentsOf goodHeader readSet
 stray-is = refl

@@ -19,11 +19,11 @@ use Rattle.descriptors.specs.declared.header.Descriptor.the-variants.{Su
 use Rattle.descriptors.specs.declared.properties.RegistryProperty.{RegistryProperty}
 use Rattle.descriptors.specs.Codes.{badSetHeader, noProperty}
 use Rattle.registry.specs.Registry.{propertyTests, goodFields}
-use Rattle.descriptors.specs.Header.{lengthAt, kindAt, nameLengthAt, nameEndAt, dataLengthAt, descriptorAt, interfaceOf, firstInterface}
-use Rattle.descriptors.specs.Reading.{Entry, Finding, refused, sound, contentsOf, goodHeader, setOf, isSound, listed, propertiesOf}
-use Rattle.descriptors.specs.Property.{refusedWith, foundAt, nth, inFinding, propertyOf}
-use Rattle.descriptors.specs.Calls.{Call, check, boot-check, property, codeOf, partsOf}
-use Rattle.descriptors.specs.Theorems.{AllNowhere, FirstFault, RefusedFor, Accepted, StandingProperty, Inside}
+use Rattle.descriptors.specs.Header.{lengthAt, dataTypeAt, nameLengthAt, nameEndAt, dataLengthAt, descriptorAt, interfaceOf, firstInterface}
+use Rattle.descriptors.specs.Set.{PropertyPlace, SetReading, refused, sound, contentsOf, goodHeader, readSet, isSound, listed, propertiesOf}
+use Rattle.descriptors.specs.Properties.{refusedProperty, foundAt, nth, inReading, propertyOf}
+use Rattle.descriptors.specs.Calls.{DescriptorCall, check, boot-check, property, callCode, callParts}
+use Rattle.descriptors.specs.Theorems.{AllNowhere, FirstFault, RefusedFor, SoundSet, StandingProperty, Inside}
 use Rattle.descriptors.specs.Scan.{depth}
 use Rattle.descriptors.specs.Levels.{spansOf, Reached, top, behind, inside, Stands, InFunction, Follows, Ascends}
 use Rattle.descriptors.proofs.Laws.Sound.{holds, sum-holds, known-as}
@@ -43,22 +43,22 @@ use Rattle.descriptors.proofs.Laws.Scan.{depth-low, nth-past}
 abbrev NoParts : RegistryProperty → Type 0
 NoParts f = (f .name ≡ nowhere) × (f .value ≡ nowhere)
 
-nth-parts : (s : List ℕ) (k : ℕ) (ps : List Entry) → (nth s k ps .code ≡ 0 → ⊥) → NoParts (nth s k ps)
-unfolding nth refusedWith foundAt
+nth-parts : (s : List ℕ) (k : ℕ) (ps : List PropertyPlace) → (nth s k ps .code ≡ 0 → ⊥) → NoParts (nth s k ps)
+unfolding nth refusedProperty foundAt
 nth-parts s k [] n = (refl, refl)
 nth-parts s zero (q ∷ qs) n = absurd (n refl)
 nth-parts s (suc k) (q ∷ qs) n = nth-parts s k qs n
 
 property-parts : (s : List ℕ) (k : ℕ) → (propertyOf s k .code ≡ 0 → ⊥) → NoParts (propertyOf s k)
-unfolding propertyOf inFinding refusedWith
-property-parts s k = go (setOf s)
+unfolding propertyOf inReading refusedProperty
+property-parts s k = go (readSet s)
   where
-    go : (f : Finding) → (inFinding s k f .code ≡ 0 → ⊥) → NoParts (inFinding s k f)
+    go : (f : SetReading) → (inReading s k f .code ≡ 0 → ⊥) → NoParts (inReading s k f)
     go (refused code offset) n = (refl, refl)
     go (sound ps) n = nth-parts s k ps n
 
-pub refusals-are-empty : (s : List ℕ) (c : Call) → (codeOf s c ≡ 0 → ⊥) → AllNowhere (partsOf s c)
-unfolding codeOf partsOf
+pub refusals-are-empty : (s : List ℕ) (c : DescriptorCall) → (callCode s c ≡ 0 → ⊥) → AllNowhere (callParts s c)
+unfolding callCode callParts
 refusals-are-empty s check n = tt
 refusals-are-empty s boot-check n = tt
 refusals-are-empty s (property k) n = let e = property-parts s k n in (e .0, (e .1, tt))
@@ -69,8 +69,8 @@ one-place s p q at end stop d e =
     same-place s p q at end at stop Set 10 (length s) (held s _ p at end (d .reached)) (held s _ q at stop (e .reached)) refl
     (d .more) (e .more)
 
-pub fault-place : (s : List ℕ) (code offset : ℕ) → setOf s ≡ refused code offset → RefusedFor s code offset
-unfolding setOf
+pub fault-place : (s : List ℕ) (code offset : ℕ) → readSet s ≡ refused code offset → RefusedFor s code offset
+unfolding readSet
 fault-place s code offset = go (goodHeader s) refl
   where
     go : (g : Bool) → goodHeader s ≡ g → cond g (contentsOf s Set 10 (length s)) (refused badSetHeader 0) ≡ refused code offset
@@ -95,7 +95,7 @@ fault-place s code offset = go (goodHeader s) refl
 -- Demand 2, what a sound set is.
 module _ (s : List ℕ) where
   -- what is reached in a sound set is read without a fault
-  read-on : isSound (setOf s) ≡ true → (d : ℕ) (p : Parent) (at end : ℕ) → Reached s d p at end
+  read-on : isSound (readSet s) ≡ true → (d : ℕ) (p : Parent) (at end : ℕ) → Reached s d p at end
       → (at ≤ end) × (end ≤ length s) × (isSound (contentsOf s p at end) ≡ true)
   read-on e d p at end r =
       let good = sound-header s e in
@@ -103,27 +103,27 @@ module _ (s : List ℕ) where
       let b = bounds s p at end Set 10 (length s) h (header-room s good) in
       (b .1, b .2, held-sound s p at end Set 10 (length s) h (omega arith) (rw (good-set s good) at e))
 
-  pub sound-accepted : isSound (setOf s) ≡ true → Accepted s
+  pub sound-accepted : isSound (readSet s) ≡ true → SoundSet s
   sound-accepted e = record {
     header = sound-header s e;
     descriptors = λ p at end d. let r = read-on e _ p at end (d .reached) in sound-accepts s p at end (d .more) (r .1) (r .2);
   }
 
-  pub accepted-sound : Accepted s → isSound (setOf s) ≡ true
-  accepted-sound a = go (setOf s) refl
+  pub accepted-sound : SoundSet s → isSound (readSet s) ≡ true
+  accepted-sound a = go (readSet s) refl
     where
       fault : {code offset : ℕ} → RefusedFor s code offset → ⊥
       fault (inl h) = false≢true (sym (h .0) ∙ a .header)
       fault (inr h) = let f = h .1 in omega (arith, a .descriptors (f .parent) _ (f .end) (f .stands))
 
-      go : (f : Finding) → setOf s ≡ f → isSound f ≡ true
+      go : (f : SetReading) → readSet s ≡ f → isSound f ≡ true
       go (refused code offset) e = absurd (fault (fault-place s code offset e))
       go (sound ps) e = refl
 
-  pub fault-refused : (code offset : ℕ) → RefusedFor s code offset → setOf s ≡ refused code offset
-  unfolding setOf
+  pub fault-refused : (code offset : ℕ) → RefusedFor s code offset → readSet s ≡ refused code offset
+  unfolding readSet
   fault-refused code offset (inl h) = simp (h .0, h .1, h .2)
-  fault-refused code offset (inr h) = go (setOf s) refl
+  fault-refused code offset (inr h) = go (readSet s) refl
     where
       f : FirstFault s code offset
       f = h .1
@@ -138,42 +138,42 @@ module _ (s : List ℕ) where
           let place = one-place s (g .parent) (f .parent) offset (g .end) (f .end) (rw at at (g .stands)) (f .stands) in
           ap₂ refused (sym (g .refused-there) ∙ rw (place .0, place .1, at) (f .refused-there)) at
 
-      go : (r : Finding) → setOf s ≡ r → r ≡ refused code offset
+      go : (r : SetReading) → readSet s ≡ r → r ≡ refused code offset
       go (refused c o) e = same c o (fault-place s c o e)
       go (sound ps) e = absurd (omega (arith, sound-accepted (rw e) .descriptors (f .parent) offset (f .end) (f .stands)))
 
 -- Demand 2, which answer property k gets: of a faulty set its refusal; of a sound one the property that stands k-th in the set's list, and
 -- past the list none. The list is in byte order, and so has each property once.
 module _ (s : List ℕ) where
-  pub faulty-set : (k code offset : ℕ) → setOf s ≡ refused code offset → propertyOf s k ≡ refusedWith code offset
-  unfolding propertyOf inFinding
+  pub faulty-set : (k code offset : ℕ) → readSet s ≡ refused code offset → propertyOf s k ≡ refusedProperty code offset
+  unfolding propertyOf inReading
   faulty-set k code offset e = rw e
 
-  of-list : (k : ℕ) → isSound (setOf s) ≡ true → propertyOf s k ≡ nth s k (propertiesOf s)
-  unfolding propertyOf inFinding listed
-  of-list k = go (setOf s)
+  of-list : (k : ℕ) → isSound (readSet s) ≡ true → propertyOf s k ≡ nth s k (propertiesOf s)
+  unfolding propertyOf inReading listed
+  of-list k = go (readSet s)
     where
-      go : (f : Finding) → isSound f ≡ true → inFinding s k f ≡ nth s k (listed f)
+      go : (f : SetReading) → isSound f ≡ true → inReading s k f ≡ nth s k (listed f)
       go (refused code offset) e = absurd (false≢true e)
       go (sound ps) e = refl
 
-  reach : (ps : List Entry) (q : Entry) (qs : List Entry) → nth s (length ps) (ps ++ q ∷ qs) ≡ foundAt s q
+  reach : (ps : List PropertyPlace) (q : PropertyPlace) (qs : List PropertyPlace) → nth s (length ps) (ps ++ q ∷ qs) ≡ foundAt s q
   unfolding nth
   reach [] q qs = refl
   reach (p ∷ ps) q qs = reach ps q qs
 
-  pub each-property : isSound (setOf s) ≡ true → (ps : List Entry) (q : Entry) (qs : List Entry) → propertiesOf s ≡ ps ++ q ∷ qs
+  pub each-property : isSound (readSet s) ≡ true → (ps : List PropertyPlace) (q : PropertyPlace) (qs : List PropertyPlace) → propertiesOf s ≡ ps ++ q ∷ qs
       → propertyOf s (length ps) ≡ foundAt s q
   each-property e ps q qs f = of-list (length ps) e ∙ ap (nth s (length ps)) f ∙ reach ps q qs
 
-  pub no-other : isSound (setOf s) ≡ true → (k : ℕ) → length (propertiesOf s) ≤ k → propertyOf s k ≡ refusedWith noProperty 0
+  pub no-other : isSound (readSet s) ≡ true → (k : ℕ) → length (propertiesOf s) ≤ k → propertyOf s k ≡ refusedProperty noProperty 0
   no-other e k h = of-list k e ∙ nth-past s k (propertiesOf s) h
 
   pub byte-order : Ascends 10 (length s) (propertiesOf s)
   unfolding listed
-  byte-order = go (setOf s) refl
+  byte-order = go (readSet s) refl
     where
-      go : (f : Finding) → setOf s ≡ f → Ascends 10 (length s) (listed f)
+      go : (f : SetReading) → readSet s ≡ f → Ascends 10 (length s) (listed f)
       go (refused code offset) e = tt
       go (sound ps) e =
           let good = sound-header s (rw e) in
@@ -204,7 +204,7 @@ module _ (s : List ℕ) (p : Parent) (at end : ℕ) (d : Stands s p at end) wher
       go Configuration e = refl
       go (Function i) e = absurd (let n = f i .1 (first-interface i .0 (of-function p i e)) in let z : _≡_ {A = ℕ} 0 1 = cc in omega arith)
 
-pub listed-properties : (s : List ℕ) → isSound (setOf s) ≡ true → (q : Entry) → List·Memᴰ q (propertiesOf s) ↔ StandingProperty s q
+pub listed-properties : (s : List ℕ) → isSound (readSet s) ≡ true → (q : PropertyPlace) → List·Memᴰ q (propertiesOf s) ↔ StandingProperty s q
 listed-properties s e q = (one-way, other-way)
   where
     good : goodHeader s ≡ true
@@ -247,11 +247,11 @@ four : (kind n : ℕ) → (not (eqb kind 4 || eqb kind 5) || eqb n 4) ≡ true �
 four kind n t (inl e) = eqb-true n 4 (simp (eq-eqb _ _ e) at t)
 four kind n t (inr e) = eqb-true n 4 (simp (eq-eqb _ _ e, or-true) at t)
 
-inside-of : (s : List ℕ) (q : Entry) → Lies s q → Inside s (foundAt s q)
+inside-of : (s : List ℕ) (q : PropertyPlace) → Lies s q → Inside s (foundAt s q)
 unfolding foundAt goodFields
 inside-of s q l =
     let n = nameLengthAt s (q .at) in
-    let tests = propertyTests (lengthAt s (q .at)) (kindAt s (q .at)) n (nameEndAt s (q .at)) (dataLengthAt s (q .at)) in
+    let tests = propertyTests (lengthAt s (q .at)) (dataTypeAt s (q .at)) n (nameEndAt s (q .at)) (dataLengthAt s (q .at)) in
     let sum = sum-holds s (q .at) (l .fields) in
     let long : 2 ≤ n = leb-true 2 n (holds 2 tests (l .fields)) in
     let last : q .at + 8 + n - 2 ≡ q .at + 6 + n = omega arith in
@@ -266,23 +266,23 @@ inside-of s q l =
       kind = (leb-true 1 _ (holds 0 tests (l .fields)), leb-true _ 7 (holds 1 tests (l .fields)));
       name-even = (long, eqb-true (n % 2) 0 (holds 3 tests (l .fields)));
       name-end = rw last (eqb-true (nameEndAt s (q .at)) 0 (holds 4 tests (l .fields)));
-      four-bytes = four (kindAt s (q .at)) (dataLengthAt s (q .at)) (holds 6 tests (l .fields));
+      four-bytes = four (dataTypeAt s (q .at)) (dataLengthAt s (q .at)) (holds 6 tests (l .fields));
     }
 
-set-lies : (s : List ℕ) (ps : List Entry) → setOf s ≡ sound ps → AllLie s ps
+set-lies : (s : List ℕ) (ps : List PropertyPlace) → readSet s ≡ sound ps → AllLie s ps
 set-lies s ps e = rw (sym (good-set s (sound-header s (rw e))) ∙ e) at (contents-proper s Set 10 (length s) (omega arith))
 
-nth-lies : (s : List ℕ) (k : ℕ) (ps : List Entry) → AllLie s ps → nth s k ps .code ≡ 0 → Inside s (nth s k ps)
-unfolding nth refusedWith
+nth-lies : (s : List ℕ) (k : ℕ) (ps : List PropertyPlace) → AllLie s ps → nth s k ps .code ≡ 0 → Inside s (nth s k ps)
+unfolding nth refusedProperty
 nth-lies s k [] l e = absurd (omega arith)
 nth-lies s zero (q ∷ qs) l e = inside-of s q (l .0)
 nth-lies s (suc k) (q ∷ qs) l e = nth-lies s k qs (l .1) e
 
 pub properties-inside : (s : List ℕ) (k : ℕ) → propertyOf s k .code ≡ 0 → Inside s (propertyOf s k)
-unfolding propertyOf inFinding refusedWith
-properties-inside s k = go (setOf s) refl (set-coded s)
+unfolding propertyOf inReading refusedProperty
+properties-inside s k = go (readSet s) refl (set-coded s)
   where
-    go : (f : Finding) → setOf s ≡ f → Coded f → inFinding s k f .code ≡ 0 → Inside s (inFinding s k f)
+    go : (f : SetReading) → readSet s ≡ f → Coded f → inReading s k f .code ≡ 0 → Inside s (inReading s k f)
     go (refused code offset) g w e = absurd (omega arith)
     go (sound ps) g w e = nth-lies s k ps (set-lies s ps g) e
 
@@ -307,7 +307,7 @@ shallow s d p at end r = omega (arith, level s d p at end r, depth-low p)
 
 -- Demand 2, nothing of a sound set is left out or read twice: from every offset that is reached, and so at every level from its first
 -- descriptor on, each descriptor starts where the one before it ended, and the last ends where the parent does.
-pub covers : (s : List ℕ) → isSound (setOf s) ≡ true → (d : ℕ) (p : Parent) (at end : ℕ) → Reached s d p at end
+pub covers : (s : List ℕ) → isSound (readSet s) ≡ true → (d : ℕ) (p : Parent) (at end : ℕ) → Reached s d p at end
     → Follows at end (spansOf s p at end)
 covers s e d p at end r =
     let i = read-on s e d p at end r in

@@ -2,23 +2,23 @@
 use Prim.Native.Nat.{ℕ}
 use mathlib.Core.List.{List, [], _∷_}
 use Rattle.wire.specs.declared.parts.Part.{Part}
-use Rattle.descriptors.specs.Reading.{setOf, faultOf}
-use Rattle.descriptors.specs.Property.{propertyOf}
+use Rattle.descriptors.specs.Set.{readSet, faultOf}
+use Rattle.descriptors.specs.Properties.{propertyOf}
 
 -- `check`, `flandurvi_descriptors_check`, and `property` with its k
-pub data Call : Type 0 where
-  check : Call
-  boot-check : Call
-  property : ℕ → Call
+pub data DescriptorCall : Type 0 where
+  check : DescriptorCall
+  boot-check : DescriptorCall
+  property : ℕ → DescriptorCall
 
 -- the number: 0, or the refusal
-unfoldable pub codeOf : List ℕ → Call → ℕ
-codeOf s check = faultOf (setOf s) .code
-codeOf s boot-check = faultOf (setOf s) .code
-codeOf s (property k) = propertyOf s k .code
+unfoldable pub callCode : List ℕ → DescriptorCall → ℕ
+callCode s check = faultOf (readSet s) .code
+callCode s boot-check = faultOf (readSet s) .code
+callCode s (property k) = propertyOf s k .code
 
 -- the places of the parts that are handed back
-unfoldable pub partsOf : List ℕ → Call → List Part
-partsOf s check = []
-partsOf s boot-check = []
-partsOf s (property k) = propertyOf s k .name ∷ propertyOf s k .value ∷ []
+unfoldable pub callParts : List ℕ → DescriptorCall → List Part
+callParts s check = []
+callParts s boot-check = []
+callParts s (property k) = propertyOf s k .name ∷ propertyOf s k .value ∷ []

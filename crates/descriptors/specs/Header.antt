@@ -6,7 +6,7 @@ use mathlib.Core.Option.{Option, none, some}
 use mathlib.Core.Bool.{Bool, not, _&&_, _||_, cond}
 use lib.ListN.{getD}
 use lib.Dec.{ltb, leb, eqb}
-use Rattle.wire.specs.Number.{leAt}
+use Rattle.wire.specs.Numbers.{leAt}
 use Rattle.wire.specs.Rows.{_⇒_, firstOf}
 use Rattle.registry.specs.Registry.{goodFields}
 use Rattle.descriptors.specs.declared.header.Interface.{Interface}
@@ -36,8 +36,8 @@ abbrev pub interfaceByte : List ℕ → ℕ → ℕ
 interfaceByte s at = getD s (at + 4) 0
 
 -- of a property: wPropertyDataType, wPropertyNameLength, the last two bytes of the name, and wPropertyDataLength behind it
-abbrev pub kindAt : List ℕ → ℕ → ℕ
-kindAt s at = leAt 2 s (at + 4)
+abbrev pub dataTypeAt : List ℕ → ℕ → ℕ
+dataTypeAt s at = leAt 2 s (at + 4)
 
 abbrev pub nameLengthAt : List ℕ → ℕ → ℕ
 nameLengthAt s at = leAt 2 s (at + 6)
@@ -65,7 +65,7 @@ allowed Configuration t = eqb t function || isFeature t
 allowed (Function i) t = isFeature t
 
 abbrev pub goodProperty : List ℕ → ℕ → Bool
-goodProperty s at = goodFields (lengthAt s at) (kindAt s at) (nameLengthAt s at) (nameEndAt s at) (dataLengthAt s at)
+goodProperty s at = goodFields (lengthAt s at) (dataTypeAt s at) (nameLengthAt s at) (nameEndAt s at) (dataLengthAt s at)
 
 unfoldable pub propertyRefusal : List ℕ → ℕ → ℕ
 propertyRefusal s at =
@@ -85,8 +85,8 @@ subsetRefusal left len total reserved =
     ∷ [])
 
 -- of the descriptor at `at` in the parent p, which ends at `end`; 0 where the descriptor is sound by itself
-unfoldable pub refusal : List ℕ → Parent → ℕ → ℕ → ℕ
-refusal s p at end =
+unfoldable pub descriptorRefusal : List ℕ → Parent → ℕ → ℕ → ℕ
+descriptorRefusal s p at end =
     firstOf
     ((ltb (end - at) 4 ⇒ pastParent)
     ∷ (ltb (end - at) (lengthAt s at) ⇒ pastParent)
@@ -109,7 +109,7 @@ unless code d = cond (eqb code 0) d (Refused code)
 -- the descriptor at `at` by itself: its refusal, or its bytes in all, and of a subset what it is to those inside it
 unfoldable pub descriptorAt : List ℕ → Parent → ℕ → ℕ → Descriptor
 descriptorAt s p at end =
-    unless (refusal s p at end)
+    unless (descriptorRefusal s p at end)
     (cond (isSubset (typeAt s at)) (Subset (totalAt s at) (inner s p at))
     (cond (isProperty (typeAt s at)) (Property (lengthAt s at)) (Opaque (lengthAt s at))))
 

@@ -8,8 +8,8 @@ use lib.Dec.{ltb, eqb}
 use Rattle.descriptors.specs.declared.header.Parent.{Parent}
 use Rattle.descriptors.specs.declared.header.Parent.the-variants.{Set, Configuration}
 use Rattle.descriptors.specs.declared.header.Descriptor.the-variants.{Subset}
-use Rattle.descriptors.specs.Header.{typeAt, totalAt, interfaceByte, refusal, descriptorAt}
-use Rattle.descriptors.specs.Reading.{Entry, sizeOf}
+use Rattle.descriptors.specs.Header.{typeAt, totalAt, interfaceByte, descriptorRefusal, descriptorAt}
+use Rattle.descriptors.specs.Set.{PropertyPlace, descriptorSize}
 
 -- a descriptor's offset, and its bytes in all
 pub record Span : Type 0 where
@@ -24,8 +24,8 @@ unfoldable pub spans : ℕ → List ℕ → Parent → ℕ → ℕ → List Span
 spans zero s p at end = []
 spans (suc n) s p at end =
     let d = descriptorAt s p at end in
-    let all = span at (sizeOf d) ∷ spans n s p (at + sizeOf d) end in
-    cond (ltb at end && eqb (refusal s p at end) 0) all []
+    let all = span at (descriptorSize d) ∷ spans n s p (at + descriptorSize d) end in
+    cond (ltb at end && eqb (descriptorRefusal s p at end) 0) all []
 
 unfoldable pub spansOf : List ℕ → Parent → ℕ → ℕ → List Span
 spansOf s p at end = spans (length s) s p at end
@@ -37,8 +37,8 @@ pub data Reached (s : List ℕ) : ℕ → Parent → ℕ → ℕ → Type 0 wher
   behind : {depth : ℕ} {p : Parent} {at end : ℕ}
       → Reached s depth p at end
       → at < end
-      → refusal s p at end ≡ 0
-      → Reached s depth p (at + sizeOf (descriptorAt s p at end)) end
+      → descriptorRefusal s p at end ≡ 0
+      → Reached s depth p (at + descriptorSize (descriptorAt s p at end)) end
   inside : {depth : ℕ} {p : Parent} {at end : ℕ} (size : ℕ) (q : Parent)
       → Reached s depth p at end
       → at < end
@@ -57,7 +57,7 @@ pub record InFunction (s : List ℕ) (at i : ℕ) : Type 0 where
   pub end : ℕ
   pub stands : Stands s Configuration function end
   pub kind : typeAt s function ≡ 2
-  pub accepted : refusal s Configuration function end ≡ 0
+  pub accepted : descriptorRefusal s Configuration function end ≡ 0
   pub holds : (function + 8 ≤ at) × (at < function + totalAt s function)
   pub first : interfaceByte s function ≡ i
 
@@ -68,6 +68,6 @@ Follows from end [] = from ≡ end
 Follows from end (d ∷ ds) = (d .at ≡ from) × (0 < d .size) × Follows (from + d .size) end ds
 
 -- properties in byte order, each behind the one before it, between `from` and `end`
-abbrev pub Ascends : ℕ → ℕ → List Entry → Type 0
+abbrev pub Ascends : ℕ → ℕ → List PropertyPlace → Type 0
 Ascends from end [] = Unit {0}
 Ascends from end (q ∷ qs) = (from ≤ q .at) × (q .at < end) × Ascends (suc (q .at)) end qs

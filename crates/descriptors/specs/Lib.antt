@@ -2,11 +2,11 @@
 -- steps of the code.
 pub mod Codes
 pub mod Header
-pub mod Reading
-pub mod Property
+pub mod Set
+pub mod Properties
 pub mod Calls
 pub mod Levels
 pub mod Theorems
 pub mod Look
-pub mod Stops
+pub mod Walk
 pub mod Scan

@@ -12,9 +12,9 @@ use Rattle.descriptors.specs.declared.header.Parent.the-variants.{Set, C
 use Rattle.descriptors.specs.declared.scan.Cursor.{Cursor}
 use Rattle.descriptors.specs.Codes.{badField}
 use Rattle.descriptors.specs.Header.{nameLengthAt, interfaceOf}
-use Rattle.descriptors.specs.Reading.{Entry, Finding, refused, sound, _then_, contentsOf, setOf}
-use Rattle.descriptors.specs.Property.{foundAt, nth}
-use Rattle.descriptors.specs.Stops.{refusalNumber}
+use Rattle.descriptors.specs.Set.{PropertyPlace, SetReading, refused, sound, _then_, contentsOf, readSet}
+use Rattle.descriptors.specs.Properties.{foundAt, nth}
+use Rattle.descriptors.specs.Walk.{refusalNumber}
 
 -- what a parent stands in, and in how many subsets
 abbrev pub around : Parent → Parent
@@ -27,8 +27,8 @@ depth Set = 0
 depth Configuration = 1
 depth (Function i) = 2
 
-abbrev pub entryOf : ℕ → Parent → Entry
-entryOf at p = record { at = at; interface = interfaceOf p }
+abbrev pub propertyPlace : ℕ → Parent → PropertyPlace
+propertyPlace at p = record { at = at; interface = interfaceOf p }
 
 -- the cursor's steps: to another offset in the same parent, out of the parent, into a subset of so many bytes, behind a property of so many
 abbrev pub movedTo : Cursor → ℕ → Cursor
@@ -64,8 +64,8 @@ intoSubset c size q = record {
   holder = c .holder;
 }
 
-abbrev pub counted : Cursor → ℕ → ℕ → Parent → Cursor
-counted c size hit holder = record {
+abbrev pub passedProperty : Cursor → ℕ → ℕ → Parent → Cursor
+passedProperty c size hit holder = record {
   parent = c .parent;
   at = c .at + size;
   end = c .end;
@@ -76,10 +76,10 @@ counted c size hit holder = record {
 }
 
 abbrev pub passing : Cursor → ℕ → ℕ → Cursor
-passing c k size = cond (eqb (c .seen) k) (counted c size (c .at) (c .parent)) (counted c size (c .hit) (c .holder))
+passing c k size = cond (eqb (c .seen) k) (passedProperty c size (c .at) (c .parent)) (passedProperty c size (c .hit) (c .holder))
 
 -- what is read behind the end of the parent p, which stands in one that ends at `outer`
-abbrev pub outside : List ℕ → Parent → ℕ → ℕ → Finding
+abbrev pub outside : List ℕ → Parent → ℕ → ℕ → SetReading
 outside s Set end outer = sound []
 outside s Configuration end outer = contentsOf s Set end (length s)
 outside s (Function i) end outer = contentsOf s Configuration end outer then contentsOf s Set outer (length s)
@@ -90,14 +90,14 @@ Within s Configuration end outer = (end ≤ outer) × (outer ≡ length s)
 Within s (Function i) end outer = (end ≤ outer) × (outer ≤ length s)
 
 -- property k, once it is among the properties ps that were passed
-pub record Kept (s : List ℕ) (k hit : ℕ) (holder : Parent) (ps : List Entry) : Type 0 where
-  pub found : foundAt s (entryOf hit holder) ≡ nth s k ps
+pub record Kept (s : List ℕ) (k hit : ℕ) (holder : Parent) (ps : List PropertyPlace) : Type 0 where
+  pub found : foundAt s (propertyPlace hit holder) ≡ nth s k ps
   pub room : hit + 10 + nameLengthAt s hit ≤ length s
 
 -- no fault yet: the set is what was passed, and then what is read from the cursor on
 pub record Going (s : List ℕ) (k : ℕ) (c : Cursor) : Type 0 where
-  pub passed : List Entry
-  pub same : setOf s ≡ (sound passed then (contentsOf s (c .parent) (c .at) (c .end) then outside s (c .parent) (c .end) (c .outer)))
+  pub passed : List PropertyPlace
+  pub same : readSet s ≡ (sound passed then (contentsOf s (c .parent) (c .at) (c .end) then outside s (c .parent) (c .end) (c .outer)))
   pub count : c .seen ≡ length passed
   pub few : c .seen ≤ c .at
   pub kept : k < length passed → Kept s k (c .hit) (c .holder) passed
@@ -108,7 +108,7 @@ pub record Going (s : List ℕ) (k : ℕ) (c : Cursor) : Type 0 where
 pub record Stopped (s : List ℕ) (c : Cursor) : Type 0 where
   pub code : ℕ
   pub offset : ℕ
-  pub same : setOf s ≡ refused code offset
+  pub same : readSet s ≡ refused code offset
   pub number : c .at ≡ refusalNumber code offset
   pub known : (0 < code) × (code ≤ badField)
   pub inside : offset < length s

@@ -7,13 +7,13 @@ use mathlib.Core.Logic.{_⊎_, _↔_}
 use mathlib.Core.Option.{some}
 use lib.ListN.{length}
 use Rattle.wire.specs.declared.parts.Part.{Part}
-use Rattle.wire.specs.Number.{leAt}
+use Rattle.wire.specs.Numbers.{leAt}
 use Rattle.wire.specs.Parts.{bytesAt, nowhere}
 use Rattle.descriptors.specs.declared.header.Parent.{Parent}
 use Rattle.descriptors.specs.declared.properties.RegistryProperty.{RegistryProperty}
 use Rattle.descriptors.specs.Codes.{badSetHeader, badField}
-use Rattle.descriptors.specs.Header.{lengthAt, typeAt, refusal, firstInterface}
-use Rattle.descriptors.specs.Reading.{Entry, goodHeader}
+use Rattle.descriptors.specs.Header.{lengthAt, typeAt, descriptorRefusal, firstInterface}
+use Rattle.descriptors.specs.Set.{PropertyPlace, goodHeader}
 use Rattle.descriptors.specs.Levels.{Stands, InFunction}
 
 -- Demand 1, nothing leaks from a refusal: every part of the set that is handed back is empty.
@@ -26,10 +26,10 @@ pub record FirstFault (s : List ℕ) (code offset : ℕ) : Type 0 where
   pub parent : Parent
   pub end : ℕ
   pub stands : Stands s parent offset end
-  pub refused-there : refusal s parent offset end ≡ code
+  pub refused-there : descriptorRefusal s parent offset end ≡ code
   pub faulty : (0 < code) × (code ≤ badField)
   pub within : offset < length s
-  pub none-before : (p : Parent) (at stop : ℕ) → Stands s p at stop → at < offset → refusal s p at stop ≡ 0
+  pub none-before : (p : Parent) (at stop : ℕ) → Stands s p at stop → at < offset → descriptorRefusal s p at stop ≡ 0
 
 -- Demand 1, what a set is refused for: its own header, at 0, or else its first fault.
 abbrev pub RefusedFor : List ℕ → ℕ → ℕ → Type 0
@@ -37,13 +37,13 @@ RefusedFor s code offset =
     ((goodHeader s ≡ false) × (code ≡ badSetHeader) × (offset ≡ 0)) ⊎ ((goodHeader s ≡ true) × FirstFault s code offset)
 
 -- Demand 2, what a sound set is: its header is good, and no test refuses a descriptor that stands in it.
-pub record Accepted (s : List ℕ) : Type 0 where
+pub record SoundSet (s : List ℕ) : Type 0 where
   pub header : goodHeader s ≡ true
-  pub descriptors : (p : Parent) (at end : ℕ) → Stands s p at end → refusal s p at end ≡ 0
+  pub descriptors : (p : Parent) (at end : ℕ) → Stands s p at end → descriptorRefusal s p at end ≡ 0
 
 -- Demand 2, what the list of a sound set holds: a property that stands in it, at whatever level. Its first interface is that of the
 -- function that it lies inside, and it has none outside a function.
-pub record StandingProperty (s : List ℕ) (q : Entry) : Type 0 where
+pub record StandingProperty (s : List ℕ) (q : PropertyPlace) : Type 0 where
   pub parent : Parent
   pub end : ℕ
   pub stands : Stands s parent (q .at) end

@@ -37,7 +37,7 @@ pub enum Descriptor {
 }
 
 // Whether a descriptor of this type may stand in the parent.
-fn may_stand(p: Parent, t: usize) -> bool
+fn allowed(p: Parent, t: usize) -> bool
     ensures { λ r. ⌜ r ≡ allowed p t ⌝ }
 {
     if FIRST_FEATURE <= t {
@@ -51,7 +51,7 @@ fn may_stand(p: Parent, t: usize) -> bool
 }
 
 // What the subset at `at` is to the descriptors inside it.
-fn inside(s: &[u8], p: Parent, at: usize) -> Parent
+fn inner(s: &[u8], p: Parent, at: usize) -> Parent
     requires { ⌜ at + 4 < length (now s) ⌝ }
     ensures { λ r. ⌜ r ≡ inner (now (s .entry)) p at ⌝ }
 {
@@ -80,7 +80,7 @@ fn subset_at(s: &[u8], p: Parent, at: usize, left: usize, len: usize) -> Descrip
     if s[at + 5] != 0 {
         return Descriptor::Refused(BAD_FIELD);
     }
-    Descriptor::Subset(total, inside(s, p, at))
+    Descriptor::Subset(total, inner(s, p, at))
 }
 
 // The descriptor at `at` by itself, in the parent p that ends at `end`; of a property the fields are still to be looked at.
@@ -100,7 +100,7 @@ pub(crate) fn look(s: &[u8], p: Parent, at: usize, end: usize) -> Descriptor
         return Descriptor::Refused(BAD_LENGTH);
     }
     let t = word(s, at + 2);
-    if !may_stand(p, t) {
+    if !allowed(p, t) {
         return Descriptor::Refused(BAD_TYPE);
     }
     if t == PROPERTY {

@@ -12,8 +12,8 @@ ghost use mathlib.Core.Path.{_≡_};
 ghost use Prim.Native.Nat.{_+_, _≤_};
 ghost use lib.ListN.{length};
 ghost use Rattle.descriptors.specs.Header.{nameLengthAt};
-ghost use Rattle.descriptors.specs.Property.{refusedWith, foundAt, propertyOf};
-ghost use Rattle.descriptors.specs.Scan.{entryOf};
+ghost use Rattle.descriptors.specs.Properties.{refusedProperty, foundAt, propertyOf};
+ghost use Rattle.descriptors.specs.Scan.{propertyPlace};
 
 // A property, with code 0: its descriptor's offset, its data type, its name with the zero pair, its data and its first interface.
 // Or a refusal, with the faulty descriptor's offset (0 where the set has fewer properties), data type 0, empty parts and no interface.
@@ -26,8 +26,8 @@ pub struct RegistryProperty {
     pub interface: Interface,
 }
 
-fn refused_with(code: u8, offset: usize) -> RegistryProperty
-    ensures { λ r. ⌜ r ≡ refusedWith code offset ⌝ }
+fn refused_property(code: u8, offset: usize) -> RegistryProperty
+    ensures { λ r. ⌜ r ≡ refusedProperty code offset ⌝ }
 {
     RegistryProperty {
         code,
@@ -42,7 +42,7 @@ fn refused_with(code: u8, offset: usize) -> RegistryProperty
 // The property whose descriptor is at `at`, in the parent p.
 fn found_at(set: &[u8], at: usize, p: Parent) -> RegistryProperty
     requires { ⌜ at + 10 + nameLengthAt (now set) at ≤ length (now set) ⌝ }
-    ensures { λ r. ⌜ r ≡ foundAt (now (set .entry)) (entryOf at p) ⌝ }
+    ensures { λ r. ⌜ r ≡ foundAt (now (set .entry)) (propertyPlace at p) ⌝ }
 {
     let kind = word(set, at + 4);
     let name_len = word(set, at + 6);
@@ -71,7 +71,7 @@ pub fn property(set: &[u8], k: usize) -> RegistryProperty
     ensures { λ r. ⌜ r ≡ propertyOf (now (set .entry)) k ⌝ }
 {
     if !good_header(set) {
-        return refused_with(BAD_SET_HEADER, 0);
+        return refused_property(BAD_SET_HEADER, 0);
     }
     let mut c = Cursor::start(set.len());
     while c.at < set.len() {
@@ -79,10 +79,10 @@ pub fn property(set: &[u8], k: usize) -> RegistryProperty
     }
     let stop = c.at;
     if 65536 <= stop {
-        return refused_with((stop / 65536) as u8, stop % 65536);
+        return refused_property((stop / 65536) as u8, stop % 65536);
     }
     if c.seen <= k {
-        return refused_with(NO_PROPERTY, 0);
+        return refused_property(NO_PROPERTY, 0);
     }
     let holder = c.holder;
     found_at(set, c.hit, holder)

@@ -5,12 +5,12 @@ use crate::header::Descriptor;
 use crate::header::Interface;
 use crate::header::Parent;
 use crate::header::look;
-use crate::walk::refused;
+use crate::walk::refusal_number;
 ghost use mathlib.Core.Path.{_≡_};
 ghost use Prim.Native.Nat.{_+_, _<_};
 ghost use lib.ListN.{length};
 ghost use Rattle.descriptors.specs.Header.{interfaceOf};
-ghost use Rattle.descriptors.specs.Stops.{refusalNumber};
+ghost use Rattle.descriptors.specs.Walk.{refusalNumber};
 ghost use Rattle.descriptors.specs.Scan.{around, movedTo, outOf, intoSubset, passing, Scanning, Stepped};
 ghost use Rattle.descriptors.specs.declared.header.Parent.the-variants.{Set};
 
@@ -28,7 +28,7 @@ pub struct Cursor {
 }
 
 // What a parent stands in.
-fn stands_in(p: Parent) -> Parent
+fn around(p: Parent) -> Parent
     ensures { λ r. ⌜ r ≡ around p ⌝ }
 {
     match p {
@@ -72,7 +72,7 @@ impl Cursor {
         let parent = self.parent;
         let holder = self.holder;
         Cursor {
-            parent: stands_in(parent),
+            parent: around(parent),
             at: self.at,
             end: self.outer,
             outer: total,
@@ -90,7 +90,7 @@ impl Cursor {
         let holder = self.holder;
         Cursor {
             parent,
-            at: refused(code, self.at),
+            at: refusal_number(code, self.at),
             end: self.end,
             outer: self.outer,
             seen: self.seen,

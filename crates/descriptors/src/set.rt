@@ -8,7 +8,7 @@ ghost use mathlib.Core.Path.{_≡_};
 ghost use mathlib.Core.Bool.{true};
 ghost use Prim.Native.Nat.{_<_};
 ghost use lib.ListN.{length};
-ghost use Rattle.descriptors.specs.Reading.{goodHeader, setOf, faultOf};
+ghost use Rattle.descriptors.specs.Set.{goodHeader, readSet, faultOf};
 
 // A refusal with the faulty descriptor's offset; both 0 where the set is sound.
 pub struct Fault {
@@ -28,7 +28,7 @@ pub(crate) fn good_header(set: &[u8]) -> bool
 
 // The first refusal of the set, lowest offset first.
 pub fn check(set: &[u8]) -> Fault
-    ensures { λ r. ⌜ r ≡ faultOf (setOf (now (set .entry))) ⌝ }
+    ensures { λ r. ⌜ r ≡ faultOf (readSet (now (set .entry))) ⌝ }
 {
     if !good_header(set) {
         return Fault {

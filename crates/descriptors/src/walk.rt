@@ -10,10 +10,10 @@ ghost use mathlib.Core.Path.{_≡_};
 ghost use Prim.Native.Nat.{_+_, _≤_, _<_};
 ghost use lib.ListN.{length};
 ghost use Rattle.descriptors.specs.Header.{lengthAt};
-ghost use Rattle.descriptors.specs.Stops.{Walkable, refusalNumber, propertyStop, stopAt, stopFrom};
+ghost use Rattle.descriptors.specs.Walk.{Walkable, refusalNumber, propertyStop, stopAt, stopFrom};
 
 // A refusal as a number above every offset.
-pub(crate) fn refused(code: u8, at: usize) -> usize
+pub(crate) fn refusal_number(code: u8, at: usize) -> usize
     requires { ⌜ at < 65536 ⌝ }
     ensures { λ r. ⌜ r ≡ refusalNumber code at ⌝ }
 {
@@ -29,7 +29,7 @@ fn property_stop(s: &[u8], at: usize, len: usize) -> usize
     if code == 0 {
         return at + len;
     }
-    refused(code, at)
+    refusal_number(code, at)
 }
 
 // Reads the descriptor at `at`, with all that is inside it: the offset behind it, or the first refusal.
@@ -38,7 +38,7 @@ fn read(s: &[u8], p: Parent, at: usize, end: usize) -> usize
     ensures { λ r. ⌜ r ≡ stopAt (now (s .entry)) p at end ⌝ }
 {
     match look(s, p, at, end) {
-        Descriptor::Refused(code) => refused(code, at),
+        Descriptor::Refused(code) => refusal_number(code, at),
         Descriptor::Opaque(size) => at + size,
         Descriptor::Property(size) => property_stop(s, at, size),
         Descriptor::Subset(size, q) => walk(s, q, at + 8, at + size),

@@ -3,9 +3,9 @@ use Prim.Native.Nat.{ℕ}
 use mathlib.Core.List.{List, []}
 use mathlib.Core.Option.{Option, none, some}
 use Rattle.controls.specs.declared.Setting.{Setting}
-use Rattle.encoding.specs.Encoding.{row}
+use Rattle.encoding.specs.Encoding.{recordOf}
 
 -- the record of what a key holds, of no bytes where that is nothing
-abbrev pub rowHeld : ℕ → Option Setting → List ℕ
-rowHeld k none = []
-rowHeld k (some s) = row k s
+abbrev pub recordHeld : Option Setting → List ℕ
+recordHeld none = []
+recordHeld (some s) = recordOf s

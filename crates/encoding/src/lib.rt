@@ -21,16 +21,16 @@ ghost use mathlib.Core.Path.{_≡_};
 ghost use mathlib.Core.Bool.{cond};
 ghost use lib.Dec.{eqb};
 ghost use lib.ListN.{length};
-ghost use Rattle.wire.specs.Overlay.{overlay};
-ghost use Rattle.wire.specs.Number.{bytesOf};
-ghost use Rattle.controls.specs.Settings.{settingHeld};
-ghost use Rattle.settings.specs.Settings.{faceHeld};
-ghost use Rattle.encoding.specs.Encoding.{framed, row, encoded};
-ghost use Rattle.encoding.specs.Steps.{rowHeld};
+ghost use Rattle.wire.specs.Writes.{overlay};
+ghost use Rattle.wire.specs.Numbers.{bytesOf};
+ghost use Rattle.controls.specs.Controls.{settingHeld};
+ghost use Rattle.settings.specs.Held.{faceHeld};
+ghost use Rattle.encoding.specs.Encoding.{framed, recordOf, encoded};
+ghost use Rattle.encoding.specs.Steps.{recordHeld};
 
 // Each of these writes the record of a setting at a place, as far as out reaches.
 fn put_ev(out: &mut [u8], at: usize, s: EvSetting)
-    ensures { λ _. ⌜ now (out .exit) ≡ overlay (now (out .entry)) at (row 0 (Setting.Ev s)) ⌝ }
+    ensures { λ _. ⌜ now (out .exit) ≡ overlay (now (out .entry)) at (recordOf (Setting.Ev s)) ⌝ }
 {
     let e = exposure::bytes(s);
     let b = [
@@ -54,7 +54,7 @@ fn put_ev(out: &mut [u8], at: usize, s: EvSetting)
 }
 
 fn put_face(out: &mut [u8], at: usize, address: u8, flags: u8)
-    ensures { λ _. ⌜ now (out .exit) ≡ overlay (now (out .entry)) at (row 0 (Setting.Face address flags)) ⌝ }
+    ensures { λ _. ⌜ now (out .exit) ≡ overlay (now (out .entry)) at (recordOf (Setting.Face address flags)) ⌝ }
 {
     let b = [13, 0, FACE, 0, 1, address, flags, 0, 0, 0, 0, 0, 0];
     wire::copy(out, at, &b);
@@ -69,7 +69,7 @@ fn put_number(out: &mut [u8], at: usize, kind: u8, n: u32)
 }
 
 fn put_throttle(out: &mut [u8], at: usize, s: ThrottleSetting)
-    ensures { λ _. ⌜ now (out .exit) ≡ overlay (now (out .entry)) at (row 0 (Setting.Throttle s)) ⌝ }
+    ensures { λ _. ⌜ now (out .exit) ≡ overlay (now (out .entry)) at (recordOf (Setting.Throttle s)) ⌝ }
 {
     let m = wire::bytes32(s.mode);
     let p = wire::bytes32(s.percent);
@@ -103,7 +103,7 @@ fn put_throttle(out: &mut [u8], at: usize, s: ThrottleSetting)
 }
 
 fn put_setting(out: &mut [u8], at: usize, s: Setting)
-    ensures { λ _. ⌜ now (out .exit) ≡ overlay (now (out .entry)) at (row 0 s) ⌝ }
+    ensures { λ _. ⌜ now (out .exit) ≡ overlay (now (out .entry)) at (recordOf s) ⌝ }
 {
     match s {
         Setting::Ev(e) => {
@@ -126,7 +126,7 @@ fn put_setting(out: &mut [u8], at: usize, s: Setting)
 
 // The record of what a key holds, of no bytes where that is nothing.
 fn put_held(out: &mut [u8], at: usize, held: HeldSetting)
-    ensures { λ _. ⌜ now (out .exit) ≡ overlay (now (out .entry)) at (rowHeld 0 (settingHeld held)) ⌝ }
+    ensures { λ _. ⌜ now (out .exit) ≡ overlay (now (out .entry)) at (recordHeld (settingHeld held)) ⌝ }
 {
     match held {
         HeldSetting::Unset => {}
@@ -137,7 +137,7 @@ fn put_held(out: &mut [u8], at: usize, held: HeldSetting)
 }
 
 fn length_of(s: Setting) -> usize
-    ensures { λ r. ⌜ r ≡ length (row 0 s) ⌝ }
+    ensures { λ r. ⌜ r ≡ length (recordOf s) ⌝ }
 {
     match s {
         Setting::Ev(_) => 15,
@@ -152,7 +152,7 @@ fn length_of(s: Setting) -> usize
 }
 
 fn length_held(held: HeldSetting) -> usize
-    ensures { λ r. ⌜ r ≡ length (rowHeld 0 (settingHeld held)) ⌝ }
+    ensures { λ r. ⌜ r ≡ length (recordHeld (settingHeld held)) ⌝ }
 {
     match held {
         HeldSetting::Unset => 0,
@@ -162,7 +162,7 @@ fn length_held(held: HeldSetting) -> usize
 
 // The same of an endpoint, by its address and the flags that it holds, 0 for none.
 fn put_place(out: &mut [u8], at: usize, address: u8, flags: u8)
-    ensures { λ _. ⌜ now (out .exit) ≡ overlay (now (out .entry)) at (rowHeld 0 (faceHeld address flags)) ⌝ }
+    ensures { λ _. ⌜ now (out .exit) ≡ overlay (now (out .entry)) at (recordHeld (faceHeld address flags)) ⌝ }
 {
     if flags != 0 {
         put_face(out, at, address, flags);

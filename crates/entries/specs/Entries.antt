@@ -5,15 +5,15 @@ use mathlib.Core.Bool.{Bool, true, false, cond, not, _&&_, _||_}
 use lib.Dec.{leb, eqb}
 use lib.ListN.{getD, set}
 use Rattle.wire.specs.Endpoints.{firstAddress, places}
-use Rattle.wire.specs.Number.{leAt}
+use Rattle.wire.specs.Numbers.{leAt}
 use Rattle.wire.specs.Rows.{_⇒_, firstOf}
 use Rattle.wire.specs.Uvc.{invalidValue, outOfRange}
 use Rattle.flags.specs.declared.Choice.{Choice}
 use Rattle.flags.specs.declared.Choice.the-variants.{At, Refused}
-use Rattle.flags.specs.Flags.{choiceOf}
+use Rattle.flags.specs.Flags.{oneFlag}
 use Rattle.controls.specs.declared.Item.{Item}
 use Rattle.controls.specs.declared.Setting.the-variants as S
-use Rattle.controls.specs.Settings.{itemOf, firstRefusal}
+use Rattle.controls.specs.Controls.{itemOf, firstRefusal}
 use Rattle.face.specs.declared.limits.FaceLimits.{FaceLimits}
 use Rattle.face.specs.Limits.{allBelow, offersOf}
 use Rattle.entries.specs.declared.Taken.{Taken}
@@ -35,9 +35,9 @@ seenBefore payload i = seenIn payload i i
 
 -- the length of a SET's payload: 1 + 8 n, where n is no more than the endpoint count. (0 is no payload's length here: one that
 -- has a first byte has a length.)
-unfoldable pub takesFace : FaceLimits → List ℕ → ℕ
-takesFace l [] = 1
-takesFace l (n ∷ rest) = cond (leb n (l .count)) (1 + 8 * n) 0
+unfoldable pub faceSetLength : FaceLimits → List ℕ → ℕ
+faceSetLength l [] = 1
+faceSetLength l (n ∷ rest) = cond (leb n (l .count)) (1 + 8 * n) 0
 
 -- exactly one flag, and that one offered
 unfoldable pub isChoice : Choice → Bool
@@ -46,7 +46,7 @@ isChoice Refused = false
 
 -- a setting's own test, and the last of an entry's
 unfoldable pub faceRefusal : ℕ → ℕ → ℕ
-faceRefusal offers flags = cond (isChoice (choiceOf offers flags)) 0 invalidValue
+faceRefusal offers flags = cond (isChoice (oneFlag offers flags)) 0 invalidValue
 
 -- an entry's tests by what its endpoint offers, whether it was seen before, and its flags
 abbrev pub entryTests : ℕ → Bool → ℕ → ℕ
@@ -54,7 +54,7 @@ entryTests offers seen flags =
     firstOf
     ((eqb offers 0 ⇒ outOfRange)
     ∷ (seen ⇒ invalidValue)
-    ∷ (not (isChoice (choiceOf offers flags)) ⇒ invalidValue)
+    ∷ (not (isChoice (oneFlag offers flags)) ⇒ invalidValue)
     ∷ [])
 
 -- the tests of entry i
@@ -64,7 +64,7 @@ entryRefusal l payload i =
     firstOf
     ((eqb offers 0 ⇒ outOfRange)
     ∷ (seenBefore payload i ⇒ invalidValue)
-    ∷ (not (isChoice (choiceOf offers (entryFlags payload i))) ⇒ invalidValue)
+    ∷ (not (isChoice (oneFlag offers (entryFlags payload i))) ⇒ invalidValue)
     ∷ [])
 
 unfoldable pub faceItem : FaceLimits → List ℕ → ℕ → Item
@@ -75,7 +75,7 @@ faceItem l payload i =
 unfoldable pub settingRefusal : FaceLimits → ℕ → ℕ → ℕ
 settingRefusal l address flags =
     let offers = offersOf l address in
-    firstOf ((eqb offers 0 ⇒ outOfRange) ∷ (not (isChoice (choiceOf offers flags)) ⇒ invalidValue) ∷ [])
+    firstOf ((eqb offers 0 ⇒ outOfRange) ∷ (not (isChoice (oneFlag offers flags)) ⇒ invalidValue) ∷ [])
 
 -- flags held at a place whose address has these offers are none, or keep their rules
 abbrev pub flagsKept : ℕ → ℕ → Bool

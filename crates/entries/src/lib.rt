@@ -19,11 +19,11 @@ ghost use Prim.Native.Nat.{ℕ, _<_, _+_, _^_};
 ghost use lib.ListN.{getD};
 ghost use Rattle.wire.specs.Endpoints.{firstAddress, places};
 ghost use Rattle.face.specs.Limits.{offersOf};
-ghost use Rattle.entries.specs.Entries.{takesFace, entryTests, faceItem, flagsKept, facesKept, putFace, facesTaken};
+ghost use Rattle.entries.specs.Entries.{faceSetLength, entryTests, faceItem, flagsKept, facesKept, putFace, facesTaken};
 
 // The length that a SET of this payload must have; 0 where no length will do.
-pub fn takes(l: FaceLimits, payload: &[u8]) -> usize
-    ensures { λ r. ⌜ r ≡ takesFace l (now (payload .entry)) ⌝ }
+pub fn set_length(l: FaceLimits, payload: &[u8]) -> usize
+    ensures { λ r. ⌜ r ≡ faceSetLength l (now (payload .entry)) ⌝ }
 {
     if payload.len() == 0 {
         return 1;
@@ -36,7 +36,7 @@ pub fn takes(l: FaceLimits, payload: &[u8]) -> usize
 }
 
 // The tests of an entry: what its endpoint offers, whether an entry before it named that, and its flags, which fit a byte if taken.
-fn refusal(offers: u8, seen: bool, flags: u64) -> u8
+fn entry_tests(offers: u8, seen: bool, flags: u64) -> u8
     ensures { λ r. ⌜ (r ≡ entryTests offers seen flags) × (r ≡ 0 → flags < 2 ^ 56 → flags < 256) ⌝ }
 {
     if offers == 0 {
@@ -57,7 +57,7 @@ pub fn item(l: FaceLimits, payload: &[u8]) -> Item
 {
     let address = wire::byte(payload, 1);
     let flags = wire::flag_word(payload, 2);
-    let code = refusal(offers_of(l, address), false, flags);
+    let code = entry_tests(offers_of(l, address), false, flags);
     if code != 0 {
         return Item::Refused(code);
     }
@@ -112,7 +112,7 @@ pub fn take(l: FaceLimits, held: [u8; PLACES], payload: &[u8]) -> Taken
             };
         }
         let flags = wire::flag_word(payload, at + 1);
-        let code = refusal(l.offers[place], seen[place], flags);
+        let code = entry_tests(l.offers[place], seen[place], flags);
         if code != 0 {
             return Taken { code, held };
         }
@@ -148,7 +148,7 @@ fn flags_kept(offers: u8, flags: u8) -> bool
     if flags == 0 {
         return true;
     }
-    refusal(offers, false, flags as u64) == 0
+    entry_tests(offers, false, flags as u64) == 0
 }
 
 // Whether every setting held keeps its rules.

@@ -1,2 +1,2 @@
-pub mod Ev
+pub mod Exposure
 pub mod Signed

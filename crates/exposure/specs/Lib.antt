@@ -1,2 +1,2 @@
 -- What document 01 says of exposure compensation.
-pub mod Ev
+pub mod Exposure

@@ -12,20 +12,20 @@ use wire::uvc::GET_RES;
 use wire::uvc::INVALID_VALUE;
 use wire::uvc::OUT_OF_RANGE;
 ghost use mathlib.Core.Path.{_≡_};
-ghost use Rattle.exposure.specs.Ev.{evValid, signed32, bits32, divisor, inRange, evRefusal, evItem, evBytes, evAt, evAnswer, scaledOf, compensation};
+ghost use Rattle.exposure.specs.Exposure.{evValid, signed32, bits32, divisor, inRange, evRefusal, evItem, evBytes, evAttribute, evAnswer, scaled, sensorValue};
 ghost use Rattle.request.specs.Answers.{packed};
 
 // How many of the sensor's units make a stop: twelfths.
-pub const UNITS: u8 = 12;
+pub const UNITS_PER_STOP: u8 = 12;
 
 // Whole stops, and the steps offered as flags D0 to D4.
 pub struct EvLimits {
-    pub low: i32,
-    pub high: i32,
+    pub minimum: i32,
+    pub maximum: i32,
     pub steps: u8,
 }
 
-pub enum Ev {
+pub enum HeldEv {
     Unset,
     Held(EvSetting),
 }
@@ -33,10 +33,10 @@ pub enum Ev {
 pub fn valid(l: EvLimits) -> bool
     ensures { λ r. ⌜ r ≡ evValid l ⌝ }
 {
-    (-128 <= l.low)
-        & (l.low <= 0)
-        & (0 <= l.high)
-        & (l.high <= 127)
+    (-128 <= l.minimum)
+        & (l.minimum <= 0)
+        & (0 <= l.maximum)
+        & (l.maximum <= 127)
         & (16 <= l.steps)
         & (l.steps < 32)
 }
@@ -63,7 +63,7 @@ fn to_bits(v: i32) -> u32
 }
 
 // Steps to a stop, by the place of the step's flag.
-fn divisor_of(place: u8) -> u8
+fn divisor(place: u8) -> u8
     ensures { λ r. ⌜ r ≡ divisor place ⌝ }
 {
     match place {
@@ -80,7 +80,7 @@ fn in_range(l: EvLimits, d: u8, value: i32) -> bool
     ensures { λ r. ⌜ r ≡ inRange l d value ⌝ }
 {
     let v = value as i64;
-    ((l.low as i64) * (d as i64) <= v) & (v <= (l.high as i64) * (d as i64))
+    ((l.minimum as i64) * (d as i64) <= v) & (v <= (l.maximum as i64) * (d as i64))
 }
 
 // SET's value tests on the flags and the value, and those of a setting held: document 01's number, or 0.
@@ -90,7 +90,7 @@ pub fn refusal(l: EvLimits, flags: u64, value: i32) -> u8
     match flags::one_flag(flags, l.steps) {
         Choice::Refused => INVALID_VALUE,
         Choice::At(place) => {
-            if in_range(l, divisor_of(place), value) {
+            if in_range(l, divisor(place), value) {
                 0
             } else {
                 OUT_OF_RANGE
@@ -124,19 +124,19 @@ pub fn bytes(s: EvSetting) -> [u8; 11]
 }
 
 // The flags and the value that a GET asks for.
-fn at(l: EvLimits, held: Ev, code: u8) -> EvSetting
-    ensures { λ r. ⌜ r ≡ evAt l held code ⌝ }
+fn attribute(l: EvLimits, held: HeldEv, code: u8) -> EvSetting
+    ensures { λ r. ⌜ r ≡ evAttribute l held code ⌝ }
 {
     if code == GET_MIN {
         return EvSetting {
             flags: 16,
-            value: l.low,
+            value: l.minimum,
         };
     }
     if code == GET_MAX {
         return EvSetting {
             flags: 16,
-            value: l.high,
+            value: l.maximum,
         };
     }
     if code == GET_RES {
@@ -147,11 +147,11 @@ fn at(l: EvLimits, held: Ev, code: u8) -> EvSetting
     }
     if code == GET_CUR {
         return match held {
-            Ev::Unset => EvSetting {
+            HeldEv::Unset => EvSetting {
                 flags: 16,
                 value: 0,
             },
-            Ev::Held(s) => s,
+            HeldEv::Held(s) => s,
         };
     }
     EvSetting {
@@ -160,16 +160,16 @@ fn at(l: EvLimits, held: Ev, code: u8) -> EvSetting
     }
 }
 
-pub fn answer(l: EvLimits, held: Ev, code: u8) -> Answer
+pub fn answer(l: EvLimits, held: HeldEv, code: u8) -> Answer
     ensures { λ r. ⌜ r ≡ packed (evAnswer l held code) ⌝ }
 {
-    let b = bytes(at(l, held, code));
+    let b = bytes(attribute(l, held, code));
     answer_by(code, 11, 0x13, &b)
 }
 
 // A setting in twelfths of a stop, exactly.
 fn scaled(l: EvLimits, s: EvSetting) -> i32
-    ensures { λ r. ⌜ r ≡ scaledOf l s ⌝ }
+    ensures { λ r. ⌜ r ≡ scaled l s ⌝ }
 {
     if !valid(l) {
         return 0;
@@ -177,9 +177,9 @@ fn scaled(l: EvLimits, s: EvSetting) -> i32
     match flags::one_flag(s.flags as u64, l.steps) {
         Choice::Refused => 0,
         Choice::At(place) => {
-            let d = divisor_of(place);
+            let d = divisor(place);
             if in_range(l, d, s.value) {
-                s.value * ((UNITS / d) as i32)
+                s.value * ((UNITS_PER_STOP / d) as i32)
             } else {
                 0
             }
@@ -188,11 +188,11 @@ fn scaled(l: EvLimits, s: EvSetting) -> i32
 }
 
 // What the sensor is handed, in twelfths of a stop: 0 where no setting that SET accepts is held.
-pub fn sensor_value(l: EvLimits, held: Ev) -> i32
-    ensures { λ r. ⌜ r ≡ compensation l held ⌝ }
+pub fn sensor_value(l: EvLimits, held: HeldEv) -> i32
+    ensures { λ r. ⌜ r ≡ sensorValue l held ⌝ }
 {
     match held {
-        Ev::Unset => 0,
-        Ev::Held(s) => scaled(l, s),
+        HeldEv::Unset => 0,
+        HeldEv::Held(s) => scaled(l, s),
     }
 }

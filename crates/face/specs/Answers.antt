@@ -5,11 +5,11 @@ use mathlib.Core.Bool.{cond, _||_}
 use lib.Dec.{eqb}
 use lib.ListN.{getD}
 use Rattle.wire.specs.Endpoints.{firstAddress}
-use Rattle.wire.specs.Number.{bytesOf}
+use Rattle.wire.specs.Numbers.{bytesOf}
 use Rattle.wire.specs.Uvc.{getCur, getMax, getMin, getRes}
 use Rattle.request.specs.Answers.{answerBy}
 use Rattle.face.specs.declared.limits.FaceLimits.{FaceLimits}
-use Rattle.face.specs.Limits.{endpoints, addressAt, offersAt}
+use Rattle.face.specs.Limits.{endpointsOf, addressAt, offersAt}
 
 -- an entry's bytes
 abbrev pub entryOf : ℕ → ℕ → List ℕ
@@ -38,7 +38,7 @@ entriesOf l held code (suc n) = entriesOf l held code n ++ entryOf (addressAt l 
 
 -- MIN and RES are one byte 0; MAX, CUR and DEF list every endpoint
 unfoldable pub faceValue : FaceLimits → List ℕ → ℕ → List ℕ
-faceValue l held code = cond (eqb code getMin || eqb code getRes) (0 ∷ []) (endpoints l ∷ entriesOf l held code (endpoints l))
+faceValue l held code = cond (eqb code getMin || eqb code getRes) (0 ∷ []) (endpointsOf l ∷ entriesOf l held code (endpointsOf l))
 
 unfoldable pub faceAnswer : FaceLimits → List ℕ → ℕ → List ℕ
-faceAnswer l held code = answerBy code (1 + 8 * endpoints l) 0x03 (faceValue l held code)
+faceAnswer l held code = answerBy code (1 + 8 * endpointsOf l) 0x03 (faceValue l held code)

@@ -7,8 +7,8 @@ use Rattle.wire.specs.Endpoints.{firstAddress, lastAddress, endpointLimit}
 use Rattle.face.specs.declared.limits.FaceLimits.{FaceLimits}
 
 -- how many it lists; a valid profile's count is no more than its places
-abbrev pub endpoints : FaceLimits → ℕ
-endpoints l = min (l .count) endpointLimit
+abbrev pub endpointsOf : FaceLimits → ℕ
+endpointsOf l = min (l .count) endpointLimit
 
 abbrev pub addressAt : FaceLimits → ℕ → ℕ
 addressAt l i = getD (l .addresses) i 0
@@ -46,7 +46,7 @@ offersFrom l address zero i = 0
 offersFrom l address (suc n) i = cond (eqb (addressAt l i) address) (offersAt l i) (offersFrom l address n (suc i))
 
 unfoldable pub offersOf : FaceLimits → ℕ → ℕ
-offersOf l address = offersFrom l address (endpoints l) 0
+offersOf l address = offersFrom l address (endpointsOf l) 0
 
 -- the first place that lists an address, among the n places from i on; endpointLimit where none does
 unfoldable pub placeFrom : FaceLimits → ℕ → ℕ → ℕ → ℕ
@@ -54,4 +54,4 @@ placeFrom l address zero i = endpointLimit
 placeFrom l address (suc n) i = cond (eqb (addressAt l i) address) i (placeFrom l address n (suc i))
 
 unfoldable pub placeOf : FaceLimits → ℕ → ℕ
-placeOf l address = placeFrom l address (endpoints l) 0
+placeOf l address = placeFrom l address (endpointsOf l) 0

@@ -2,7 +2,7 @@
 use crate::limits::FaceLimits;
 use crate::limits::endpoints_of;
 use request::Answer;
-use request::LONGEST;
+use request::LONGEST_ANSWER;
 use request::answer_by;
 use wire::endpoints::FIRST;
 use wire::endpoints::PLACES;
@@ -17,7 +17,7 @@ ghost use Rattle.request.specs.Answers.{packed};
 ghost use Rattle.face.specs.Answers.{entryOf, defaultOf, heldAt, flagsAt, faceValue, faceAnswer};
 
 // The bytes of an entry.
-fn entry(address: u8, flags: u8) -> [u8; 8]
+fn entry_of(address: u8, flags: u8) -> [u8; 8]
     ensures { λ r. ⌜ r ≡ entryOf address flags ⌝ }
 {
     [address, flags, 0, 0, 0, 0, 0, 0]
@@ -66,7 +66,7 @@ fn flags_at(l: FaceLimits, held: [u8; PLACES], code: u8, i: usize) -> u8
 fn value(l: FaceLimits, held: [u8; PLACES], code: u8) -> Answer
     ensures { λ r. ⌜ r ≡ packed (faceValue l held code) ⌝ }
 {
-    let mut bytes = [0u8; LONGEST];
+    let mut bytes = [0u8; LONGEST_ANSWER];
     if (code == GET_MIN) | (code == GET_RES) {
         return Answer { bytes, len: 1 };
     }
@@ -74,7 +74,7 @@ fn value(l: FaceLimits, held: [u8; PLACES], code: u8) -> Answer
     bytes[0] = n as u8;
     let mut i = 0;
     while i < n {
-        let e = entry(l.addresses[i], flags_at(l, held, code, i));
+        let e = entry_of(l.addresses[i], flags_at(l, held, code, i));
         wire::copy(&mut bytes, 1 + 8 * i, &e);
         i += 1;
     }

@@ -5,7 +5,7 @@ use wire::endpoints::PLACES;
 ghost use mathlib.Core.Path.{_≡_};
 ghost use Prim.Native.Nat.{_<_, _≤_};
 ghost use Rattle.wire.specs.Endpoints.{endpointLimit};
-ghost use Rattle.face.specs.Limits.{endpoints, addressBefore, endpointValid, faceValid, placeOf, offersOf};
+ghost use Rattle.face.specs.Limits.{endpointsOf, addressBefore, endpointValid, faceValid, placeOf, offersOf};
 
 const LAST: u8 = FIRST + (PLACES as u8) - 1;
 
@@ -18,9 +18,9 @@ pub struct FaceLimits {
 
 // How many it lists.
 pub fn endpoints_of(l: FaceLimits) -> usize
-    ensures { λ r. ⌜ (r ≡ endpoints l) × (r ≤ endpointLimit) ⌝ }
+    ensures { λ r. ⌜ (r ≡ endpointsOf l) × (r ≤ endpointLimit) ⌝ }
 {
-    wire::least(l.count as usize, LIMIT)
+    wire::min(l.count as usize, LIMIT)
 }
 
 // The address that place i's has to be above.

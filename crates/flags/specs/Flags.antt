@@ -28,7 +28,7 @@ first (true ∷ bs) = 0
 first (false ∷ bs) = suc (first bs)
 
 -- exactly one of the 56 bits is set, and it is one of those offered
-unfoldable pub choiceOf : ℕ → ℕ → Choice
-choiceOf offered flags =
+unfoldable pub oneFlag : ℕ → ℕ → Choice
+oneFlag offered flags =
     let bits = bitsOf 56 flags in
     cond (eqb (count bits) 1 && isSet offered (first bits)) (At (first bits)) Refused

@@ -2,7 +2,7 @@
 // Document 01, "The five controls": exposure compensation and face authentication choose by such a word. `wire::flag_word` gathers it.
 // The flag is found by the processor's count of ones and of trailing zeros.
 ghost use mathlib.Core.Path.{_≡_};
-ghost use Rattle.flags.specs.Flags.{isSet, choiceOf};
+ghost use Rattle.flags.specs.Flags.{isSet, oneFlag};
 
 // The place of the one flag that is set, D0 being 0; or no choice that is offered.
 pub enum Choice {
@@ -22,7 +22,7 @@ pub fn is_set(word: u64, place: u8) -> bool
 
 // The flag that a gathered word of 56 bits chooses.
 pub fn one_flag(word: u64, offered: u8) -> Choice
-    ensures { λ r. ⌜ r ≡ choiceOf offered word ⌝ }
+    ensures { λ r. ⌜ r ≡ oneFlag offered word ⌝ }
 {
     let n = word % 0x100_0000_0000_0000;
     if u64::count_ones(n) != 1 {

@@ -2,10 +2,10 @@
 use Prim.Native.Nat.{ℕ}
 use mathlib.Core.Path.{_≡_, refl}
 use mathlib.Core.List.{List, [], _∷_, map}
-use Rattle.wire.specs.Number.{number, leAt, bytesOf}
-use Rattle.wire.specs.Overlay.{overlay}
+use Rattle.wire.specs.Numbers.{number, leAt, bytesOf}
+use Rattle.wire.specs.Writes.{overlay}
 use Rattle.frame.specs.Ids.{isKnown}
-use Rattle.frame.specs.Items.{refused, sound, refusal, headOf, itemsIn, itemsFrom, itemsOf}
+use Rattle.frame.specs.Items.{refused, sound, itemRefusal, firstItem, itemsIn, itemsFrom, blockItems}
 use Rattle.frame.specs.Writer.{itemBytes, appendRefusal, writtenOf}
 
 -- one item of 8 payload bytes; with one byte fewer; of size 8, with an empty payload; an id that is not known before a size that is not one
@@ -17,13 +17,13 @@ blocks =
     ∷ (7 ∷ 0 ∷ 0 ∷ 0 ∷ 3 ∷ 0 ∷ 0 ∷ 0 ∷ [])
     ∷ []
 
-items-are : map itemsOf blocks
+items-are : map blockItems blocks
     ≡ sound (record { id = 6; payload = 1 ∷ 2 ∷ 3 ∷ 4 ∷ 5 ∷ 6 ∷ 7 ∷ 8 ∷ [] } ∷ [])
     ∷ refused 0x40
     ∷ sound (record { id = 6; payload = [] } ∷ [])
     ∷ refused 0x41
     ∷ []
-unfolding number leAt isKnown refusal headOf itemsIn itemsFrom itemsOf
+unfolding number leAt isKnown itemRefusal firstItem itemsIn itemsFrom blockItems
 items-are = refl
 
 -- one item put into the middle of a buffer

@@ -12,8 +12,8 @@ use Rattle.wire.specs.Parts.{bytesAt, LiesIn}
 use Rattle.wire.proofs.Laws.Parts.{stands-at}
 use Rattle.frame.specs.declared.view.ItemView.{ItemView}
 use Rattle.frame.specs.View.{Views}
-use Rattle.frame.specs.Items.{Item, absent, Finding, refused, sound, itemsOf}
-use Rattle.frame.specs.Answers.{itemAt, foundIn, itemOf, countOf, payloadOf}
+use Rattle.frame.specs.Items.{MetadataItem, absent, BlockReading, refused, sound, blockItems}
+use Rattle.frame.specs.Items.{nthItem, foundIn, blockItem, blockCount, blockPayload}
 use Rattle.frame.specs.Writer.{layout, Writable}
 use Rattle.frame.proofs.Laws.Walk.{short-enough}
 use Rattle.frame.proofs.Laws.Located.{located, there, not-there}
@@ -21,12 +21,12 @@ use Rattle.frame.proofs.Laws.Layout.{reads-all, written-again}
 use Rattle.frame.proofs.Laws.Appended.{sound-block, before-it, last-item, last-of, new-length, new-items}
 use Rattle.frame.proofs.Laws.Append.{accepted, accepts, reports}
 use Rattle.frame.proofs.Laws.Refusals.{item-refused, count-refused, append-refused}
-use Rattle.frame.specs.Calls.{Call, item, count, append, outcomeOf}
-use Rattle.frame.specs.Theorems.{Refused, HandedOut, Viewed, AppendReadsBack, appending, afterwards}
+use Rattle.frame.specs.Calls.{FrameCall, item, count, append, frameOutcome}
+use Rattle.frame.specs.Theorems.{FrameRefused, HandedOut, Viewed, AppendReadsBack, appending, afterwards}
 
 -- Demand 1: what a refused call leaves.
-pub refusal-leaves-nothing : (c : Call) → (outcomeOf c .code ≡ 0 → ⊥) → Refused c (outcomeOf c)
-unfolding outcomeOf
+pub refusal-leaves-nothing : (c : FrameCall) → (frameOutcome c .code ≡ 0 → ⊥) → FrameRefused c (frameOutcome c)
+unfolding frameOutcome
 refusal-leaves-nothing (item block k) n =
     let e = item-refused block k n in
     record { unchanged = refl; zeros = rw e (refl, tt); empty = rw e (refl, tt) }
@@ -36,21 +36,21 @@ refusal-leaves-nothing (append buf at id bytes) n =
     record { unchanged = e .1; zeros = (e .0, tt); empty = tt }
 
 -- Demand 1: a call stays inside its buffers. The part of each answer lies in what was lent, on a refusal too.
-pub payload-inside : (block : List ℕ) (k : ℕ) → LiesIn block (itemOf block k .payload)
-unfolding itemOf
-payload-inside block k = go (itemsOf block) refl
+pub payload-inside : (block : List ℕ) (k : ℕ) → LiesIn block (blockItem block k .payload)
+unfolding blockItem
+payload-inside block k = go (blockItems block) refl
   where
-    go : (f : Finding) → itemsOf block ≡ f → LiesIn block (foundIn k f .payload)
+    go : (f : BlockReading) → blockItems block ≡ f → LiesIn block (foundIn k f .payload)
     go (refused code) e = omega arith
     go (sound is) e = located block is (sound-block block is e .1) k .inside
 
 -- Demand 2: item k of a sound block is handed out with its id and its payload, and where there is none the answer says so.
-found : (block : List ℕ) (is : List Item) (k : ℕ) → itemsOf block ≡ sound is → itemOf block k ≡ itemAt 0 k is
-unfolding itemOf
+found : (block : List ℕ) (is : List MetadataItem) (k : ℕ) → blockItems block ≡ sound is → blockItem block k ≡ nthItem 0 k is
+unfolding blockItem
 found block is k e = ap (foundIn k) e
 
-pub item-handed-out : (block : List ℕ) (is : List Item) → itemsOf block ≡ sound is → (k : ℕ) → HandedOut block is k
-unfolding payloadOf
+pub item-handed-out : (block : List ℕ) (is : List MetadataItem) → blockItems block ≡ sound is → (k : ℕ) → HandedOut block is k
+unfolding blockPayload
 item-handed-out block is e k =
     let f = found block is k e in
     let l = located block is (sound-block block is e .1) k in
@@ -62,17 +62,17 @@ item-handed-out block is e k =
     }
 
 -- Demand 2: what a view of an item hands back.
-pub view-handed-out : (block : RefT (List ℕ)) (k : ℕ) (v : ItemView) → Views block (itemOf (now block) k) v → Viewed block k (v .payload)
-unfolding payloadOf
+pub view-handed-out : (block : RefT (List ℕ)) (k : ℕ) (v : ItemView) → Views block (blockItem (now block) k) v → Viewed block k (v .payload)
+unfolding blockPayload
 view-handed-out block k v w =
-    let p = itemOf (now block) k .payload in
+    let p = blockItem (now block) k .payload in
     record { memory = w .part .memory; place = stands-at p (omega (arith, payload-inside (now block) k)) (w .part); bytes = w .part .bytes }
 
 -- Demand 2: what we write reads back the same. An item appended behind a sound block is the last of the items there, and those before it
 -- are handed out as they were.
-reads-back : (block new : List ℕ) (is : List Item) (i : Item)
-    → itemsOf block ≡ sound is → itemsOf new ≡ sound (is ++ i ∷ []) → AppendReadsBack block is i new
-unfolding countOf
+reads-back : (block new : List ℕ) (is : List MetadataItem) (i : MetadataItem)
+    → blockItems block ≡ sound is → blockItems new ≡ sound (is ++ i ∷ []) → AppendReadsBack block is i new
+unfolding blockCount
 reads-back block new is i e f =
     let out = item-handed-out new (is ++ i ∷ []) f in
     record {
@@ -81,15 +81,15 @@ reads-back block new is i e f =
       earlier = λ k h. (
         found new (is ++ i ∷ []) k f ∙ before-it 0 k is (i ∷ []) h ∙ sym (found block is k e),
         out k .its-payload
-            ∙ ap (λ (j : Item). j .payload) (List·getD-append is (i ∷ []) absent k h)
+            ∙ ap (λ (j : MetadataItem). j .payload) (List·getD-append is (i ∷ []) absent k h)
             ∙ sym (item-handed-out block is e k .its-payload),
       );
       last = found new (is ++ i ∷ []) (length is) f ∙ last-item block is i (sound-block block is e .1);
-      last-payload = out (length is) .its-payload ∙ ap (λ (j : Item). j .payload) (last-of is i absent);
+      last-payload = out (length is) .its-payload ∙ ap (λ (j : MetadataItem). j .payload) (last-of is i absent);
     }
 
-pub appended-reads-back : (block buf : List ℕ) (is : List Item) (i : Item)
-    → itemsOf block ≡ sound is → take (length block) buf ≡ block → i .id < 256 ^ 4
+pub appended-reads-back : (block buf : List ℕ) (is : List MetadataItem) (i : MetadataItem)
+    → blockItems block ≡ sound is → take (length block) buf ≡ block → i .id < 256 ^ 4
     → appending block buf i .code ≡ 0 → AppendReadsBack block is i (afterwards block buf i)
 appended-reads-back block buf is i e begins small a =
     let z = accepts (length buf) (length block) (i .id) (length (i .payload)) a in
@@ -100,8 +100,8 @@ appended-reads-back block buf is i e begins small a =
     (reads-back block _ is i e (sym (short-enough _ (omega arith)) ∙ new))
 
 -- Demand 2, the other way round: a sound block is its items written one behind the other, and such a block reads back as those items.
-pub block-written-again : (block : List ℕ) (is : List Item) → Bytes block → itemsOf block ≡ sound is → (block ≡ layout is) × Writable is
+pub block-written-again : (block : List ℕ) (is : List MetadataItem) → Bytes block → blockItems block ≡ sound is → (block ≡ layout is) × Writable is
 block-written-again block is b e = written-again block is (sound-block block is e .1) b
 
-pub items-read-back : (is : List Item) → Writable is → length (layout is) ≤ longestBlock → itemsOf (layout is) ≡ sound is
+pub items-read-back : (is : List MetadataItem) → Writable is → length (layout is) ≤ longestBlock → blockItems (layout is) ≡ sound is
 items-read-back is g h = sym (short-enough (layout is) h) ∙ reads-all is g h

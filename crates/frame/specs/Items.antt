@@ -4,73 +4,111 @@ use mathlib.Core.List.{List, [], _∷_}
 use mathlib.Core.Bool.{not, cond}
 use lib.ListN.{length, take, drop}
 use lib.Dec.{ltb, eqb}
-use Rattle.wire.specs.Number.{leAt}
+use Rattle.wire.specs.Numbers.{leAt}
 use Rattle.frame.specs.declared.items.Head.{Head}
 use Rattle.frame.specs.declared.items.Head.the-variants.{Bad, Whole}
 use Rattle.frame.specs.Codes.{truncated, unknownId, shortSize, tooLong, longestBlock}
 use Rattle.wire.specs.Rows.{_⇒_, firstOf}
 use Rattle.frame.specs.Ids.{isKnown}
+use Prim.Native.Nat.{ℕ, zero, suc, _+_}
+use lib.ListN.{length}
+use Rattle.frame.specs.declared.items.Found.{Found}
+use Rattle.frame.specs.declared.items.Counted.{Counted}
+use Rattle.frame.specs.Codes.{noItem}
+use Rattle.wire.specs.Parts.{bytesAt, nowhere}
 
 -- an item: its id, and the bytes of its payload
-pub record Item : Type 0 where
+pub record MetadataItem : Type 0 where
   pub id : ℕ
   pub payload : List ℕ
 
 -- what stands past the last item
-abbrev pub absent : Item
+abbrev pub absent : MetadataItem
 absent = record { id = 0; payload = [] }
 
 -- what a block holds: its first fault, or its items in byte order
-pub data Finding : Type 0 where
-  refused : ℕ → Finding
-  sound : List Item → Finding
+pub data BlockReading : Type 0 where
+  refused : ℕ → BlockReading
+  sound : List MetadataItem → BlockReading
 
 -- the fields of the item that bytes begin with: id (4), size of the whole item (4), both unsigned
-abbrev pub idOf : List ℕ → ℕ
-idOf s = leAt 4 s 0
+abbrev pub itemId : List ℕ → ℕ
+itemId s = leAt 4 s 0
 
-abbrev pub sizeOf : List ℕ → ℕ
-sizeOf s = leAt 4 s 4
+abbrev pub itemSize : List ℕ → ℕ
+itemSize s = leAt 4 s 4
 
 -- the refusal of the item that the rest of a block begins with
-unfoldable pub refusal : List ℕ → ℕ
-refusal s =
+unfoldable pub itemRefusal : List ℕ → ℕ
+itemRefusal s =
     firstOf
     ((ltb (length s) 8 ⇒ truncated)
-    ∷ (not (isKnown (idOf s)) ⇒ unknownId)
-    ∷ (ltb (sizeOf s) 8 ⇒ shortSize)
-    ∷ (ltb (length s) (sizeOf s) ⇒ truncated)
+    ∷ (not (isKnown (itemId s)) ⇒ unknownId)
+    ∷ (ltb (itemSize s) 8 ⇒ shortSize)
+    ∷ (ltb (length s) (itemSize s) ⇒ truncated)
     ∷ [])
 
 -- that item by itself: its refusal, or its id and size
-unfoldable pub headOf : List ℕ → Head
-headOf s = cond (eqb (refusal s) 0) (Whole (idOf s) (sizeOf s)) (Bad (refusal s))
+unfoldable pub firstItem : List ℕ → Head
+firstItem s = cond (eqb (itemRefusal s) 0) (Whole (itemId s) (itemSize s)) (Bad (itemRefusal s))
 
 -- one item in front of what the bytes behind it hold
 infixr 30 _before_
-abbrev pub _before_ : Item → Finding → Finding
+abbrev pub _before_ : MetadataItem → BlockReading → BlockReading
 i before refused code = refused code
 i before sound is = sound (i ∷ is)
 
 -- the item of this id and size that bytes begin with
-abbrev pub itemIn : List ℕ → ℕ → ℕ → Item
+abbrev pub itemIn : List ℕ → ℕ → ℕ → MetadataItem
 itemIn s id size = record { id = id; payload = take (size - 8) (drop 8 s) }
 
-abbrev pub follow : (List ℕ → Finding) → List ℕ → Head → Finding
+abbrev pub follow : (List ℕ → BlockReading) → List ℕ → Head → BlockReading
 follow rest s (Bad code) = refused code
 follow rest s (Whole id size) = itemIn s id size before rest (drop size s)
 
 -- the items of the rest of a block: none in no bytes, else one and those behind it. n only bounds the recursion: as many as there are
 -- bytes is enough, and more change nothing (`proofs/Laws/Fuel.antt`, enough)
-unfoldable pub itemsIn : ℕ → List ℕ → Finding
+unfoldable pub itemsIn : ℕ → List ℕ → BlockReading
 itemsIn zero s = sound []
 itemsIn (suc n) s =
-    let one = follow (itemsIn n) s (headOf s) in
+    let one = follow (itemsIn n) s (firstItem s) in
     cond (ltb 0 (length s)) one (sound [])
 
-unfoldable pub itemsFrom : List ℕ → Finding
+unfoldable pub itemsFrom : List ℕ → BlockReading
 itemsFrom s = itemsIn (length s) s
 
 -- the block s
-unfoldable pub itemsOf : List ℕ → Finding
-itemsOf s = cond (ltb longestBlock (length s)) (refused tooLong) (itemsFrom s)
+unfoldable pub blockItems : List ℕ → BlockReading
+blockItems s = cond (ltb longestBlock (length s)) (refused tooLong) (itemsFrom s)
+
+
+-- a refusal: id 0 and an empty part
+abbrev pub refusedItem : ℕ → Found
+refusedItem code = record { code = code; id = 0; payload = nowhere }
+
+-- item k of items that begin at `at` in their block, k from 0; a payload stands behind the 8 bytes of id and size
+unfoldable pub nthItem : ℕ → ℕ → List MetadataItem → Found
+nthItem at k [] = refusedItem noItem
+nthItem at zero (i ∷ is) = record { code = 0; id = i .id; payload = record { at = at + 8; len = length (i .payload) } }
+nthItem at (suc k) (i ∷ is) = nthItem (at + (8 + length (i .payload))) k is
+
+abbrev pub foundIn : ℕ → BlockReading → Found
+foundIn k (refused code) = refusedItem code
+foundIn k (sound is) = nthItem 0 k is
+
+abbrev pub countIn : BlockReading → Counted
+countIn (refused code) = record { code = code; items = 0 }
+countIn (sound is) = record { code = 0; items = length is }
+
+-- of the block s
+unfoldable pub blockItem : List ℕ → ℕ → Found
+blockItem s k = foundIn k (blockItems s)
+
+unfoldable pub blockCount : List ℕ → Counted
+blockCount s = countIn (blockItems s)
+
+-- the bytes of item k's payload; none on a refusal
+unfoldable pub blockPayload : List ℕ → ℕ → List ℕ
+blockPayload s k = bytesAt s (blockItem s k .payload)
+
+

@@ -2,7 +2,6 @@
 pub mod Codes
 pub mod Ids
 pub mod Items
-pub mod Answers
 pub mod View
 pub mod Steps
 pub mod Writer

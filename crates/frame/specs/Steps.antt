@@ -6,26 +6,26 @@ use lib.ListN.{length}
 use lib.Dec.{eqb}
 use Rattle.frame.specs.declared.items.Found.{Found}
 use Rattle.frame.specs.declared.items.Survey.{Survey}
-use Rattle.frame.specs.Items.{Item, Finding, refused, sound}
-use Rattle.frame.specs.Answers.{refusedWith, foundIn, countIn}
+use Rattle.frame.specs.Items.{MetadataItem, BlockReading, refused, sound}
+use Rattle.frame.specs.Items.{refusedItem, foundIn, countIn}
 
 -- both answers of one walk
-abbrev pub surveyOf : ℕ → Finding → Survey
+abbrev pub surveyOf : ℕ → BlockReading → Survey
 surveyOf k f = record { counted = countIn f; found = foundIn k f }
 
 -- of a block that is refused
 abbrev pub stoppedAt : ℕ → Survey
-stoppedAt code = record { counted = record { code = code; items = 0 }; found = refusedWith code }
+stoppedAt code = record { counted = record { code = code; items = 0 }; found = refusedItem code }
 
 -- item n, at `at`, is passed while k is looked for
-unfoldable pub pass : (k at n : ℕ) → Found → (id len : ℕ) → Found
-pass k at n found id len = cond (eqb n k) (record { code = 0; id = id; payload = record { at = at + 8; len = len } }) found
+unfoldable pub passItem : (k at n : ℕ) → Found → (id len : ℕ) → Found
+passItem k at n found id len = cond (eqb n k) (record { code = 0; id = id; payload = record { at = at + 8; len = len } }) found
 
 -- the walk goes on at `at` over these items, n of them passed
-unfoldable pub over : (k at n : ℕ) → Found → List Item → Survey
-over k at n found [] = record { counted = record { code = 0; items = n }; found = found }
-over k at n found (i ∷ is) = over k (at + (8 + length (i .payload))) (suc n) (pass k at n found (i .id) (length (i .payload))) is
+unfoldable pub walkedOver : (k at n : ℕ) → Found → List MetadataItem → Survey
+walkedOver k at n found [] = record { counted = record { code = 0; items = n }; found = found }
+walkedOver k at n found (i ∷ is) = walkedOver k (at + (8 + length (i .payload))) (suc n) (passItem k at n found (i .id) (length (i .payload))) is
 
-unfoldable pub onward : (k at n : ℕ) → Found → Finding → Survey
+unfoldable pub onward : (k at n : ℕ) → Found → BlockReading → Survey
 onward k at n found (refused code) = stoppedAt code
-onward k at n found (sound is) = over k at n found is
+onward k at n found (sound is) = walkedOver k at n found is

@@ -5,26 +5,26 @@ use mathlib.Core.List.{List, [], _∷_, _++_}
 use mathlib.Core.Bool.{true, not, cond}
 use lib.ListN.{length}
 use lib.Dec.{ltb, eqb}
-use Rattle.wire.specs.Number.{bytesOf}
-use Rattle.wire.specs.Overlay.{overlay}
+use Rattle.wire.specs.Numbers.{bytesOf}
+use Rattle.wire.specs.Writes.{overlay}
 use Rattle.frame.specs.declared.writer.Appended.{Appended}
 use Rattle.wire.specs.Uvc.{noRoom}
 use Rattle.frame.specs.Codes.{unknownId, tooLong, longestBlock}
 use Rattle.wire.specs.Rows.{_⇒_, firstOf}
 use Rattle.frame.specs.Ids.{isKnown}
-use Rattle.frame.specs.Items.{Item}
+use Rattle.frame.specs.Items.{MetadataItem}
 
 -- id, size of the whole item, payload
 unfoldable pub itemBytes : ℕ → List ℕ → List ℕ
 itemBytes id payload = bytesOf 4 id ++ bytesOf 4 (8 + length payload) ++ payload
 
 -- items one behind the other
-unfoldable pub layout : List Item → List ℕ
+unfoldable pub layout : List MetadataItem → List ℕ
 layout [] = []
 layout (i ∷ is) = itemBytes (i .id) (i .payload) ++ layout is
 
 -- items that may be written: known ids, of four bytes
-abbrev pub Writable : List Item → Type 0
+abbrev pub Writable : List MetadataItem → Type 0
 Writable [] = Unit {0}
 Writable (i ∷ is) = (isKnown (i .id) ≡ true) × (i .id < 256 ^ 4) × Writable is
 

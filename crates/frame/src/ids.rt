@@ -6,7 +6,7 @@ const LAST_STANDARD: u32 = 6;
 
 const FIRST_CUSTOM: u32 = 0x8000_0000;
 
-pub(crate) fn known(id: u32) -> bool
+pub(crate) fn is_known(id: u32) -> bool
     ensures { λ r. ⌜ r ≡ isKnown id ⌝ }
 {
     ((1 <= id) & (id <= LAST_STANDARD)) | (FIRST_CUSTOM <= id)

@@ -5,13 +5,13 @@ use crate::codes::SHORT_SIZE;
 use crate::codes::TOO_LONG;
 use crate::codes::TRUNCATED;
 use crate::codes::UNKNOWN_ID;
-use crate::ids::known;
+use crate::ids::is_known;
 use wire::Part;
 ghost use mathlib.Core.Path.{_≡_};
 ghost use Prim.Native.Nat.{_+_, _-_, _≤_};
-ghost use Rattle.frame.specs.Items.{headOf, itemsOf};
-ghost use Rattle.frame.specs.Answers.{refusedWith, itemOf, countOf};
-ghost use Rattle.frame.specs.Steps.{pass, stoppedAt, surveyOf};
+ghost use Rattle.frame.specs.Items.{firstItem, blockItems};
+ghost use Rattle.frame.specs.Items.{refusedItem, blockItem, blockCount};
+ghost use Rattle.frame.specs.Steps.{passItem, stoppedAt, surveyOf};
 
 // The most bytes a block may have.
 pub const LONGEST_BLOCK: usize = 65535;
@@ -46,13 +46,13 @@ pub(crate) struct Survey {
 
 // The item that the rest of a block begins with.
 fn first_item(rest: &[u8]) -> Head
-    ensures { λ r. ⌜ r ≡ headOf (now (rest .entry)) ⌝ }
+    ensures { λ r. ⌜ r ≡ firstItem (now (rest .entry)) ⌝ }
 {
     if rest.len() < ITEM_HEADER {
         return Head::Bad(TRUNCATED);
     }
     let id = wire::le32(rest, 0);
-    if !known(id) {
+    if !is_known(id) {
         return Head::Bad(UNKNOWN_ID);
     }
     let size = wire::le32(rest, 4) as usize;
@@ -66,8 +66,8 @@ fn first_item(rest: &[u8]) -> Head
 }
 
 // A refusal, with an empty part.
-fn refused(code: u8) -> Found
-    ensures { λ r. ⌜ r ≡ refusedWith code ⌝ }
+fn refused_item(code: u8) -> Found
+    ensures { λ r. ⌜ r ≡ refusedItem code ⌝ }
 {
     Found {
         code,
@@ -81,14 +81,14 @@ fn stopped(code: u8) -> Survey
     ensures { λ r. ⌜ r ≡ stoppedAt code ⌝ }
 {
     let counted = Counted { code, items: 0 };
-    let found = refused(code);
+    let found = refused_item(code);
     Survey { counted, found }
 }
 
 // Item n is passed, at `at`: it is the one asked for, or what was found before stays.
-fn passed(found: Found, k: usize, n: usize, id: u32, at: usize, size: usize) -> Found
+fn pass_item(found: Found, k: usize, n: usize, id: u32, at: usize, size: usize) -> Found
     requires { ⌜ (8 ≤ size) × (at + size ≤ 65535) ⌝ }
-    ensures { λ r. ⌜ r ≡ pass k at n found id (size - 8) ⌝ }
+    ensures { λ r. ⌜ r ≡ passItem k at n found id (size - 8) ⌝ }
 {
     if n == k {
         return Found {
@@ -105,21 +105,21 @@ fn passed(found: Found, k: usize, n: usize, id: u32, at: usize, size: usize) -> 
 
 // Walks the whole block, each item once.
 fn walk(block: &[u8], k: usize) -> Survey
-    ensures { λ r. ⌜ r ≡ surveyOf k (itemsOf (now (block .entry))) ⌝ }
+    ensures { λ r. ⌜ r ≡ surveyOf k (blockItems (now (block .entry))) ⌝ }
 {
     if LONGEST_BLOCK < block.len() {
         return stopped(TOO_LONG);
     }
     let mut at = 0;
     let mut n = 0;
-    let mut found = refused(NO_ITEM);
+    let mut found = refused_item(NO_ITEM);
     while at < block.len() {
         match first_item(wire::tail(block, at)) {
             Head::Bad(code) => {
                 return stopped(code);
             }
             Head::Whole(id, size) => {
-                found = passed(found, k, n, id, at, size);
+                found = pass_item(found, k, n, id, at, size);
                 at += size;
                 n += 1;
             }
@@ -134,7 +134,7 @@ fn walk(block: &[u8], k: usize) -> Survey
 
 // Item k of the block, k from 0. `wire::part_at` hands out its payload.
 pub fn item(block: &[u8], k: usize) -> Found
-    ensures { λ r. ⌜ r ≡ itemOf (now (block .entry)) k ⌝ }
+    ensures { λ r. ⌜ r ≡ blockItem (now (block .entry)) k ⌝ }
 {
     let w = walk(block, k);
     w.found
@@ -142,7 +142,7 @@ pub fn item(block: &[u8], k: usize) -> Found
 
 // How many items the block has.
 pub fn count(block: &[u8]) -> Counted
-    ensures { λ r. ⌜ r ≡ countOf (now (block .entry)) ⌝ }
+    ensures { λ r. ⌜ r ≡ blockCount (now (block .entry)) ⌝ }
 {
     let w = walk(block, 0);
     w.counted

@@ -1,6 +1,6 @@
 // The item reader that hands the payload itself back, in a struct that holds that part of the caller's block.
 use crate::items::item;
-ghost use Rattle.frame.specs.Answers.{itemOf};
+ghost use Rattle.frame.specs.Items.{blockItem};
 ghost use Rattle.frame.specs.View.{Views};
 
 // An item's id and its payload, with code 0; or a refusal, with id 0 and an empty part.
@@ -12,7 +12,7 @@ pub struct ItemView<'a> {
 
 // Item k of the block, k from 0: what `item` answers, with the part at the place that it gives.
 pub fn item_view<'a>(block: &'a [u8], k: usize) -> ItemView<'a>
-    ensures { λ r. ⌜ Views (block .entry) (itemOf (now (block .entry)) k) r ⌝ }
+    ensures { λ r. ⌜ Views (block .entry) (blockItem (now (block .entry)) k) r ⌝ }
 {
     let f = item(block, k);
     ItemView {

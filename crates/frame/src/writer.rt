@@ -2,14 +2,14 @@
 use crate::codes::ACCEPTED;
 use crate::codes::TOO_LONG;
 use crate::codes::UNKNOWN_ID;
-use crate::ids::known;
+use crate::ids::is_known;
 use crate::items::ITEM_HEADER;
 use crate::items::LONGEST_BLOCK;
 use wire::uvc::NO_ROOM;
 ghost use mathlib.Core.Path.{_≡_};
 ghost use Prim.Native.Nat.{_+_, _≤_};
 ghost use lib.ListN.{length};
-ghost use Rattle.wire.specs.Overlay.{overlay};
+ghost use Rattle.wire.specs.Writes.{overlay};
 ghost use Rattle.frame.specs.Writer.{itemBytes, appendRefusal, appendedOf, writtenOf};
 
 // The place behind the item, with code 0; or a refusal, with 0.
@@ -19,10 +19,10 @@ pub struct Appended {
 }
 
 // The refusal of an item of `len` payload bytes at a place in `room` bytes, or 0. No sum can wrap.
-fn refusal(room: usize, at: usize, id: u32, len: usize) -> u8
+fn append_refusal(room: usize, at: usize, id: u32, len: usize) -> u8
     ensures { λ r. ⌜ r ≡ appendRefusal room at id len ⌝ }
 {
-    if !known(id) {
+    if !is_known(id) {
         return UNKNOWN_ID;
     }
     if LONGEST_BLOCK < at {
@@ -57,7 +57,7 @@ pub fn append(buf: &mut [u8], at: usize, id: u32, payload: &[u8]) -> Appended
     ensures { λ r. ⌜ (r ≡ appendedOf (length (now (buf .entry))) at id (length (now (payload .entry))))
         × (now (buf .exit) ≡ writtenOf (now (buf .entry)) at id (now (payload .entry))) ⌝ }
 {
-    let code = refusal(buf.len(), at, id, payload.len());
+    let code = append_refusal(buf.len(), at, id, payload.len());
     if code != ACCEPTED {
         return Appended { code, end: 0 };
     }

@@ -1,7 +1,7 @@
 // HDR: SET's value tests, the setting that a SET gives, and GET's answers. Document 01, "The five controls"; 001 decides.
 // Its payload is a number of four bytes: 0 off, 1 on and 2 auto. The maximum is a mask of modes and no largest mode.
 use controls::Item;
-use controls::Number;
+use controls::HeldNumber;
 use controls::Setting;
 use controls::item_of;
 use controls::number_or;
@@ -13,11 +13,16 @@ use wire::uvc::INVALID_VALUE;
 use wire::uvc::OUT_OF_RANGE;
 ghost use mathlib.Core.Path.{_≡_};
 ghost use Rattle.request.specs.Answers.{packed};
-ghost use Rattle.hdr.specs.Hdr.{hdrRefusal, hdrItem, hdrAt, hdrAnswer};
+ghost use Rattle.hdr.specs.Hdr.{hdrRefusal, hdrItem, hdrAttribute, hdrAnswer};
 
-// SET's value tests, and those of a setting held, where Auto is offered or not.
-pub fn refusal(auto: bool, n: u32) -> u8
-    ensures { λ r. ⌜ r ≡ hdrRefusal auto n ⌝ }
+// Whether Auto is offered.
+pub struct HdrLimits {
+    pub auto: bool,
+}
+
+// SET's value tests, and those of a setting held.
+pub fn refusal(l: HdrLimits, n: u32) -> u8
+    ensures { λ r. ⌜ r ≡ hdrRefusal l n ⌝ }
 {
     if 2 < n {
         return OUT_OF_RANGE;
@@ -25,26 +30,26 @@ pub fn refusal(auto: bool, n: u32) -> u8
     if n != 2 {
         return 0;
     }
-    if auto {
+    if l.auto {
         return 0;
     }
     INVALID_VALUE
 }
 
 // What a SET's payload comes to.
-pub fn item(auto: bool, payload: &[u8]) -> Item
-    ensures { λ r. ⌜ r ≡ hdrItem auto (now (payload .entry)) ⌝ }
+pub fn item(l: HdrLimits, payload: &[u8]) -> Item
+    ensures { λ r. ⌜ r ≡ hdrItem l (now (payload .entry)) ⌝ }
 {
     let n = wire::le32(payload, 0);
-    item_of(refusal(auto, n), Setting::Hdr(n))
+    item_of(refusal(l, n), Setting::Hdr(n))
 }
 
 // The number that a GET asks for.
-fn at(auto: bool, held: Number, code: u8) -> u32
-    ensures { λ r. ⌜ r ≡ hdrAt auto held code ⌝ }
+fn attribute(l: HdrLimits, held: HeldNumber, code: u8) -> u32
+    ensures { λ r. ⌜ r ≡ hdrAttribute l held code ⌝ }
 {
     if code == GET_MAX {
-        if auto {
+        if l.auto {
             return 3;
         }
         return 1;
@@ -55,9 +60,9 @@ fn at(auto: bool, held: Number, code: u8) -> u32
     0
 }
 
-pub fn answer(auto: bool, held: Number, code: u8) -> Answer
-    ensures { λ r. ⌜ r ≡ packed (hdrAnswer auto held code) ⌝ }
+pub fn answer(l: HdrLimits, held: HeldNumber, code: u8) -> Answer
+    ensures { λ r. ⌜ r ≡ packed (hdrAnswer l held code) ⌝ }
 {
-    let b = wire::bytes32(at(auto, held, code));
+    let b = wire::bytes32(attribute(l, held, code));
     answer_by(code, 4, 0x03, &b)
 }

@@ -1,4 +1,4 @@
 pub mod Merging
 pub mod Answers
 pub mod Writing
-pub mod Settings
+pub mod Given

@@ -4,12 +4,12 @@ use mathlib.Core.Path.{sym, ap, _∙_}
 use mathlib.Core.List.{[]}
 use Rattle.snapshot.proofs.Laws.Form as form
 use Rattle.snapshot.proofs.Theorems.{in-order}
-use Rattle.merging.specs.Merge.{merged}
+use Rattle.merging.specs.Merging.{merged}
 use Rattle.merging.specs.Theorems as specs
 use Rattle.merging.proofs.Laws.Merging as merging
 use Rattle.merging.proofs.Laws.Answers as answers
 
-pub refusals : specs.Refusals
+pub refusals : specs.MergeRefusals
 refusals = answers.refused
 
 pub merges : specs.AllMerge

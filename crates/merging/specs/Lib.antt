@@ -1,3 +1,3 @@
 -- Merging: what it gives, what the call answers, and what is stated of it.
-pub mod Merge
+pub mod Merging
 pub mod Theorems

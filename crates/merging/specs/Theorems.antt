@@ -5,25 +5,26 @@ use mathlib.Core.Path.{_≡_}
 use mathlib.Core.Bool.{true}
 use mathlib.Core.List.{List, [], _++_}
 use lib.ListN.{length, drop}
-use Rattle.snapshot.specs.Form.{longest, wellFormed}
+use Rattle.snapshot.specs.Keys.{longestSnapshot}
+use Rattle.snapshot.specs.Form.{wellFormed}
 use Rattle.snapshot.specs.Records.{decode}
-use Rattle.snapshot.specs.Settings.{over}
+use Rattle.snapshot.specs.Given.{over}
 use Rattle.snapshot.specs.Theorems.{InOrder}
-use Rattle.merging.specs.Merge.{merged, Apart, mergeCode, mergeLen, mergeOut, handed, Alike}
+use Rattle.merging.specs.Merging.{merged, Apart, mergeCode, mergeLen, mergeOut, handedMerge, Alike}
 
 -- Demand 1, a refused call changes no byte of any lent buffer, and (01, "Any refusal") reports a count of 0.
-abbrev pub Refusals : Type 0
-Refusals = (first second out : List ℕ) → (mergeCode first second out ≡ 0 → ⊥) → (mergeLen first second out ≡ 0) × (mergeOut first second out ≡ out)
+abbrev pub MergeRefusals : Type 0
+MergeRefusals = (first second out : List ℕ) → (mergeCode first second out ≡ 0 → ⊥) → (mergeLen first second out ≡ 0) × (mergeOut first second out ≡ out)
 
 -- Merging gives, in ascending order, one record for each key that is in either snapshot, the second's where both have it; it is well
 -- formed.
-pub record Merges (a b s : List ℕ) : Type 0 where
+pub record IsMerge (a b s : List ℕ) : Type 0 where
   pub formed : wellFormed s ≡ true
   pub has : (k : ℕ) → decode s k ≡ over (decode a k) (decode b k)
   pub in-order : InOrder s
 
 abbrev pub AllMerge : Type 0
-AllMerge = (a b : List ℕ) → Merges a b (merged a b)
+AllMerge = (a b : List ℕ) → IsMerge a b (merged a b)
 
 -- Demand 3, merging is associative.
 abbrev pub Associative : Type 0
@@ -39,17 +40,17 @@ Commutes = (a b : List ℕ) → Apart a b → merged a b ≡ merged b a
 
 -- 01, 250 bytes always suffice: with so much room the program merges any two well-formed snapshots.
 abbrev pub Suffices : Type 0
-Suffices = (a b out : List ℕ) → wellFormed a ≡ true → wellFormed b ≡ true → longest ≤ length out → mergeCode a b out ≡ 0
+Suffices = (a b out : List ℕ) → wellFormed a ≡ true → wellFormed b ≡ true → longestSnapshot ≤ length out → mergeCode a b out ≡ 0
 
 -- An accepted merge: the caller is handed the merged snapshot, and every byte behind it is as it was. With room it is accepted.
-pub record Accepted (a b out : List ℕ) : Type 0 where
+pub record MergeAccepted (a b out : List ℕ) : Type 0 where
   pub accepted : mergeCode a b out ≡ 0
   pub reported : mergeLen a b out ≡ length (merged a b)
-  pub is-handed : handed a b out ≡ merged a b
+  pub is-handed : handedMerge a b out ≡ merged a b
   pub buffer : mergeOut a b out ≡ merged a b ++ drop (length (merged a b)) out
 
 abbrev pub AllAccepted : Type 0
-AllAccepted = (a b out : List ℕ) → wellFormed a ≡ true → wellFormed b ≡ true → length (merged a b) ≤ length out → Accepted a b out
+AllAccepted = (a b out : List ℕ) → wellFormed a ≡ true → wellFormed b ≡ true → length (merged a b) ≤ length out → MergeAccepted a b out
 
 -- Demand 3 for the program, merging well-formed snapshots, given room, is associative: the first two merged into p and that with the third
 -- into out, or the last two into q and the first with that into out, are all accepted and leave the same.
@@ -57,13 +58,13 @@ abbrev pub ProgramAssociative : Type 0
 ProgramAssociative =
     (a b c p q out : List ℕ) → wellFormed a ≡ true → wellFormed b ≡ true → wellFormed c ≡ true
     → length (merged a b) ≤ length p → length (merged b c) ≤ length q → length (merged (merged a b) c) ≤ length out
-    → (mergeCode a b p ≡ 0) × ((mergeCode b c q ≡ 0) × ((mergeCode (handed a b p) c out ≡ 0) × Alike (handed a b p) c a (handed b c q) out))
+    → (mergeCode a b p ≡ 0) × ((mergeCode b c q ≡ 0) × ((mergeCode (handedMerge a b p) c out ≡ 0) × Alike (handedMerge a b p) c a (handedMerge b c q) out))
 
 -- Demand 3 for the program, the empty snapshot is neutral on both sides, given room.
 abbrev pub ProgramNeutral : Type 0
 ProgramNeutral =
     (s out : List ℕ) → wellFormed s ≡ true → length s ≤ length out
-    → (mergeCode s [] out ≡ 0) × ((handed s [] out ≡ s) × Alike s [] [] s out)
+    → (mergeCode s [] out ≡ 0) × ((handedMerge s [] out ≡ s) × Alike s [] [] s out)
 
 -- Demand 3 for the program, either order answers alike where no key is in both, whatever the room.
 abbrev pub ProgramCommutes : Type 0

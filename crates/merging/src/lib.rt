@@ -2,7 +2,7 @@
 // Document 01, "Settings sheet", and demand 3's sentences on merging. Merging looks at form only, never at the values that records carry.
 use snapshot::KEYS;
 use snapshot::key_at;
-use snapshot::size_of;
+use snapshot::record_length;
 use snapshot::well_formed;
 use wire::Part;
 use wire::uvc::MALFORMED_SNAPSHOT;
@@ -11,12 +11,12 @@ ghost use mathlib.Core.Path.{_≡_};
 ghost use mathlib.Core.Bool.{true};
 ghost use lib.ListN.{length};
 ghost use lib.Dec.{leb};
-ghost use Rattle.wire.specs.Overlay.{overlay};
+ghost use Rattle.wire.specs.Writes.{overlay};
 ghost use Rattle.snapshot.specs.Form.{wellFormed};
-ghost use Rattle.merging.specs.Merge.{merged, mergeCode, mergeLen, mergeOut};
+ghost use Rattle.merging.specs.Merging.{merged, mergeCode, mergeLen, mergeOut};
 
 // As many bytes as any snapshot needs.
-const LONGEST: usize = 250;
+const LONGEST_SNAPSHOT: usize = 250;
 
 // The verdict, and how many bytes the merged snapshot has; 0 where it is refused.
 pub struct Merged {
@@ -43,9 +43,9 @@ fn write_merged(first: &[u8], second: &[u8], out: &mut [u8]) -> usize
     let mut b = 0;
     let mut y = key_at(second, 0);
     let mut n = 0;
-    while wire::least(x, y) < KEYS {
+    while wire::min(x, y) < KEYS {
         if x < y {
-            let size = size_of(x);
+            let size = record_length(x);
             wire::copy(out, n, wire::part_at(first, Part { at: a, len: size }));
             n += size;
             a += size;
@@ -54,11 +54,11 @@ fn write_merged(first: &[u8], second: &[u8], out: &mut [u8]) -> usize
         }
         // Of equal keys the first's record is passed over.
         if x == y {
-            a += size_of(x);
+            a += record_length(x);
             x = key_at(first, a);
             continue;
         }
-        let size = size_of(y);
+        let size = record_length(y);
         wire::copy(out, n, wire::part_at(second, Part { at: b, len: size }));
         n += size;
         b += size;
@@ -72,7 +72,7 @@ fn has_room(first: &[u8], second: &[u8], room: usize) -> bool
     requires { ⌜ (wellFormed (now first) ≡ true) × (wellFormed (now second) ≡ true) ⌝ }
     ensures { λ r. ⌜ r ≡ leb (length (merged (now (first .entry)) (now (second .entry)))) room ⌝ }
 {
-    if LONGEST <= room {
+    if LONGEST_SNAPSHOT <= room {
         return true;
     }
     // Into no room nothing is written: this only measures.

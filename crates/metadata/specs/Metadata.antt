@@ -3,15 +3,15 @@ use Prim.Native.Nat.{ℕ}
 use mathlib.Core.List.{List, [], _∷_}
 use mathlib.Core.Bool.{Bool, cond, not, _||_}
 use lib.Dec.{leb, ltb, eqb}
-use Rattle.wire.specs.Number.{leAt, bytesOf}
+use Rattle.wire.specs.Numbers.{leAt, bytesOf}
 use Rattle.wire.specs.Rows.{_⇒_, firstOf}
 use Rattle.wire.specs.Uvc.{getCur, getMax, getRes, invalidValue, outOfRange}
 use Rattle.metadata.specs.declared.MetadataLimits.{MetadataLimits}
-use Rattle.controls.specs.declared.Number.{Number}
+use Rattle.controls.specs.declared.HeldNumber.{HeldNumber}
 use Rattle.controls.specs.declared.Item.{Item}
 use Rattle.controls.specs.declared.Setting.the-variants as S
 use Rattle.request.specs.Answers.{answerBy}
-use Rattle.controls.specs.Settings.{itemOf, numberOr}
+use Rattle.controls.specs.Controls.{itemOf, numberOr}
 
 abbrev pub metadataValid : MetadataLimits → Bool
 metadataValid l = leb 1 (l .maximum)
@@ -30,8 +30,8 @@ metadataItem l payload =
     itemOf (metadataRefusal l n) (S.Metadata n)
 
 -- writable: RES is MAX, CUR the setting held, MIN and DEF 0; read-only: RES is 0, and the others MAX
-unfoldable pub metadataAt : MetadataLimits → Number → ℕ → ℕ
-metadataAt l held code =
+unfoldable pub metadataAttribute : MetadataLimits → HeldNumber → ℕ → ℕ
+metadataAttribute l held code =
     cond (l .writable)
     (cond (eqb code getMax || eqb code getRes) (l .maximum) (cond (eqb code getCur) (numberOr 0 held) 0))
     (cond (eqb code getRes) 0 (l .maximum))
@@ -39,5 +39,5 @@ metadataAt l held code =
 unfoldable pub metadataInfo : MetadataLimits → ℕ
 metadataInfo l = cond (l .writable) 0x03 0x01
 
-unfoldable pub metadataAnswer : MetadataLimits → Number → ℕ → List ℕ
-metadataAnswer l held code = answerBy code 4 (metadataInfo l) (bytesOf 4 (metadataAt l held code))
+unfoldable pub metadataAnswer : MetadataLimits → HeldNumber → ℕ → List ℕ
+metadataAnswer l held code = answerBy code 4 (metadataInfo l) (bytesOf 4 (metadataAttribute l held code))

@@ -1,7 +1,7 @@
 // Metadata: limits, SET's value tests, the setting that a SET gives, and GET's answers. Document 01, "The five controls"; 001 decides.
 // Its payload is a number of four bytes, the size of the buffer that frame metadata goes to; 0 turns it off and the maximum on.
 use controls::Item;
-use controls::Number;
+use controls::HeldNumber;
 use controls::Setting;
 use controls::item_of;
 use controls::number_or;
@@ -14,7 +14,7 @@ use wire::uvc::INVALID_VALUE;
 use wire::uvc::OUT_OF_RANGE;
 ghost use mathlib.Core.Path.{_≡_};
 ghost use Rattle.request.specs.Answers.{packed};
-ghost use Rattle.metadata.specs.Metadata.{metadataValid, metadataRefusal, metadataItem, metadataAt, metadataInfo, metadataAnswer};
+ghost use Rattle.metadata.specs.Metadata.{metadataValid, metadataRefusal, metadataItem, metadataAttribute, metadataInfo, metadataAnswer};
 
 pub struct MetadataLimits {
     pub maximum: u32,
@@ -52,8 +52,8 @@ pub fn item(l: MetadataLimits, payload: &[u8]) -> Item
 }
 
 // The number that a GET asks for.
-fn at(l: MetadataLimits, held: Number, code: u8) -> u32
-    ensures { λ r. ⌜ r ≡ metadataAt l held code ⌝ }
+fn attribute(l: MetadataLimits, held: HeldNumber, code: u8) -> u32
+    ensures { λ r. ⌜ r ≡ metadataAttribute l held code ⌝ }
 {
     if !l.writable {
         if code == GET_RES {
@@ -77,9 +77,9 @@ fn info(l: MetadataLimits) -> u8
     if l.writable { 0x03 } else { 0x01 }
 }
 
-pub fn answer(l: MetadataLimits, held: Number, code: u8) -> Answer
+pub fn answer(l: MetadataLimits, held: HeldNumber, code: u8) -> Answer
     ensures { λ r. ⌜ r ≡ packed (metadataAnswer l held code) ⌝ }
 {
-    let b = wire::bytes32(at(l, held, code));
+    let b = wire::bytes32(attribute(l, held, code));
     answer_by(code, 4, info(l), &b)
 }

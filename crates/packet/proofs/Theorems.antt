@@ -7,7 +7,7 @@ use lib.Dec.{eqb}
 use Rattle.wire.specs.Parts.{LiesIn}
 use Rattle.packet.specs.declared.PayloadHeader.{PayloadHeader}
 use Rattle.packet.specs.Packet.{headerRefusal, refusedHeader, headerOf}
-use Rattle.packet.proofs.Laws.Packets.{header-inside}
+use Rattle.packet.proofs.Laws.Packet.{header-inside}
 
 -- an answer with number 0, or a refusal
 either : (b : Bool) (h : PayloadHeader) (code : ℕ) → h .code ≡ 0 → (cond b h (refusedHeader code) .code ≡ 0 → ⊥)

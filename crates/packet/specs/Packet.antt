@@ -8,15 +8,24 @@ use Rattle.flags.specs.Flags.{isSet}
 use Rattle.packet.specs.declared.Flag.{Flag}
 use Rattle.packet.specs.declared.Flag.the-variants.{Fid, Eof, Pts, Scr, Err}
 use Rattle.packet.specs.declared.PayloadHeader.{PayloadHeader}
-use Rattle.packet.specs.Codes.{cutHeader, shortHeader}
 use Rattle.wire.specs.Rows.{_⇒_, firstOf}
 use Rattle.wire.specs.Parts.{nowhere}
+use Prim.Native.Nat.{ℕ}
 
-abbrev pub lengthOf : List ℕ → ℕ
-lengthOf p = getD p 0 0
+-- a packet under 2 bytes, or a header past its end
+abbrev pub cutHeader : ℕ
+cutHeader = 0x45
 
-abbrev pub flagsOf : List ℕ → ℕ
-flagsOf p = getD p 1 0
+-- a header that does not hold the fields its flags announce
+abbrev pub shortHeader : ℕ
+shortHeader = 0x46
+
+
+abbrev pub headerLength : List ℕ → ℕ
+headerLength p = getD p 0 0
+
+abbrev pub headerFlags : List ℕ → ℕ
+headerFlags p = getD p 1 0
 
 -- the bits of the flags byte: D0 frame id, D1 end of frame, D2 presentation time, D3 source clock, D6 error
 abbrev pub bitOf : Flag → ℕ
@@ -40,8 +49,8 @@ unfoldable pub headerRefusal : List ℕ → ℕ
 headerRefusal p =
     firstOf
     ((ltb (length p) 2 ⇒ cutHeader)
-    ∷ (ltb (length p) (lengthOf p) ⇒ cutHeader)
-    ∷ (ltb (lengthOf p) (fieldsLength (flagsOf p)) ⇒ shortHeader)
+    ∷ (ltb (length p) (headerLength p) ⇒ cutHeader)
+    ∷ (ltb (headerLength p) (fieldsLength (headerFlags p)) ⇒ shortHeader)
     ∷ [])
 
 -- a refusal: flags 0 and an empty part
@@ -54,7 +63,9 @@ headerOf p =
     cond (eqb (headerRefusal p) 0)
     (record {
       code = 0;
-      flags = flagsOf p;
-      metadata = record { at = fieldsLength (flagsOf p); len = lengthOf p - fieldsLength (flagsOf p) };
+      flags = headerFlags p;
+      metadata = record { at = fieldsLength (headerFlags p); len = headerLength p - fieldsLength (headerFlags p) };
     })
     (refusedHeader (headerRefusal p))
+
+

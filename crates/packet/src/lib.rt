@@ -48,7 +48,7 @@ pub fn has_flag(flags: u8, flag: Flag) -> bool
 }
 
 // The bytes of a field that is there where its flag is set.
-fn field(flags: u8, flag: Flag, len: usize) -> usize
+fn field_length(flags: u8, flag: Flag, len: usize) -> usize
     requires { ⌜ len ≤ 6 ⌝ }
     ensures { λ r. ⌜ (r ≡ fieldLength flags flag len) × (r ≤ len) ⌝ }
 {
@@ -59,14 +59,14 @@ fn field(flags: u8, flag: Flag, len: usize) -> usize
 }
 
 // The bytes of length, flags, PTS and SCR.
-fn fields(flags: u8) -> usize
+fn fields_length(flags: u8) -> usize
     ensures { λ r. ⌜ (r ≡ fieldsLength flags) × (r ≤ 12) ⌝ }
 {
-    2 + field(flags, Flag::Pts, 4) + field(flags, Flag::Scr, 6)
+    2 + field_length(flags, Flag::Pts, 4) + field_length(flags, Flag::Scr, 6)
 }
 
 // A refusal, with an empty part.
-fn refused(code: u8) -> PayloadHeader
+fn refused_header(code: u8) -> PayloadHeader
     ensures { λ r. ⌜ r ≡ refusedHeader code ⌝ }
 {
     PayloadHeader {
@@ -81,16 +81,16 @@ pub fn header(packet: &[u8]) -> PayloadHeader
     ensures { λ r. ⌜ r ≡ headerOf (now (packet .entry)) ⌝ }
 {
     if packet.len() < 2 {
-        return refused(CUT_HEADER);
+        return refused_header(CUT_HEADER);
     }
     let len = wire::byte(packet, 0) as usize;
     if packet.len() < len {
-        return refused(CUT_HEADER);
+        return refused_header(CUT_HEADER);
     }
     let flags = wire::byte(packet, 1);
-    let from = fields(flags);
+    let from = fields_length(flags);
     if len < from {
-        return refused(SHORT_HEADER);
+        return refused_header(SHORT_HEADER);
     }
     PayloadHeader {
         code: 0,

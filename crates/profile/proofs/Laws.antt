@@ -1,2 +1,2 @@
 pub mod Profile
-pub mod Selectors
+pub mod KnownControl

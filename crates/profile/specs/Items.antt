@@ -6,8 +6,8 @@ use lib.Dec.{eqb}
 use lib.ListN.{getD}
 use Rattle.wire.specs.Selectors.{ev, face, metadata, hdr}
 use Rattle.controls.specs.declared.Item.{Item}
-use Rattle.controls.specs.Settings.{codeOf, firstRefusal}
-use Rattle.exposure.specs.Ev.{evItem}
+use Rattle.controls.specs.Controls.{itemCode, firstRefusal}
+use Rattle.exposure.specs.Exposure.{evItem}
 use Rattle.entries.specs.Entries.{faceItem}
 use Rattle.metadata.specs.Metadata.{metadataItem}
 use Rattle.hdr.specs.Hdr.{hdrItem}
@@ -19,14 +19,14 @@ abbrev pub itemCount : ℕ → List ℕ → ℕ
 itemCount selector payload = cond (eqb selector face) (getD payload 0 0) 1
 
 -- item i of a SET's payload
-unfoldable pub itemAt : Profile → ℕ → List ℕ → ℕ → Item
-itemAt p selector payload i =
+unfoldable pub profileItem : Profile → ℕ → List ℕ → ℕ → Item
+profileItem p selector payload i =
     cond (eqb selector ev) (evItem (p .ev) payload)
     (cond (eqb selector face) (faceItem (p .face) payload i)
     (cond (eqb selector metadata) (metadataItem (p .metadata) payload)
-    (cond (eqb selector hdr) (hdrItem (p .auto) payload)
+    (cond (eqb selector hdr) (hdrItem (p .hdr) payload)
     (throttleItem (p .throttle) payload))))
 
 -- SET's value tests, entry by entry
 unfoldable pub setRefusal : Profile → ℕ → List ℕ → ℕ
-setRefusal p selector payload = firstRefusal (itemCount selector payload) 0 (λ i. codeOf (itemAt p selector payload i))
+setRefusal p selector payload = firstRefusal (itemCount selector payload) 0 (λ i. itemCode (profileItem p selector payload i))

@@ -9,9 +9,9 @@ use Rattle.wire.specs.Uvc.{invalidControl, invalidRequest}
 use Rattle.request.specs.declared.tests.Unit.{Unit}
 use Rattle.request.specs.declared.tests.Control.{Control}
 use Rattle.request.specs.Table.{hasControl}
-use Rattle.exposure.specs.Ev.{evValid}
-use Rattle.face.specs.Limits.{faceValid, endpoints}
-use Rattle.entries.specs.Entries.{takesFace}
+use Rattle.exposure.specs.Exposure.{evValid}
+use Rattle.face.specs.Limits.{faceValid, endpointsOf}
+use Rattle.entries.specs.Entries.{faceSetLength}
 use Rattle.metadata.specs.Metadata.{metadataValid}
 use Rattle.throttle.specs.Throttle.{throttleValid}
 use Rattle.profile.specs.declared.Profile.{Profile}
@@ -40,29 +40,29 @@ profileValid p =
     ∷ [])
 
 -- every control takes a SET but read-only metadata
-abbrev pub settable : Profile → ℕ → Bool
-settable p selector = not (eqb selector metadata) || p .metadata .writable
+abbrev pub isSettable : Profile → ℕ → Bool
+isSettable p selector = not (eqb selector metadata) || p .metadata .writable
 
 -- a SET of a selector is refused whatever its payload: the control is absent, or read only
-unfoldable pub controlRefusal : Profile → ℕ → ℕ
-controlRefusal p selector = firstOf ((not (has p selector) ⇒ invalidControl) ∷ (not (settable p selector) ⇒ invalidRequest) ∷ [])
+unfoldable pub profileRefusal : Profile → ℕ → ℕ
+profileRefusal p selector = firstOf ((not (has p selector) ⇒ invalidControl) ∷ (not (isSettable p selector) ⇒ invalidRequest) ∷ [])
 
 -- the length of a control's payload, of face authentication the longest
-abbrev pub lengthOf : Profile → ℕ → ℕ
-lengthOf p selector =
+abbrev pub payloadLength : Profile → ℕ → ℕ
+payloadLength p selector =
     cond (eqb selector ev) 11
-    (cond (eqb selector face) (1 + 8 * endpoints (p .face))
+    (cond (eqb selector face) (1 + 8 * endpointsOf (p .face))
     (cond (eqb selector metadata) 4
     (cond (eqb selector hdr) 4
     20)))
 
 -- the length that a SET of a payload must have; face authentication's goes by its first byte
-abbrev pub takes : Profile → ℕ → List ℕ → ℕ
-takes p selector payload = cond (eqb selector face) (takesFace (p .face) payload) (lengthOf p selector)
+abbrev pub setLength : Profile → ℕ → List ℕ → ℕ
+setLength p selector payload = cond (eqb selector face) (faceSetLength (p .face) payload) (payloadLength p selector)
 
 -- a profile's unit, and the control of a selector, as the tests of a request are handed them
-unfoldable pub unitOf : Profile → Unit
-unitOf p = record { unit = p .unit; interface = p .interface; present = p .controls }
+unfoldable pub extensionUnit : Profile → Unit
+extensionUnit p = record { unit = p .unit; interface = p .interface; present = p .controls }
 
-unfoldable pub controlOf : Profile → ℕ → List ℕ → Control
-controlOf p selector payload = record { settable = settable p selector; takes = takes p selector payload }
+unfoldable pub profileControl : Profile → ℕ → List ℕ → Control
+profileControl p selector payload = record { settable = isSettable p selector; len = setLength p selector payload }

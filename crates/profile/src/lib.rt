@@ -5,6 +5,7 @@
 use controls::Item;
 use exposure::EvLimits;
 use face::FaceLimits;
+use hdr::HdrLimits;
 use metadata::MetadataLimits;
 use request::Control;
 use request::Unit;
@@ -20,10 +21,10 @@ ghost use mathlib.Core.Path.{_≡_};
 ghost use mathlib.Core.Bool.{cond};
 ghost use Prim.Native.Nat.{_≤_};
 ghost use Rattle.request.specs.Table.{hasControl};
-ghost use Rattle.profile.specs.Items.{itemAt};
-ghost use Rattle.profile.specs.Profile.{has, presenceValid, profileValid, settable, controlRefusal, takes, unitOf, controlOf};
+ghost use Rattle.profile.specs.Items.{profileItem};
+ghost use Rattle.profile.specs.Profile.{has, presenceValid, profileValid, isSettable, profileRefusal, setLength, extensionUnit, profileControl};
 
-// `controls` has bit s - 1 for the control of selector s; `auto` says whether HDR offers Auto.
+// `controls` has bit s - 1 for the control of selector s, which is its bit of bmControls.
 pub struct Profile {
     pub unit: u8,
     pub interface: u8,
@@ -31,11 +32,11 @@ pub struct Profile {
     pub ev: EvLimits,
     pub face: FaceLimits,
     pub metadata: MetadataLimits,
-    pub auto: bool,
+    pub hdr: HdrLimits,
     pub throttle: ThrottleLimits,
 }
 
-fn has_control(p: Profile, selector: u8) -> bool
+fn has(p: Profile, selector: u8) -> bool
     ensures { λ r. ⌜ r ≡ has p selector ⌝ }
 {
     request::has_control(p.controls, selector)
@@ -76,17 +77,17 @@ fn presence_valid(bits: u32) -> bool
 }
 
 fn is_settable(p: Profile, selector: u8) -> bool
-    ensures { λ r. ⌜ r ≡ settable p selector ⌝ }
+    ensures { λ r. ⌜ r ≡ isSettable p selector ⌝ }
 {
     (selector != METADATA) | p.metadata.writable
 }
 
 // The length that a SET of this payload must have.
-fn takes_of(p: Profile, selector: u8, payload: &[u8]) -> usize
-    ensures { λ r. ⌜ r ≡ takes p selector (now (payload .entry)) ⌝ }
+fn set_length(p: Profile, selector: u8, payload: &[u8]) -> usize
+    ensures { λ r. ⌜ r ≡ setLength p selector (now (payload .entry)) ⌝ }
 {
     if selector == FACE {
-        return entries::takes(p.face, payload);
+        return entries::set_length(p.face, payload);
     }
     if selector == EV {
         return 11;
@@ -106,15 +107,15 @@ impl Profile {
         ensures { λ r. ⌜ r ≡ profileValid self ⌝ }
     {
         presence_valid(self.controls)
-            & (!has_control(self, EV) | exposure::valid(self.ev))
-            & (!has_control(self, FACE) | face::valid(self.face))
-            & (!has_control(self, METADATA) | metadata::valid(self.metadata))
-            & (!has_control(self, THROTTLE) | throttle::valid(self.throttle))
+            & (!has(self, EV) | exposure::valid(self.ev))
+            & (!has(self, FACE) | face::valid(self.face))
+            & (!has(self, METADATA) | metadata::valid(self.metadata))
+            & (!has(self, THROTTLE) | throttle::valid(self.throttle))
     }
 
     // What a request's tests 2 to 6 go by.
-    pub fn table(self) -> Unit
-        ensures { λ r. ⌜ r ≡ unitOf self ⌝ }
+    pub fn extension_unit(self) -> Unit
+        ensures { λ r. ⌜ r ≡ extensionUnit self ⌝ }
     {
         Unit {
             unit: self.unit,
@@ -124,19 +125,19 @@ impl Profile {
     }
 
     pub fn control(self, selector: u8, payload: &[u8]) -> Control
-        ensures { λ r. ⌜ r ≡ controlOf self selector (now (payload .entry)) ⌝ }
+        ensures { λ r. ⌜ r ≡ profileControl self selector (now (payload .entry)) ⌝ }
     {
         Control {
             settable: is_settable(self, selector),
-            takes: takes_of(self, selector, payload),
+            len: set_length(self, selector, payload),
         }
     }
 
     // The number of a SET that is refused whatever its payload: the control is absent, or read only; else 0.
     pub fn refusal(self, selector: u8) -> u8
-        ensures { λ r. ⌜ r ≡ controlRefusal self selector ⌝ }
+        ensures { λ r. ⌜ r ≡ profileRefusal self selector ⌝ }
     {
-        if !has_control(self, selector) {
+        if !has(self, selector) {
             return INVALID_CONTROL;
         }
         if !is_settable(self, selector) {
@@ -147,7 +148,7 @@ impl Profile {
 
     // The first item of a SET's payload, and the only one but of face authentication.
     pub fn item(self, selector: u8, payload: &[u8]) -> Item
-        ensures { λ r. ⌜ r ≡ itemAt self selector (now (payload .entry)) 0 ⌝ }
+        ensures { λ r. ⌜ r ≡ profileItem self selector (now (payload .entry)) 0 ⌝ }
     {
         if selector == EV {
             return exposure::item(self.ev, payload);
@@ -159,7 +160,7 @@ impl Profile {
             return metadata::item(self.metadata, payload);
         }
         if selector == HDR {
-            return hdr::item(self.auto, payload);
+            return hdr::item(self.hdr, payload);
         }
         throttle::item(self.throttle, payload)
     }

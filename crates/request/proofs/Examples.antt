@@ -5,18 +5,18 @@ use mathlib.Core.List.{List, [], _∷_}
 use mathlib.Core.Bool.{true}
 use Prim.Native.Nat.{ℕ}
 use lib.Dec.{eqb}
-use Rattle.wire.specs.Number.{number, leAt}
+use Rattle.wire.specs.Numbers.{number, leAt}
 use Rattle.flags.specs.Flags.{isSet}
 use Rattle.wire.specs.Rows.{firstOf}
-use Rattle.request.specs.Setup.{selectorOf, wLengthOf, isSetRequest}
+use Rattle.request.specs.Setup.{setupSelector, setupWLength, isSetRequest}
 use Rattle.request.specs.Table.{Table, tableOf}
 use Rattle.request.specs.Tests.{requestTests}
 
 abbrev table : ℕ → Table
-table selector = tableOf (record { unit = 4; interface = 0; present = 0x1100 }) (record { settable = eqb selector 0x0D; takes = 4 })
+table selector = tableOf (record { unit = 4; interface = 0; present = 0x1100 }) (record { settable = eqb selector 0x0D; len = 4 })
 
 abbrev verdict : List ℕ → List ℕ → ℕ
-verdict setup payload = firstOf (requestTests (table (selectorOf setup)) setup payload)
+verdict setup payload = firstOf (requestTests (table (setupSelector setup)) setup payload)
 
 -- SET_CUR of selector 13, as the bench camera's row for HDR has it
 abbrev set : List ℕ
@@ -25,7 +25,7 @@ set = 0x21 ∷ 0x01 ∷ 0x00 ∷ 0x0D ∷ 0x00 ∷ 0x04 ∷ 0x04 ∷ 0x00 ∷ []
 abbrev on : List ℕ
 on = 1 ∷ 0 ∷ 0 ∷ 0 ∷ []
 
-is-set : (isSetRequest set ≡ true) × (selectorOf set ≡ 0x0D) × (wLengthOf set ≡ 4)
+is-set : (isSetRequest set ≡ true) × (setupSelector set ≡ 0x0D) × (setupWLength set ≡ 4)
 unfolding leAt number
 is-set = (refl, refl, refl)
 

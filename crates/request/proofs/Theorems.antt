@@ -11,9 +11,9 @@ use Rattle.wire.specs.Rows.{Row, _⇒_, firstOf, firstFrom, AnswersAt, Quiet}
 use Rattle.wire.proofs.Laws.Rows.{Coded, quiet-own, own-coded, answers-at, answers-none}
 use Rattle.request.specs.Table.{Table}
 use Rattle.request.specs.Answers.{answerBy}
-use Rattle.request.specs.Tests.{requestTests, valueTests, answerOf, requestRows, requestCode, testNumber}
+use Rattle.request.specs.Tests.{requestTests, valueTests, fullAnswer, requestRows, requestCode, testNumber}
 use Rattle.request.specs.Requests.{requestCount, replied}
-use Rattle.request.specs.Theorems.{AllOrdered, Refusals, GetSends, LenAnswers, InfoAnswers}
+use Rattle.request.specs.Theorems.{AllOrdered, RequestRefusals, GetSends, LenAnswers, InfoAnswers}
 
 module _ (t : Table) (setup payload : List ℕ) (room : ℕ) where
   abbrev rows : List Row
@@ -48,7 +48,7 @@ ordered t setup payload room = record {
   none-fails = none-answers 1 (rows t setup payload room);
 }
 
-pub refusals : Refusals
+pub refusals : RequestRefusals
 unfolding requestCount replied
 refusals t setup payload reply n = let e = ne-eqb (requestCode t setup payload (length reply)) 0 n in record { count = rw e; buffer = rw e }
 
@@ -57,9 +57,9 @@ unfolding requestCount replied
 get-sends t setup payload reply g e = record { count = rw (eq-eqb _ 0 e, g); buffer = rw (eq-eqb _ 0 e, g) }
 
 pub len-answers : LenAnswers
-unfolding answerOf answerBy
+unfolding fullAnswer answerBy
 len-answers t selector = refl
 
 pub info-answers : InfoAnswers
-unfolding answerOf answerBy
+unfolding fullAnswer answerBy
 info-answers t selector = refl

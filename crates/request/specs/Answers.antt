@@ -4,8 +4,8 @@ use mathlib.Core.List.{List, [], _∷_}
 use mathlib.Core.Bool.{cond}
 use lib.Dec.{eqb}
 use lib.ListN.{length, replicate}
-use Rattle.wire.specs.Number.{bytesOf}
-use Rattle.wire.specs.Overlay.{overlay}
+use Rattle.wire.specs.Numbers.{bytesOf}
+use Rattle.wire.specs.Writes.{overlay}
 use Rattle.wire.specs.Endpoints.{endpointLimit}
 use Rattle.wire.specs.Uvc.{getInfo, getLen}
 use Rattle.request.specs.declared.answers.Answer.{Answer}
@@ -15,9 +15,9 @@ unfoldable pub answerBy : (code len info : ℕ) → List ℕ → List ℕ
 answerBy code len info value = cond (eqb code getLen) (bytesOf 2 len) (cond (eqb code getInfo) (info ∷ []) value)
 
 -- the longest answer: a count and an entry of eight bytes for each endpoint that a profile may list
-abbrev pub longest : ℕ
-longest = 1 + 8 * endpointLimit
+abbrev pub longestAnswer : ℕ
+longestAnswer = 1 + 8 * endpointLimit
 
 -- an answer as the code hands it on: its bytes with zeros behind them, and its length
 unfoldable pub packed : List ℕ → Answer
-packed l = record { bytes = overlay (replicate longest 0) 0 l; len = min (length l) longest }
+packed l = record { bytes = overlay (replicate longestAnswer 0) 0 l; len = min (length l) longestAnswer }

@@ -8,17 +8,17 @@ use Rattle.wire.specs.Uvc.{noRoom}
 use Rattle.request.specs.declared.reply.Sent.{Sent}
 
 -- how many bytes are sent
-abbrev pub countOf : List ℕ → ℕ → ℕ
-countOf answer wLength = min wLength (length answer)
+abbrev pub sentLength : List ℕ → ℕ → ℕ
+sentLength answer wLength = min wLength (length answer)
 
 -- test 9: a buffer shorter than that is 0x20
 unfoldable pub sentOf : List ℕ → ℕ → ℕ → Sent
 sentOf answer wLength room =
-    let n = countOf answer wLength in
+    let n = sentLength answer wLength in
     cond (leb n room) (record { code = 0; count = n }) (record { code = noRoom; count = 0 })
 
 -- the buffer afterwards
 unfoldable pub replyOf : List ℕ → ℕ → List ℕ → List ℕ
 replyOf answer wLength reply =
-    let n = countOf answer wLength in
+    let n = sentLength answer wLength in
     cond (leb n (length reply)) (take n answer ++ drop n reply) reply

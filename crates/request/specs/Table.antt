@@ -15,7 +15,7 @@ pub record Table : Type 0 where
   -- of each selector: whether it is present, whether it takes a SET, and the length that a SET of a payload must have
   pub present : ℕ → Bool
   pub settable : ℕ → Bool
-  pub takes : ℕ → List ℕ → ℕ
+  pub setLength : ℕ → List ℕ → ℕ
   -- test 7 by selector and request code, and test 8 of a SET by selector and payload: a number, 0 where it passes
   pub state : ℕ → ℕ → ℕ
   pub values : ℕ → List ℕ → ℕ
@@ -36,7 +36,7 @@ tableOf u c = record {
   interface = u .interface;
   present = hasControl (u .present);
   settable = λ selector. c .settable;
-  takes = λ selector payload. c .takes;
+  setLength = λ selector payload. c .len;
   state = λ selector code. 0;
   values = λ selector payload. 0;
   len = λ selector. 0;

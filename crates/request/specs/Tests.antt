@@ -7,50 +7,50 @@ use lib.Dec.{eqb, ltb}
 use lib.ListN.{length}
 use Rattle.wire.specs.Rows.{Row, _⇒_, answers, firstOf, firstFrom}
 use Rattle.wire.specs.Uvc.{setCur, invalidControl, invalidRequest, invalidUnit, malformedRecord, noRoom, unknown}
-use Rattle.request.specs.Setup.{valueLow, selectorOf, codeOf, interfaceOf, unitOf, wLengthOf, isSetRequest, isGetRequest}
+use Rattle.request.specs.Setup.{setupValueLow, setupSelector, setupCode, setupInterface, setupUnit, setupWLength, isSetRequest, isGetRequest}
 use Rattle.request.specs.Table.{Table}
 use Rattle.request.specs.Answers.{answerBy}
-use Rattle.request.specs.Reply.{countOf}
+use Rattle.request.specs.Reply.{sentLength}
 
 -- test 3: wIndex's high byte is the unit, and its low byte the interface
-abbrev pub addressed : (unit interface : ℕ) → List ℕ → Bool
-addressed unit interface setup = eqb (unitOf setup) unit && eqb (interfaceOf setup) interface
+abbrev pub isAddressed : (unit interface : ℕ) → List ℕ → Bool
+isAddressed unit interface setup = eqb (setupUnit setup) unit && eqb (setupInterface setup) interface
 
--- test 5: wValue's low byte is 0, and type and code are a SET, which the control takes, or a GET
-abbrev pub understood : (settable : Bool) → List ℕ → Bool
-understood settable setup = eqb (valueLow setup) 0 && cond (isSetRequest setup) settable (isGetRequest setup)
+-- test 5: wValue's low byte is 0, and type and code are a SET, which the control len, or a GET
+abbrev pub isUnderstood : (settable : Bool) → List ℕ → Bool
+isUnderstood settable setup = eqb (setupValueLow setup) 0 && cond (isSetRequest setup) settable (isGetRequest setup)
 
 -- test 6: a GET's payload is empty; a SET's has wLength bytes and the control's length
-abbrev pub sized : (takes : ℕ) → List ℕ → List ℕ → Bool
-sized takes setup payload =
-    cond (isSetRequest setup) (eqb (length payload) (wLengthOf setup) && eqb (length payload) takes) (eqb (length payload) 0)
+abbrev pub isSized : (len : ℕ) → List ℕ → List ℕ → Bool
+isSized len setup payload =
+    cond (isSetRequest setup) (eqb (length payload) (setupWLength setup) && eqb (length payload) len) (eqb (length payload) 0)
 
 -- tests 2 to 6
 unfoldable pub requestTests : Table → List ℕ → List ℕ → List Row
 requestTests t setup payload =
     (not (eqb (length setup) 8) ⇒ unknown)
-    ∷ (not (addressed (t .unit) (t .interface) setup) ⇒ invalidUnit)
-    ∷ (not (t .present (selectorOf setup)) ⇒ invalidControl)
-    ∷ (not (understood (t .settable (selectorOf setup)) setup) ⇒ invalidRequest)
-    ∷ (not (sized (t .takes (selectorOf setup) payload) setup payload) ⇒ unknown)
+    ∷ (not (isAddressed (t .unit) (t .interface) setup) ⇒ invalidUnit)
+    ∷ (not (t .present (setupSelector setup)) ⇒ invalidControl)
+    ∷ (not (isUnderstood (t .settable (setupSelector setup)) setup) ⇒ invalidRequest)
+    ∷ (not (isSized (t .setLength (setupSelector setup) payload) setup payload) ⇒ unknown)
     ∷ []
 
 -- tests 7 and 8; a GET has no values
 unfoldable pub valueTests : Table → List ℕ → List ℕ → List Row
 valueTests t setup payload =
-    answers (t .state (selectorOf setup) (codeOf setup))
-    ∷ answers (cond (isSetRequest setup) (t .values (selectorOf setup) payload) 0)
+    answers (t .state (setupSelector setup) (setupCode setup))
+    ∷ answers (cond (isSetRequest setup) (t .values (setupSelector setup) payload) 0)
     ∷ []
 
 -- the full answer to a GET, and how much of it is sent
-unfoldable pub answerOf : Table → ℕ → ℕ → List ℕ
-answerOf t selector code = answerBy code (t .len selector) (t .info selector) (t .value selector code)
+unfoldable pub fullAnswer : Table → ℕ → ℕ → List ℕ
+fullAnswer t selector code = answerBy code (t .len selector) (t .info selector) (t .value selector code)
 
 abbrev pub asked : Table → List ℕ → List ℕ
-asked t setup = answerOf t (selectorOf setup) (codeOf setup)
+asked t setup = fullAnswer t (setupSelector setup) (setupCode setup)
 
 abbrev pub sentCount : Table → List ℕ → ℕ
-sentCount t setup = countOf (asked t setup) (wLengthOf setup)
+sentCount t setup = sentLength (asked t setup) (setupWLength setup)
 
 -- all nine; `room` is the length of the reply buffer
 unfoldable pub requestRows : Table → List ℕ → List ℕ → ℕ → List Row
@@ -73,8 +73,8 @@ unfoldable pub setAccepted : Table → List ℕ → List ℕ → Bool
 setAccepted t setup payload = isSetRequest setup && eqb (firstOf (requestTests t setup payload ++ valueTests t setup payload)) 0
 
 -- a SET of a selector before its payload is looked at: tests 4, 5 and 7
-unfoldable pub controlRefusal : Table → ℕ → ℕ
-controlRefusal t selector =
+unfoldable pub tableRefusal : Table → ℕ → ℕ
+tableRefusal t selector =
     firstOf
     ((not (t .present selector) ⇒ invalidControl)
     ∷ (not (t .settable selector) ⇒ invalidRequest)

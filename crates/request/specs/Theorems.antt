@@ -5,12 +5,12 @@ use mathlib.Core.List.{List, [], _∷_, _++_}
 use mathlib.Core.Option.{none, some}
 use mathlib.Core.Bool.{false}
 use lib.ListN.{length, take, drop}
-use Rattle.wire.specs.Number.{bytesOf}
+use Rattle.wire.specs.Numbers.{bytesOf}
 use Rattle.wire.specs.Rows.{AnswersAt}
 use Rattle.wire.specs.Uvc.{getInfo, getLen}
 use Rattle.request.specs.Setup.{isSetRequest}
 use Rattle.request.specs.Table.{Table}
-use Rattle.request.specs.Tests.{answerOf, asked, sentCount, requestRows, requestCode, testNumber}
+use Rattle.request.specs.Tests.{fullAnswer, asked, sentCount, requestRows, requestCode, testNumber}
 use Rattle.request.specs.Requests.{requestCount, replied}
 
 -- Nine tests, in 01's order: the place of the first row that fails, from 1 on, is the number of the test that answered. None fails exactly
@@ -26,12 +26,12 @@ abbrev pub AllOrdered : Type 0
 AllOrdered = (t : Table) (setup payload : List ℕ) (room : ℕ) → Ordered t setup payload room
 
 -- Demand 1: a refused request reports a count of 0 and leaves every byte of the reply buffer.
-pub record Refused (t : Table) (setup payload reply : List ℕ) : Type 0 where
+pub record RequestRefused (t : Table) (setup payload reply : List ℕ) : Type 0 where
   pub count : requestCount t setup payload (length reply) ≡ 0
   pub buffer : replied t setup payload reply ≡ reply
 
-abbrev pub Refusals : Type 0
-Refusals = (t : Table) (setup payload reply : List ℕ) → (requestCode t setup payload (length reply) ≡ 0 → ⊥) → Refused t setup payload reply
+abbrev pub RequestRefusals : Type 0
+RequestRefusals = (t : Table) (setup payload reply : List ℕ) → (requestCode t setup payload (length reply) ≡ 0 → ⊥) → RequestRefused t setup payload reply
 
 -- An accepted GET writes the first min(wLength, full length) bytes of its answer, reports that count and touches nothing else.
 pub record Sends (t : Table) (setup payload reply : List ℕ) : Type 0 where
@@ -45,7 +45,7 @@ GetSends =
 
 -- LEN answers two bytes, and INFO one.
 abbrev pub LenAnswers : Type 0
-LenAnswers = (t : Table) (selector : ℕ) → answerOf t selector getLen ≡ bytesOf 2 (t .len selector)
+LenAnswers = (t : Table) (selector : ℕ) → fullAnswer t selector getLen ≡ bytesOf 2 (t .len selector)
 
 abbrev pub InfoAnswers : Type 0
-InfoAnswers = (t : Table) (selector : ℕ) → answerOf t selector getInfo ≡ t .info selector ∷ []
+InfoAnswers = (t : Table) (selector : ℕ) → fullAnswer t selector getInfo ≡ t .info selector ∷ []

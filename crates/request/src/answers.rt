@@ -6,20 +6,20 @@ ghost use mathlib.Core.Path.{_≡_};
 ghost use Rattle.request.specs.Answers.{packed, answerBy};
 
 // The longest answer: a count and an entry of eight bytes for each endpoint that a profile may list.
-pub const LONGEST: usize = 1 + 8 * LIMIT;
+pub const LONGEST_ANSWER: usize = 1 + 8 * LIMIT;
 
 // The first len bytes are the answer, the others 0.
 pub struct Answer {
-    pub bytes: [u8; LONGEST],
+    pub bytes: [u8; LONGEST_ANSWER],
     pub len: usize,
 }
 
 pub(crate) fn pack(answer: &[u8]) -> Answer
     ensures { λ r. ⌜ r ≡ packed (now (answer .entry)) ⌝ }
 {
-    let mut bytes = [0u8; LONGEST];
+    let mut bytes = [0u8; LONGEST_ANSWER];
     wire::copy(&mut bytes, 0, answer);
-    let len = wire::least(answer.len(), LONGEST);
+    let len = wire::min(answer.len(), LONGEST_ANSWER);
     Answer { bytes, len }
 }
 

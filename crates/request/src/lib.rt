@@ -8,7 +8,7 @@ mod setup;
 mod tests;
 
 pub use answers::Answer;
-pub use answers::LONGEST;
+pub use answers::LONGEST_ANSWER;
 pub use answers::answer_by;
 pub use reply::Sent;
 pub use reply::send;

@@ -15,7 +15,7 @@ pub fn send(answer: &[u8], wlength: usize, reply: &mut [u8]) -> Sent
     ensures { λ r. ⌜ r ≡ sentOf (now (answer .entry)) wlength (length (now (reply .entry))) ⌝ }
     ensures { λ _. ⌜ now (reply .exit) ≡ replyOf (now (answer .entry)) wlength (now (reply .entry)) ⌝ }
 {
-    let count = wire::least(wlength, answer.len());
+    let count = wire::min(wlength, answer.len());
     if reply.len() < count {
         return Sent {
             code: NO_ROOM,

@@ -4,23 +4,23 @@ use wire::uvc::GET_DEF;
 use wire::uvc::SET_CUR;
 ghost use mathlib.Core.Path.{_≡_};
 ghost use Prim.Native.Nat.{_<_};
-ghost use Rattle.request.specs.Setup.{codeOf, selectorOf, wLengthOf, isSetRequest, isGetRequest};
+ghost use Rattle.request.specs.Setup.{setupCode, setupSelector, setupWLength, isSetRequest, isGetRequest};
 
 pub fn code(setup: &[u8]) -> u8
-    ensures { λ r. ⌜ r ≡ codeOf (now (setup .entry)) ⌝ }
+    ensures { λ r. ⌜ r ≡ setupCode (now (setup .entry)) ⌝ }
 {
     wire::byte(setup, 1)
 }
 
 // The control that wValue's high byte selects.
 pub fn selector(setup: &[u8]) -> u8
-    ensures { λ r. ⌜ r ≡ selectorOf (now (setup .entry)) ⌝ }
+    ensures { λ r. ⌜ r ≡ setupSelector (now (setup .entry)) ⌝ }
 {
     wire::byte(setup, 3)
 }
 
 pub fn wlength(setup: &[u8]) -> usize
-    ensures { λ r. ⌜ (r ≡ wLengthOf (now (setup .entry))) × (r < 65536) ⌝ }
+    ensures { λ r. ⌜ (r ≡ setupWLength (now (setup .entry))) × (r < 65536) ⌝ }
 {
     wire::le16(setup, 6)
 }

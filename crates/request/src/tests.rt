@@ -10,7 +10,7 @@ use wire::uvc::UNKNOWN;
 ghost use mathlib.Core.Path.{_≡_};
 ghost use Rattle.wire.specs.Rows.{firstOf};
 ghost use Rattle.request.specs.Table.{hasControl, tableOf};
-ghost use Rattle.request.specs.Tests.{requestTests, addressed, understood, sized};
+ghost use Rattle.request.specs.Tests.{requestTests, isAddressed, isUnderstood, isSized};
 
 // A unit: bit s - 1 of `present` says that the control of selector s is there.
 pub struct Unit {
@@ -22,7 +22,7 @@ pub struct Unit {
 // The control that a setup selects: whether it takes a SET, and the length that a SET of the payload at hand must have.
 pub struct Control {
     pub settable: bool,
-    pub takes: usize,
+    pub len: usize,
 }
 
 // Whether the bit of a selector is set.
@@ -37,14 +37,14 @@ pub fn has_control(bits: u32, selector: u8) -> bool
 
 // wIndex names the unit in its high byte and the interface in its low one.
 fn is_addressed(u: Unit, setup: &[u8]) -> bool
-    ensures { λ r. ⌜ r ≡ addressed (u .unit) (u .interface) (now (setup .entry)) ⌝ }
+    ensures { λ r. ⌜ r ≡ isAddressed (u .unit) (u .interface) (now (setup .entry)) ⌝ }
 {
     (wire::byte(setup, 5) == u.unit) & (wire::byte(setup, 4) == u.interface)
 }
 
 // A request that the control takes.
 fn is_understood(settable: bool, setup: &[u8]) -> bool
-    ensures { λ r. ⌜ r ≡ understood settable (now (setup .entry)) ⌝ }
+    ensures { λ r. ⌜ r ≡ isUnderstood settable (now (setup .entry)) ⌝ }
 {
     if wire::byte(setup, 2) != 0 {
         return false;
@@ -56,11 +56,11 @@ fn is_understood(settable: bool, setup: &[u8]) -> bool
 }
 
 // A GET's payload is empty; a SET's has wLength bytes, which is the length that the control takes.
-fn is_sized(takes: usize, setup: &[u8], payload: &[u8]) -> bool
-    ensures { λ r. ⌜ r ≡ sized takes (now (setup .entry)) (now (payload .entry)) ⌝ }
+fn is_sized(len: usize, setup: &[u8], payload: &[u8]) -> bool
+    ensures { λ r. ⌜ r ≡ isSized len (now (setup .entry)) (now (payload .entry)) ⌝ }
 {
     if is_set_request(setup) {
-        return (payload.len() == wlength(setup)) & (payload.len() == takes);
+        return (payload.len() == wlength(setup)) & (payload.len() == len);
     }
     payload.len() == 0
 }
@@ -81,7 +81,7 @@ pub fn refusal(u: Unit, c: Control, setup: &[u8], payload: &[u8]) -> u8
     if !is_understood(c.settable, setup) {
         return INVALID_REQUEST;
     }
-    if !is_sized(c.takes, setup, payload) {
+    if !is_sized(c.len, setup, payload) {
         return UNKNOWN;
     }
     0

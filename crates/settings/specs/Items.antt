@@ -7,15 +7,15 @@ use Rattle.controls.specs.declared.Item.{Item}
 use Rattle.controls.specs.declared.Item.the-variants.{Refused, Given}
 use Rattle.controls.specs.declared.Setting.{Setting}
 use Rattle.profile.specs.declared.Profile.{Profile}
-use Rattle.profile.specs.Items.{itemCount, itemAt, setRefusal}
+use Rattle.profile.specs.Items.{itemCount, profileItem, setRefusal}
 use Rattle.settings.specs.declared.settings.Settings.{Settings}
 use Rattle.settings.specs.declared.items.Taken.{Taken}
-use Rattle.settings.specs.Settings.{keyOf, put}
+use Rattle.settings.specs.Settings.{settingKey, put}
 
 -- the settings that an item gives, each with its key
 unfoldable pub givenOf : Item → List (ℕ × Setting)
 givenOf (Refused code) = []
-givenOf (Given s) = (keyOf s, s) ∷ []
+givenOf (Given s) = (settingKey s, s) ∷ []
 
 -- the settings that the n from k on give, in order
 unfoldable pub allGiven : ℕ → ℕ → (ℕ → List (ℕ × Setting)) → List (ℕ × Setting)
@@ -23,16 +23,16 @@ allGiven zero k given = []
 allGiven (suc n) k given = given k ++ allGiven n (suc k) given
 
 -- settings put in one after the other
-unfoldable pub puts : Settings → List (ℕ × Setting) → Settings
-puts h [] = h
-puts h (s ∷ rest) = puts (put h (s .1)) rest
+unfoldable pub putAll : Settings → List (ℕ × Setting) → Settings
+putAll h [] = h
+putAll h (s ∷ rest) = putAll (put h (s .1)) rest
 
 -- the settings that a SET gives once it is accepted
 unfoldable pub setGives : Profile → ℕ → List ℕ → List (ℕ × Setting)
-setGives p selector payload = allGiven (itemCount selector payload) 0 (λ i. givenOf (itemAt p selector payload i))
+setGives p selector payload = allGiven (itemCount selector payload) 0 (λ i. givenOf (profileItem p selector payload i))
 
 -- a SET's number, and the settings with all of it or as they were
 unfoldable pub setTaken : Profile → Settings → ℕ → List ℕ → Taken
 setTaken p h selector payload =
     let code = setRefusal p selector payload in
-    record { code = code; settings = cond (eqb code 0) (puts h (setGives p selector payload)) h }
+    record { code = code; settings = cond (eqb code 0) (putAll h (setGives p selector payload)) h }

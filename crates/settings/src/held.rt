@@ -1,25 +1,25 @@
 // The settings that are held, key by key, as a snapshot's records have them.
 use crate::settings::Settings;
 use controls::HeldSetting;
-use controls::Number;
+use controls::HeldNumber;
 use controls::Setting;
-use exposure::Ev;
+use exposure::HeldEv;
 use snapshot::EV_KEY;
 use snapshot::HDR_KEY;
 use snapshot::METADATA_KEY;
 use snapshot::THROTTLE_KEY;
-use throttle::Throttle;
+use throttle::HeldThrottle;
 use wire::endpoints::FIRST;
 use wire::endpoints::PLACES;
 ghost use mathlib.Core.Path.{_≡_};
-ghost use Rattle.settings.specs.Settings.{evHeld, faceHeld, metadataHeld, hdrHeld, throttleHeld, held, heldSetting};
+ghost use Rattle.settings.specs.Held.{evHeld, faceHeld, metadataHeld, hdrHeld, throttleHeld, settingsHeld, heldSetting};
 
-fn held_ev(held: Ev) -> HeldSetting
-    ensures { λ r. ⌜ r ≡ heldSetting (evHeld held) ⌝ }
+fn held_ev(held: HeldEv) -> HeldSetting
+    ensures { λ r. ⌜ r ≡ heldSetting (evHeld settingsHeld) ⌝ }
 {
     match held {
-        Ev::Unset => HeldSetting::Unset,
-        Ev::Held(s) => HeldSetting::Held(Setting::Ev(s)),
+        HeldEv::Unset => HeldSetting::Unset,
+        HeldEv::Held(s) => HeldSetting::Held(Setting::Ev(s)),
     }
 }
 
@@ -32,37 +32,37 @@ fn held_face(address: u8, flags: u8) -> HeldSetting
     HeldSetting::Held(Setting::Face { address, flags })
 }
 
-fn held_metadata(held: Number) -> HeldSetting
-    ensures { λ r. ⌜ r ≡ heldSetting (metadataHeld held) ⌝ }
+fn held_metadata(held: HeldNumber) -> HeldSetting
+    ensures { λ r. ⌜ r ≡ heldSetting (metadataHeld settingsHeld) ⌝ }
 {
     match held {
-        Number::Unset => HeldSetting::Unset,
-        Number::Held(n) => HeldSetting::Held(Setting::Metadata(n)),
+        HeldNumber::Unset => HeldSetting::Unset,
+        HeldNumber::Held(n) => HeldSetting::Held(Setting::Metadata(n)),
     }
 }
 
-fn held_hdr(held: Number) -> HeldSetting
-    ensures { λ r. ⌜ r ≡ heldSetting (hdrHeld held) ⌝ }
+fn held_hdr(held: HeldNumber) -> HeldSetting
+    ensures { λ r. ⌜ r ≡ heldSetting (hdrHeld settingsHeld) ⌝ }
 {
     match held {
-        Number::Unset => HeldSetting::Unset,
-        Number::Held(n) => HeldSetting::Held(Setting::Hdr(n)),
+        HeldNumber::Unset => HeldSetting::Unset,
+        HeldNumber::Held(n) => HeldSetting::Held(Setting::Hdr(n)),
     }
 }
 
-fn held_throttle(held: Throttle) -> HeldSetting
-    ensures { λ r. ⌜ r ≡ heldSetting (throttleHeld held) ⌝ }
+fn held_throttle(held: HeldThrottle) -> HeldSetting
+    ensures { λ r. ⌜ r ≡ heldSetting (throttleHeld settingsHeld) ⌝ }
 {
     match held {
-        Throttle::Unset => HeldSetting::Unset,
-        Throttle::Held(s) => HeldSetting::Held(Setting::Throttle(s)),
+        HeldThrottle::Unset => HeldSetting::Unset,
+        HeldThrottle::Held(s) => HeldSetting::Held(Setting::Throttle(s)),
     }
 }
 
 impl Settings {
     // The setting held of a key, or none.
     pub fn held(self, key: usize) -> HeldSetting
-        ensures { λ r. ⌜ r ≡ heldSetting (held self key) ⌝ }
+        ensures { λ r. ⌜ r ≡ heldSetting (settingsHeld self key) ⌝ }
     {
         if key == EV_KEY {
             return held_ev(self.ev);

@@ -1,11 +1,11 @@
 // What a SET's payload comes to: the first refusal of its items, or the settings with all of them.
 use crate::settings::Settings;
 use controls::Item;
-use controls::code_of;
+use controls::item_code;
 use profile::Profile;
 use wire::selectors::FACE;
 ghost use mathlib.Core.Path.{_≡_};
-ghost use Rattle.settings.specs.Items.{givenOf, puts, setTaken};
+ghost use Rattle.settings.specs.Items.{givenOf, putAll, setTaken};
 
 // Document 01's number, and the settings; on a refusal they are as they came in.
 pub struct Taken {
@@ -16,7 +16,7 @@ pub struct Taken {
 impl Settings {
     // The settings with what an item gives.
     pub fn put_item(self, item: Item) -> Settings
-        ensures { λ r. ⌜ r ≡ puts self (givenOf item) ⌝ }
+        ensures { λ r. ⌜ r ≡ putAll self (givenOf item) ⌝ }
     {
         match item {
             Item::Refused(_) => self,
@@ -41,7 +41,7 @@ impl Settings {
         }
         let one = p.item(selector, payload);
         Taken {
-            code: code_of(one),
+            code: item_code(one),
             settings: self.put_item(one),
         }
     }

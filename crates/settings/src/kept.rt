@@ -1,54 +1,55 @@
 // Whether settings keep their rules, control by control.
 use crate::settings::Settings;
-use controls::Number;
-use exposure::Ev;
+use controls::HeldNumber;
+use exposure::HeldEv;
 use profile::Profile;
 use request::has_control;
-use throttle::Throttle;
+use throttle::HeldThrottle;
 use wire::selectors::EV;
 use wire::selectors::FACE;
 use wire::selectors::HDR;
 use wire::selectors::METADATA;
 use wire::selectors::THROTTLE;
 ghost use mathlib.Core.Path.{_≡_};
-ghost use Rattle.settings.specs.Settings.{evHeld, metadataHeld, hdrHeld, throttleHeld, kept, wellFormed};
+ghost use Rattle.settings.specs.Held.{evHeld, metadataHeld, hdrHeld, throttleHeld};
+ghost use Rattle.settings.specs.Kept.{kept, settingsWellFormed};
 
-fn ev_kept(p: Profile, held: Ev) -> bool
+fn ev_kept(p: Profile, held: HeldEv) -> bool
     ensures { λ r. ⌜ r ≡ kept p (evHeld held) ⌝ }
 {
     match held {
-        Ev::Unset => true,
-        Ev::Held(s) => has_control(p.controls, EV)
+        HeldEv::Unset => true,
+        HeldEv::Held(s) => has_control(p.controls, EV)
             & (exposure::refusal(p.ev, s.flags as u64, s.value) == 0),
     }
 }
 
-fn metadata_kept(p: Profile, held: Number) -> bool
+fn metadata_kept(p: Profile, held: HeldNumber) -> bool
     ensures { λ r. ⌜ r ≡ kept p (metadataHeld held) ⌝ }
 {
     match held {
-        Number::Unset => true,
-        Number::Held(n) => has_control(p.controls, METADATA)
+        HeldNumber::Unset => true,
+        HeldNumber::Held(n) => has_control(p.controls, METADATA)
             & p.metadata.writable
             & (metadata::refusal(p.metadata, n) == 0),
     }
 }
 
-fn hdr_kept(p: Profile, held: Number) -> bool
+fn hdr_kept(p: Profile, held: HeldNumber) -> bool
     ensures { λ r. ⌜ r ≡ kept p (hdrHeld held) ⌝ }
 {
     match held {
-        Number::Unset => true,
-        Number::Held(n) => has_control(p.controls, HDR) & (hdr::refusal(p.auto, n) == 0),
+        HeldNumber::Unset => true,
+        HeldNumber::Held(n) => has_control(p.controls, HDR) & (hdr::refusal(p.hdr, n) == 0),
     }
 }
 
-fn throttle_kept(p: Profile, held: Throttle) -> bool
+fn throttle_kept(p: Profile, held: HeldThrottle) -> bool
     ensures { λ r. ⌜ r ≡ kept p (throttleHeld held) ⌝ }
 {
     match held {
-        Throttle::Unset => true,
-        Throttle::Held(t) => has_control(p.controls, THROTTLE)
+        HeldThrottle::Unset => true,
+        HeldThrottle::Held(t) => has_control(p.controls, THROTTLE)
             & (throttle::refusal(p.throttle, t.mode, t.percent) == 0),
     }
 }
@@ -56,7 +57,7 @@ fn throttle_kept(p: Profile, held: Throttle) -> bool
 impl Settings {
     // The profile is valid, and every setting that is held keeps its own SET's rules.
     pub fn well_formed(self, p: Profile) -> bool
-        ensures { λ r. ⌜ r ≡ wellFormed p self ⌝ }
+        ensures { λ r. ⌜ r ≡ settingsWellFormed p self ⌝ }
     {
         let ev = self.ev;
         let face = self.face;

@@ -1,19 +1,19 @@
 // The settings of the five controls, of face authentication one for each endpoint: the last that was accepted, or none.
-use controls::Number;
+use controls::HeldNumber;
 use controls::Setting;
-use exposure::Ev;
-use throttle::Throttle;
+use exposure::HeldEv;
+use throttle::HeldThrottle;
 use wire::endpoints::PLACES;
 ghost use mathlib.Core.Path.{_≡_};
 ghost use Rattle.settings.specs.Settings.{noSettings, put};
 
 // Face settings stand by address, that of 0x81 first: the flag chosen, or 0 for none.
 pub struct Settings {
-    pub ev: Ev,
+    pub ev: HeldEv,
     pub face: [u8; PLACES],
-    pub metadata: Number,
-    pub hdr: Number,
-    pub throttle: Throttle,
+    pub metadata: HeldNumber,
+    pub hdr: HeldNumber,
+    pub throttle: HeldThrottle,
 }
 
 impl Settings {
@@ -21,11 +21,11 @@ impl Settings {
         ensures { λ r. ⌜ r ≡ noSettings ⌝ }
     {
         Settings {
-            ev: Ev::Unset,
+            ev: HeldEv::Unset,
             face: [0; PLACES],
-            metadata: Number::Unset,
-            hdr: Number::Unset,
-            throttle: Throttle::Unset,
+            metadata: HeldNumber::Unset,
+            hdr: HeldNumber::Unset,
+            throttle: HeldThrottle::Unset,
         }
     }
 
@@ -51,7 +51,7 @@ impl Settings {
         let throttle = self.throttle;
         match s {
             Setting::Ev(e) => Settings {
-                ev: Ev::Held(e),
+                ev: HeldEv::Held(e),
                 face,
                 metadata,
                 hdr,
@@ -61,7 +61,7 @@ impl Settings {
             Setting::Metadata(n) => Settings {
                 ev,
                 face,
-                metadata: Number::Held(n),
+                metadata: HeldNumber::Held(n),
                 hdr,
                 throttle,
             },
@@ -69,7 +69,7 @@ impl Settings {
                 ev,
                 face,
                 metadata,
-                hdr: Number::Held(n),
+                hdr: HeldNumber::Held(n),
                 throttle,
             },
             Setting::Throttle(t) => Settings {
@@ -77,7 +77,7 @@ impl Settings {
                 face,
                 metadata,
                 hdr,
-                throttle: Throttle::Held(t),
+                throttle: HeldThrottle::Held(t),
             },
         }
     }

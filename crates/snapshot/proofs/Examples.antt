@@ -3,8 +3,8 @@ use Prim.Native.Nat.{ℕ}
 use mathlib.Core.Path.{_≡_, refl}
 use mathlib.Core.Bool.{true, false}
 use mathlib.Core.List.{List, [], _∷_, _++_}
-use Rattle.wire.specs.Number.{leAt, number}
-use Rattle.snapshot.specs.Form.{sound, keyAt, formed, wellFormed}
+use Rattle.wire.specs.Numbers.{leAt, number}
+use Rattle.snapshot.specs.Form.{soundRecord, statedKey, formed, wellFormed}
 use Rattle.snapshot.specs.Records.{split, recordsOf}
 
 unfoldable pub ev : List ℕ
@@ -18,19 +18,19 @@ hdr mode = 0x08 ∷ 0 ∷ 0x0D ∷ 0 ∷ mode ∷ 0 ∷ 0 ∷ 0 ∷ []
 
 -- the bench camera's snapshot
 bench : wellFormed (ev ++ hdr 1) ≡ true
-unfolding leAt number wellFormed formed sound keyAt ev hdr
+unfolding leAt number wellFormed formed soundRecord statedKey ev hdr
 bench = refl
 
 -- addresses out of order
 order : wellFormed (face 0x82 1 ++ face 0x81 1) ≡ false
-unfolding leAt number wellFormed formed sound keyAt face
+unfolding leAt number wellFormed formed soundRecord statedKey face
 order = refl
 
 -- an equal key
 twice : wellFormed (hdr 0 ++ hdr 1) ≡ false
-unfolding leAt number wellFormed formed sound keyAt hdr
+unfolding leAt number wellFormed formed soundRecord statedKey hdr
 twice = refl
 
 listed : recordsOf (ev ++ face 0x8F 1 ++ hdr 0) ≡ (0, ev) ∷ (15, face 0x8F 1) ∷ (17, hdr 0) ∷ []
-unfolding leAt number recordsOf split sound keyAt ev face hdr
+unfolding leAt number recordsOf split soundRecord statedKey ev face hdr
 listed = refl

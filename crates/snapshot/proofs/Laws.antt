@@ -5,7 +5,7 @@ pub mod Maps
 pub mod Lengths
 pub mod Form
 pub mod Entries
-pub mod Settings
+pub mod Given
 pub mod Told
 pub mod Stay
 pub mod Cursor

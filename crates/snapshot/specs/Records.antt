@@ -8,23 +8,24 @@ use lib.ListN.{length, take, drop}
 use lib.Dec.{leb, eqb}
 use Rattle.wire.specs.declared.parts.Part.{Part}
 use Rattle.wire.specs.Parts.{nowhere}
-use Rattle.snapshot.specs.Form.{keys, sizeOf, lengthAt, sound, keyAt}
+use Rattle.snapshot.specs.Keys.{keys, recordLength}
+use Rattle.snapshot.specs.Form.{statedLength, soundRecord, statedKey}
 
 -- a sound record of key k stands at the start of s
 unfoldable pub stands : ℕ → List ℕ → Bool
-stands k s = sound s && eqb (keyAt s) k
+stands k s = soundRecord s && eqb (statedKey s) k
 
 -- the key of the sound record at the start of s; `keys`, which is no key, where none stands there
-unfoldable pub keyOf : List ℕ → ℕ
-keyOf s = cond (sound s) (keyAt s) keys
+unfoldable pub keyAt : List ℕ → ℕ
+keyAt s = cond (soundRecord s) (statedKey s) keys
 
 -- how many bytes the record at the start of s has, if it has key k; else 0
 unfoldable pub passed : ℕ → List ℕ → ℕ
-passed k s = cond (stands k s) (sizeOf k) 0
+passed k s = cond (stands k s) (recordLength k) 0
 
 -- s without the record at its start, if that has key k
 unfoldable pub skip : ℕ → List ℕ → List ℕ
-skip k s = cond (stands k s) (drop (sizeOf k) s) s
+skip k s = cond (stands k s) (drop (recordLength k) s) s
 
 -- what is left of s once the records of the keys below k are passed
 unfoldable pub from : List ℕ → ℕ → List ℕ
@@ -33,7 +34,7 @@ from s (suc k) = skip k (from s k)
 
 -- the record at the start of s, if that has key k
 unfoldable pub recordAt : ℕ → List ℕ → Option (List ℕ)
-recordAt k s = cond (stands k s) (some (take (sizeOf k) s)) none
+recordAt k s = cond (stands k s) (some (take (recordLength k) s)) none
 
 -- the record of key k in s, whole
 unfoldable pub decode : List ℕ → ℕ → Option (List ℕ)
@@ -44,70 +45,70 @@ decode s k = recordAt k (from s k)
 unfoldable pub recordPlace : List ℕ → ℕ → Part
 recordPlace s k = cond (leb keys k) nowhere (record { at = length s - length (from s k); len = passed k (from s k) })
 
-abbrev pub bytes : Option (List ℕ) → List ℕ
-bytes none = []
-bytes (some r) = r
+abbrev pub recordBytes : Option (List ℕ) → List ℕ
+recordBytes none = []
+recordBytes (some r) = r
 
 -- the bytes of the records of the n keys from k on, in ascending order
 unfoldable pub records : ℕ → ℕ → (ℕ → Option (List ℕ)) → List ℕ
 records zero k m = []
-records (suc n) k m = bytes (m k) ++ records n (suc k) m
+records (suc n) k m = recordBytes (m k) ++ records n (suc k) m
 
 -- the snapshot of given records
 unfoldable pub encode : (ℕ → Option (List ℕ)) → List ℕ
 encode m = records keys 0 m
 
 -- how many of the n keys from k on have a record
-abbrev pub counted : Option (List ℕ) → ℕ → ℕ
-counted none n = n
-counted (some r) n = suc n
+abbrev pub countOne : Option (List ℕ) → ℕ → ℕ
+countOne none n = n
+countOne (some r) n = suc n
 
 unfoldable pub recordCount : ℕ → ℕ → (ℕ → Option (List ℕ)) → ℕ
 recordCount zero k m = 0
-recordCount (suc n) k m = counted (m k) (recordCount n (suc k) m)
+recordCount (suc n) k m = countOne (m k) (recordCount n (suc k) m)
 
 -- a record of key k: the bytes of a sound record, no more and no fewer
-pub record Record (k : ℕ) (r : List ℕ) : Type 0 where
-  pub long : length r ≡ sizeOf k
+pub record RecordOf (k : ℕ) (r : List ℕ) : Type 0 where
+  pub long : length r ≡ recordLength k
   pub is : stands k r ≡ true
 
 -- given records are records of their keys
 abbrev pub GoodAt : ℕ → Option (List ℕ) → Type 0
 GoodAt k none = Unit {0}
-GoodAt k (some r) = Record k r
+GoodAt k (some r) = RecordOf k r
 
 abbrev pub Good : (ℕ → Option (List ℕ)) → Type 0
 Good m = (k : ℕ) → GoodAt k (m k)
 
 -- a record with its key
-abbrev pub Entry : Type 0
-Entry = ℕ × List ℕ
+abbrev pub KeyedRecord : Type 0
+KeyedRecord = ℕ × List ℕ
 
 -- record by record, as the bytes have them, up to the first that is not sound
-unfoldable pub split : ℕ → List ℕ → List Entry
+unfoldable pub split : ℕ → List ℕ → List KeyedRecord
 split zero s = []
-split (suc fuel) s = cond (sound s) ((keyAt s, take (lengthAt s) s) ∷ split fuel (drop (lengthAt s) s)) []
+split (suc fuel) s = cond (soundRecord s) ((statedKey s, take (statedLength s) s) ∷ split fuel (drop (statedLength s) s)) []
 
 -- the records of a snapshot in order, each with its key
-unfoldable pub recordsOf : List ℕ → List Entry
+unfoldable pub recordsOf : List ℕ → List KeyedRecord
 recordsOf s = split (length s) s
 
 -- the record of key k among them
-abbrev pub find : ℕ → List Entry → Option (List ℕ)
+abbrev pub find : ℕ → List KeyedRecord → Option (List ℕ)
 find k [] = none
 find k (e ∷ l) = cond (eqb (e .0) k) (some (e .1)) (find k l)
 
 -- their keys ascend strictly, from `low` on
-abbrev pub Ascending : ℕ → List Entry → Type 0
+abbrev pub Ascending : ℕ → List KeyedRecord → Type 0
 Ascending low [] = Unit {0}
 Ascending low (e ∷ l) = (low ≤ e .0) × Ascending (suc (e .0)) l
 
 -- their bytes, one record behind the other
-abbrev pub joined : List Entry → List ℕ
+abbrev pub joined : List KeyedRecord → List ℕ
 joined [] = []
 joined (e ∷ l) = e .1 ++ joined l
 
 -- P holds of each, its key and its bytes
-abbrev pub Each : (ℕ → List ℕ → Type 0) → List Entry → Type 0
+abbrev pub Each : (ℕ → List ℕ → Type 0) → List KeyedRecord → Type 0
 Each P [] = Unit {0}
 Each P (e ∷ l) = P (e .0) (e .1) × Each P l

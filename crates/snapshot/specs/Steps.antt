@@ -5,7 +5,8 @@ use mathlib.Core.Bool.{true, cond}
 use mathlib.Core.List.{List}
 use lib.ListN.{length, drop}
 use Rattle.wire.specs.Rows.{allOf}
-use Rattle.snapshot.specs.Form.{keys, keyFor, tests}
+use Rattle.snapshot.specs.Keys.{keys, keyFor}
+use Rattle.snapshot.specs.Form.{recordTests}
 use Rattle.snapshot.specs.Records.{from}
 
 -- the records of the keys below k of s end at `at`
@@ -16,4 +17,4 @@ pub record Cursor (s : List ℕ) (at k : ℕ) : Type 0 where
 -- the key of a record by the length and the kind that it states and its bytes 4 and 5, however many bytes are left, whatever a throttle's
 -- tail is; `keys` where these have a fault
 abbrev pub keyBy : ℕ → ℕ → ℕ → ℕ → ℕ
-keyBy len kind n address = cond (allOf (tests len len kind n address true)) (keyFor kind address) keys
+keyBy len kind n address = cond (allOf (recordTests len len kind n address true)) (keyFor kind address) keys

@@ -7,7 +7,8 @@ use mathlib.Core.List.{List}
 use mathlib.Core.Option.{Option}
 use lib.ListN.{length}
 use Rattle.wire.specs.Endpoints.{places, endpointLimit}
-use Rattle.snapshot.specs.Form.{longest, wellFormed, place, sound, keyAt}
+use Rattle.snapshot.specs.Keys.{longestSnapshot}
+use Rattle.snapshot.specs.Form.{wellFormed, orderPlace, soundRecord, statedKey}
 use Rattle.snapshot.specs.Records.{decode, encode, recordCount, Good, recordsOf, find, Ascending, joined}
 
 -- Demand 2, what is written reads back the same: well-formed bytes are the snapshot of their records, and the snapshot of given records is
@@ -31,9 +32,9 @@ AllInOrder = (s : List ℕ) → wellFormed s ≡ true → InOrder s
 -- The order of keys is 01's: by kind, then address.
 abbrev pub KeyOrder : Type 0
 KeyOrder =
-    (s t : List ℕ) → sound s ≡ true → sound t ≡ true
-    → (keyAt s < keyAt t → place s < place t) × (keyAt s ≡ keyAt t → place s ≡ place t)
+    (s t : List ℕ) → soundRecord s ≡ true → soundRecord t ≡ true
+    → (statedKey s < statedKey t → orderPlace s < orderPlace t) × (statedKey s ≡ statedKey t → orderPlace s ≡ orderPlace t)
 
 -- 01's lengths: a snapshot has at most 250 bytes, and at most 159 with at most 8 endpoints, as many as a profile may have.
 abbrev pub Longest : Type 0
-Longest = (m : ℕ → Option (List ℕ)) → Good m → (length (encode m) ≤ longest) × (recordCount places 1 m ≤ endpointLimit → length (encode m) ≤ 159)
+Longest = (m : ℕ → Option (List ℕ)) → Good m → (length (encode m) ≤ longestSnapshot) × (recordCount places 1 m ≤ endpointLimit → length (encode m) ≤ 159)

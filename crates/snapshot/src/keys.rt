@@ -6,7 +6,7 @@ use wire::selectors;
 ghost use mathlib.Core.Path.{_≡_};
 ghost use mathlib.Core.Bool.{cond};
 ghost use lib.Dec.{eqb};
-ghost use Rattle.snapshot.specs.Form.{keys, sizeOf};
+ghost use Rattle.snapshot.specs.Keys.{keys, recordLength};
 ghost use Rattle.snapshot.specs.Steps.{keyBy};
 
 pub const EV_KEY: usize = 0;
@@ -36,8 +36,8 @@ const FIRST: usize = endpoints::FIRST as usize;
 const LAST: usize = FIRST + PLACES - 1;
 
 // The length of a record of a key; 0 where there is no such key.
-pub fn size_of(key: usize) -> usize
-    ensures { λ r. ⌜ r ≡ sizeOf key ⌝ }
+pub fn record_length(key: usize) -> usize
+    ensures { λ r. ⌜ r ≡ recordLength key ⌝ }
 {
     if key == EV_KEY {
         return 15;
@@ -56,9 +56,9 @@ pub fn size_of(key: usize) -> usize
 
 // The key, if its records have this length; else KEYS.
 fn key_if(len: usize, key: usize) -> usize
-    ensures { λ r. ⌜ r ≡ cond (eqb len (sizeOf key)) key keys ⌝ }
+    ensures { λ r. ⌜ r ≡ cond (eqb len (recordLength key)) key keys ⌝ }
 {
-    if len == size_of(key) {
+    if len == record_length(key) {
         return key;
     }
     KEYS

@@ -2,13 +2,13 @@
 use crate::keys::KEYS;
 use crate::keys::THROTTLE_KEY;
 use crate::keys::key_by;
-use crate::keys::size_of;
+use crate::keys::record_length;
 use wire::Part;
 ghost use mathlib.Core.Path.{_≡_};
 ghost use lib.ListN.{drop};
 ghost use Rattle.wire.specs.Parts.{PartOf};
-ghost use Rattle.snapshot.specs.Form.{tailAt, zeros};
-ghost use Rattle.snapshot.specs.Records.{keyOf, decode, bytes, recordPlace};
+ghost use Rattle.snapshot.specs.Form.{throttleTail, zeros};
+ghost use Rattle.snapshot.specs.Records.{keyAt, decode, recordBytes, recordPlace};
 ghost use Rattle.snapshot.specs.Steps.{Cursor};
 
 // No record has fewer bytes.
@@ -16,14 +16,14 @@ const SHORTEST: usize = 8;
 
 // Whether the tail of a throttle's record is zero.
 fn zero_tail(r: &[u8]) -> bool
-    ensures { λ b. ⌜ b ≡ zeros (tailAt (now (r .entry))) ⌝ }
+    ensures { λ b. ⌜ b ≡ zeros (throttleTail (now (r .entry))) ⌝ }
 {
     (wire::le32(r, 12) == 0) & (wire::le32(r, 16) == 0) & (wire::le32(r, 20) == 0)
 }
 
 // The key of the sound record at `at`; KEYS where none stands there.
 pub fn key_at(s: &[u8], at: usize) -> usize
-    ensures { λ r. ⌜ r ≡ keyOf (drop at (now (s .entry))) ⌝ }
+    ensures { λ r. ⌜ r ≡ keyAt (drop at (now (s .entry))) ⌝ }
 {
     let r = wire::tail(s, at);
     if r.len() < SHORTEST {
@@ -54,7 +54,7 @@ pub(crate) fn start_of(s: &[u8], key: usize) -> usize
     let mut low = 0;
     let mut k = key_at(s, 0);
     while (low <= k) & (k < key) {
-        at += size_of(k);
+        at += record_length(k);
         low = k + 1;
         k = key_at(s, at);
     }
@@ -63,14 +63,14 @@ pub(crate) fn start_of(s: &[u8], key: usize) -> usize
 
 // The record of a key, whole, where it stands; empty where there is none.
 pub fn record_of(s: &[u8], key: usize) -> &[u8]
-    ensures { λ r. ⌜ (now r ≡ bytes (decode (now (s .entry)) key)) × PartOf (s .entry) (recordPlace (now (s .entry)) key) r ⌝ }
+    ensures { λ r. ⌜ (now r ≡ recordBytes (decode (now (s .entry)) key)) × PartOf (s .entry) (recordPlace (now (s .entry)) key) r ⌝ }
 {
     if KEYS <= key {
         return wire::part_at(s, Part { at: 0, len: 0 });
     }
     let at = start_of(s, key);
     if key_at(s, at) == key {
-        let n = size_of(key);
+        let n = record_length(key);
         return wire::part_at(s, Part { at, len: n });
     }
     wire::part_at(s, Part { at, len: 0 })

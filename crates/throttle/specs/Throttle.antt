@@ -3,17 +3,17 @@ use Prim.Native.Nat.{ℕ, _%_}
 use mathlib.Core.List.{List, [], _∷_, _++_}
 use mathlib.Core.Bool.{Bool, cond, not, _&&_, _||_}
 use lib.Dec.{leb, ltb, eqb}
-use Rattle.wire.specs.Number.{leAt, bytesOf}
+use Rattle.wire.specs.Numbers.{leAt, bytesOf}
 use Rattle.wire.specs.Rows.{_⇒_, firstOf}
 use Rattle.wire.specs.Uvc.{getCur, getMax, getMin, getRes, invalidValue, outOfRange}
 use Rattle.throttle.specs.declared.ThrottleLimits.{ThrottleLimits}
 use Rattle.controls.specs.declared.ThrottleSetting.{ThrottleSetting}
-use Rattle.throttle.specs.declared.Throttle.{Throttle}
-use Rattle.throttle.specs.declared.Throttle.the-variants as T
+use Rattle.throttle.specs.declared.HeldThrottle.{HeldThrottle}
+use Rattle.throttle.specs.declared.HeldThrottle.the-variants as T
 use Rattle.controls.specs.declared.Item.{Item}
 use Rattle.controls.specs.declared.Setting.the-variants as S
 use Rattle.request.specs.Answers.{answerBy}
-use Rattle.controls.specs.Settings.{itemOf}
+use Rattle.controls.specs.Controls.{itemOf}
 
 -- n is a multiple of step
 abbrev pub divides : ℕ → ℕ → Bool
@@ -43,13 +43,13 @@ throttleItem l payload =
 abbrev pub throttleDefault : ThrottleLimits → ThrottleSetting
 throttleDefault l = record { mode = 0; percent = l .maximum }
 
-unfoldable pub throttleCurrent : ThrottleLimits → Throttle → ThrottleSetting
+unfoldable pub throttleCurrent : ThrottleLimits → HeldThrottle → ThrottleSetting
 throttleCurrent l T.Unset = throttleDefault l
 throttleCurrent l (T.Held s) = s
 
 -- MIN, MAX, RES, CUR, else DEF
-unfoldable pub throttleAt : ThrottleLimits → Throttle → ℕ → ThrottleSetting
-throttleAt l held code =
+unfoldable pub throttleAttribute : ThrottleLimits → HeldThrottle → ℕ → ThrottleSetting
+throttleAttribute l held code =
     cond (eqb code getMin) (record { mode = 0; percent = l .minimum })
     (cond (eqb code getMax) (record { mode = 1; percent = l .maximum })
     (cond (eqb code getRes) (record { mode = 0; percent = l .step })
@@ -62,5 +62,5 @@ throttleBytes s tail =
     bytesOf 4 (s .mode) ++ bytesOf 4 (s .percent) ++ bytesOf 4 (tail .minimum) ++ bytesOf 4 (tail .maximum) ++ bytesOf 4 (tail .step)
 
 -- a full answer has the limits behind them
-unfoldable pub throttleAnswer : ThrottleLimits → Throttle → ℕ → List ℕ
-throttleAnswer l held code = answerBy code 20 0x03 (throttleBytes (throttleAt l held code) l)
+unfoldable pub throttleAnswer : ThrottleLimits → HeldThrottle → ℕ → List ℕ
+throttleAnswer l held code = answerBy code 20 0x03 (throttleBytes (throttleAttribute l held code) l)

@@ -14,7 +14,7 @@ use wire::uvc::INVALID_VALUE;
 use wire::uvc::OUT_OF_RANGE;
 ghost use mathlib.Core.Path.{_≡_};
 ghost use Rattle.request.specs.Answers.{packed};
-ghost use Rattle.throttle.specs.Throttle.{divides, throttleValid, throttleRefusal, throttleItem, throttleAt, throttleBytes, throttleAnswer};
+ghost use Rattle.throttle.specs.Throttle.{divides, throttleValid, throttleRefusal, throttleItem, throttleAttribute, throttleBytes, throttleAnswer};
 
 pub struct ThrottleLimits {
     pub minimum: u32,
@@ -22,13 +22,13 @@ pub struct ThrottleLimits {
     pub step: u32,
 }
 
-pub enum Throttle {
+pub enum HeldThrottle {
     Unset,
     Held(ThrottleSetting),
 }
 
 // Whether n is a multiple of step; of 0 only 0 is.
-fn is_multiple(step: u32, n: u32) -> bool
+fn divides(step: u32, n: u32) -> bool
     ensures { λ r. ⌜ r ≡ divides step n ⌝ }
 {
     if step == 0 {
@@ -44,8 +44,8 @@ pub fn valid(l: ThrottleLimits) -> bool
         & (l.minimum <= l.maximum)
         & (l.maximum <= 100)
         & (1 <= l.step)
-        & is_multiple(l.step, l.minimum)
-        & is_multiple(l.step, l.maximum)
+        & divides(l.step, l.minimum)
+        & divides(l.step, l.maximum)
 }
 
 // SET's value tests, and those of a setting held.
@@ -61,7 +61,7 @@ pub fn refusal(l: ThrottleLimits, mode: u32, percent: u32) -> u8
     if 1 < mode {
         return INVALID_VALUE;
     }
-    if is_multiple(l.step, percent) {
+    if divides(l.step, percent) {
         return 0;
     }
     INVALID_VALUE
@@ -80,8 +80,8 @@ pub fn item(l: ThrottleLimits, payload: &[u8]) -> Item
 }
 
 // The mode and the percent that a GET asks for.
-fn at(l: ThrottleLimits, held: Throttle, code: u8) -> ThrottleSetting
-    ensures { λ r. ⌜ r ≡ throttleAt l held code ⌝ }
+fn attribute(l: ThrottleLimits, held: HeldThrottle, code: u8) -> ThrottleSetting
+    ensures { λ r. ⌜ r ≡ throttleAttribute l held code ⌝ }
 {
     if code == GET_MIN {
         return ThrottleSetting {
@@ -103,11 +103,11 @@ fn at(l: ThrottleLimits, held: Throttle, code: u8) -> ThrottleSetting
     }
     if code == GET_CUR {
         return match held {
-            Throttle::Unset => ThrottleSetting {
+            HeldThrottle::Unset => ThrottleSetting {
                 mode: 0,
                 percent: l.maximum,
             },
-            Throttle::Held(s) => s,
+            HeldThrottle::Held(s) => s,
         };
     }
     ThrottleSetting {
@@ -129,9 +129,9 @@ fn bytes(s: ThrottleSetting, tail: ThrottleLimits) -> [u8; 20]
     b
 }
 
-pub fn answer(l: ThrottleLimits, held: Throttle, code: u8) -> Answer
+pub fn answer(l: ThrottleLimits, held: HeldThrottle, code: u8) -> Answer
     ensures { λ r. ⌜ r ≡ packed (throttleAnswer l held code) ⌝ }
 {
-    let b = bytes(at(l, held, code), l);
+    let b = bytes(attribute(l, held, code), l);
     answer_by(code, 20, 0x03, &b)
 }

@@ -6,15 +6,16 @@ use crate::words::signed;
 use crate::words::word;
 use camera::Camera;
 use controls::EvSetting;
-use controls::Number;
+use controls::HeldNumber;
 use controls::ThrottleSetting;
-use exposure::Ev;
+use exposure::HeldEv;
 use exposure::EvLimits;
 use face::FaceLimits;
+use hdr::HdrLimits;
 use metadata::MetadataLimits;
 use profile::Profile;
 use settings::Settings;
-use throttle::Throttle;
+use throttle::HeldThrottle;
 use throttle::ThrottleLimits;
 
 fn flag(w: &[u8]) -> bool {
@@ -35,8 +36,8 @@ fn fifteen(w: &[u8]) -> [u8; 15] {
 
 fn ev_limits(w: &[u8]) -> EvLimits {
     EvLimits {
-        low: signed(number(w, 0)),
-        high: signed(number(w, 4)),
+        minimum: signed(number(w, 0)),
+        maximum: signed(number(w, 4)),
         steps: octet(w, 8),
     }
 }
@@ -69,6 +70,7 @@ pub(crate) fn profile(call: &[u8]) -> Profile {
     let ev = ev_limits(word(call, 4));
     let face = face_limits(word(call, 5), word(call, 6), word(call, 7));
     let metadata = metadata_limits(word(call, 8));
+    let auto = flag(word(call, 9));
     let throttle = throttle_limits(word(call, 10));
     Profile {
         unit: octet(word(call, 1), 0),
@@ -77,33 +79,33 @@ pub(crate) fn profile(call: &[u8]) -> Profile {
         ev,
         face,
         metadata,
-        auto: flag(word(call, 9)),
+        hdr: HdrLimits { auto },
         throttle,
     }
 }
 
-fn ev(w: &[u8]) -> Ev {
+fn ev(w: &[u8]) -> HeldEv {
     if w.len() < 2 {
-        return Ev::Unset;
+        return HeldEv::Unset;
     }
-    Ev::Held(EvSetting {
+    HeldEv::Held(EvSetting {
         flags: octet(w, 0),
         value: signed(number(w, 1)),
     })
 }
 
-fn held(w: &[u8]) -> Number {
+fn held(w: &[u8]) -> HeldNumber {
     if w.len() < 2 {
-        return Number::Unset;
+        return HeldNumber::Unset;
     }
-    Number::Held(number(w, 0))
+    HeldNumber::Held(number(w, 0))
 }
 
-fn throttle(w: &[u8]) -> Throttle {
+fn throttle(w: &[u8]) -> HeldThrottle {
     if w.len() < 2 {
-        return Throttle::Unset;
+        return HeldThrottle::Unset;
     }
-    Throttle::Held(ThrottleSetting {
+    HeldThrottle::Held(ThrottleSetting {
         mode: number(w, 0),
         percent: number(w, 4),
     })

@@ -33,7 +33,7 @@ fn form(call: &[u8]) {
 // How many bytes the record at the start has, if it has this key.
 fn passed(s: &[u8], key: usize) -> usize {
     if snapshot::key_at(s, 0) == key {
-        return snapshot::size_of(key);
+        return snapshot::record_length(key);
     }
     0
 }
@@ -45,7 +45,7 @@ fn key(call: &[u8]) {
     let s = wire::head(&bytes, n);
     let key = place(word(call, 1));
     print::text(b" =");
-    print::count(snapshot::size_of(key));
+    print::count(snapshot::record_length(key));
     print::count(passed(s, key));
     print::count(snapshot::record_of(s, key).len());
 }

@@ -1,5 +1,5 @@
 pub mod Bytes
 pub mod Numbers
-pub mod Overlay
+pub mod Writes
 pub mod Parts
 pub mod Rows

@@ -14,7 +14,7 @@ pub use numbers::bytes32;
 pub use numbers::flag_word;
 pub use numbers::le16;
 pub use numbers::le32;
-pub use numbers::least;
+pub use numbers::min;
 pub use parts::Part;
 pub use parts::head;
 pub use parts::part_at;

@@ -3,7 +3,7 @@ use crate::parts::tail;
 ghost use mathlib.Core.Path.{_≡_};
 ghost use Prim.Native.Nat.{_≤_, _<_, _^_, min};
 ghost use lib.ListN.{getD};
-ghost use Rattle.wire.specs.Number.{leAt, bytesOf};
+ghost use Rattle.wire.specs.Numbers.{leAt, bytesOf};
 
 // The byte at i, 0 past the end.
 pub fn byte(s: &[u8], i: usize) -> u8
@@ -16,7 +16,7 @@ pub fn byte(s: &[u8], i: usize) -> u8
 }
 
 // The smaller of two.
-pub fn least(a: usize, b: usize) -> usize
+pub fn min(a: usize, b: usize) -> usize
     ensures { λ r. ⌜ r ≡ min a b ⌝ }
 {
     if a < b { a } else { b }

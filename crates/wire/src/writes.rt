@@ -5,8 +5,8 @@ ghost use mathlib.Core.Path.{_≡_};
 ghost use Prim.Native.Nat.{_+_, _≤_};
 ghost use lib.ListN.{length};
 ghost use lib.Seq.{paste};
-ghost use Rattle.wire.specs.Number.{bytesOf};
-ghost use Rattle.wire.specs.Overlay.{overlay};
+ghost use Rattle.wire.specs.Numbers.{bytesOf};
+ghost use Rattle.wire.specs.Writes.{overlay};
 
 // Lays all of src over dst, from `at` on, where there is room.
 fn fill(dst: &mut [u8], at: usize, src: &[u8])

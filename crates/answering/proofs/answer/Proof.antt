@@ -1,10 +1,10 @@
 use borrow.Author.Tests.{ne-eqb}
-use Rattle.exposure.specs.Ev.{evAnswer}
+use Rattle.exposure.specs.Exposure.{evAnswer}
 use Rattle.face.specs.Answers.{faceAnswer}
 use Rattle.metadata.specs.Metadata.{metadataAnswer}
 use Rattle.hdr.specs.Hdr.{hdrAnswer}
 use Rattle.throttle.specs.Throttle.{throttleAnswer}
-use Rattle.answering.specs.Answers.{valueOf, answerOf}
+use Rattle.answering.specs.Answering.{valueOf, controlAnswer}
 use borrow.Author.Needs.{needs}
 use Rattle.answering.proofs.answer.Statement.{statement}
 use Rattle.answering.proofs.answer.Tie as tie
@@ -13,35 +13,35 @@ answer-requires : tie.Need-answer-requires
 answer-requires c κs = search needs
 
 returns : tie.Need-returns
-unfolding answerOf valueOf evAnswer
+unfolding controlAnswer valueOf evAnswer
 returns c = rw (c .before .if1 .taken) (c .answer .ensures)
 
 answer-requires-2 : tie.Need-answer-requires-2
 answer-requires-2 c κs = search needs
 
 returns-2 : tie.Need-returns-2
-unfolding answerOf valueOf faceAnswer
+unfolding controlAnswer valueOf faceAnswer
 returns-2 c = rw (c .before .before .if2 .taken) (c .answer2 .ensures)
 
 answer-requires-3 : tie.Need-answer-requires-3
 answer-requires-3 c κs = search needs
 
 returns-3 : tie.Need-returns-3
-unfolding answerOf valueOf metadataAnswer
+unfolding controlAnswer valueOf metadataAnswer
 returns-3 c = rw (c .before .if3 .taken) (c .answer3 .ensures)
 
 answer-requires-4 : tie.Need-answer-requires-4
 answer-requires-4 c κs = search needs
 
 returns-4 : tie.Need-returns-4
-unfolding answerOf valueOf hdrAnswer
+unfolding controlAnswer valueOf hdrAnswer
 returns-4 c = rw (c .before .if4 .taken) (c .answer4 .ensures)
 
 answer-requires-5 : tie.Need-answer-requires-5
 answer-requires-5 c κs = search needs
 
 returns-5 : tie.Need-returns-5
-unfolding answerOf valueOf throttleAnswer
+unfolding controlAnswer valueOf throttleAnswer
 returns-5 c =
     rw (ne-eqb _ _ (c .before .before .before .before .if1 .left), ne-eqb _ _ (c .before .before .before .if2 .left), ne-eqb _ _ (c .before .before .if3 .left), ne-eqb _ _ (c .before .if4 .left)) (c .answer5 .ensures)
 

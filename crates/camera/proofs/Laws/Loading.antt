@@ -11,25 +11,25 @@ use lib.ListN.{length, take, drop}
 use borrow.Author.Tests.{eq-eqb, ne-eqb, leb-true, leb-false}
 use borrow.Author.Count.{below-more}
 use Rattle.wire.specs.Uvc.{malformedRecord, malformedSnapshot}
-use Rattle.snapshot.specs.Form.{keys, sizeOf}
-use Rattle.snapshot.specs.Form as form
-use Rattle.snapshot.specs.Records.{keyOf, decode}
+use Rattle.snapshot.specs.Keys.{keys, recordLength}
+use Rattle.snapshot.specs.Form.{formCode, wellFormed}
+use Rattle.snapshot.specs.Records.{keyAt, decode}
 use Rattle.snapshot.proofs.Laws.Walk.{At, first-at, none-before, record-at, next-at, next-above, next-within, none-between}
 use Rattle.controls.specs.declared.Item.{Item}
 use Rattle.controls.specs.declared.Item.the-variants.{Refused}
 use Rattle.controls.specs.declared.Setting.{Setting}
-use Rattle.controls.specs.Settings.{codeOf}
+use Rattle.controls.specs.Controls.{itemCode}
 use Rattle.controls.proofs.Laws.Items.{stops, passes}
 use Rattle.profile.specs.declared.Profile.{Profile}
 use Rattle.settings.specs.declared.settings.Settings.{Settings}
-use Rattle.profile.specs.Items.{itemAt}
-use Rattle.settings.specs.Items.{givenOf, allGiven, puts}
+use Rattle.profile.specs.Items.{profileItem}
+use Rattle.settings.specs.Items.{givenOf, allGiven, putAll}
 use Rattle.settings.proofs.Laws.Items.{given-next, puts-next}
 use Rattle.camera.specs.declared.record.Camera.{Camera}
 use Rattle.camera.specs.declared.calls.Outcome.{Outcome}
-use Rattle.camera.specs.Record.{withSettings, wellFormed}
+use Rattle.camera.specs.Record.{withSettings, recordWellFormed}
 use Rattle.camera.specs.Requests.{controlRefusal, refused, outcomeBy}
-use Rattle.camera.specs.Snapshots.{selectorAt, recordItem, loadRefusal, loadTests, loadCode, loadGives, loaded}
+use Rattle.camera.specs.Loading.{selectorAt, recordItem, loadRefusal, loadTests, loadCode, loadGives, loaded}
 use Rattle.camera.specs.Steps.{loadDone}
 
 -- a record of key k as a SET, by what the calls ensure
@@ -42,11 +42,11 @@ module _ (p : Profile) (streaming : Bool) (k : ℕ) (r : List ℕ) {selector cod
   unfolding recordItem
   record-refused bad = rw (← code-is, ne-eqb code 0 bad)
 
-  pub record-tested : {l : List ℕ} {i : Item} → code ≡ 0 → l ≡ drop 4 r → i ≡ itemAt p selector l 0 → i ≡ recordItem p streaming k r
+  pub record-tested : {l : List ℕ} {i : Item} → code ≡ 0 → l ≡ drop 4 r → i ≡ profileItem p selector l 0 → i ≡ recordItem p streaming k r
   unfolding recordItem
   record-tested {l} {i} z e f =
       f
-      ∙ ap₂ (λ (j : ℕ) (m : List ℕ). itemAt p j m 0) is-selector e
+      ∙ ap₂ (λ (j : ℕ) (m : List ℕ). profileItem p j m 0) is-selector e
       ∙ rw (eq-eqb (controlRefusal p streaming (selectorAt k)) 0 (sym code-is ∙ z))
 
 -- keys without a record give nothing
@@ -68,7 +68,7 @@ module _ (given : ℕ → List (ℕ × Setting)) where
 
 -- the number of a record of key k, and what it gives: 0 and nothing where there is none
 abbrev pub codeBy : Profile → Bool → ℕ → Option (List ℕ) → ℕ
-codeBy p streaming k o = Option·elim (Option·map (recordItem p streaming k) o) 0 codeOf
+codeBy p streaming k o = Option·elim (Option·map (recordItem p streaming k) o) 0 itemCode
 
 abbrev pub givenBy : Profile → Bool → ℕ → Option (List ℕ) → List (ℕ × Setting)
 givenBy p streaming k o = Option·elim (Option·map (recordItem p streaming k) o) [] givenOf
@@ -91,26 +91,26 @@ module _ (c : Camera) (s : List ℕ) where
   -- what stands before the record of key k: those below it are taken
   pub record Loads (h : Settings) (at k : ℕ) : Type 0 where
     pub here : At s at k
-    pub is : h ≡ puts (c .settings) (allGiven k 0 givenAt)
+    pub is : h ≡ putAll (c .settings) (allGiven k 0 givenAt)
     pub taken : (j : ℕ) → j < k → codeAt j ≡ 0
 
-  pub nothing-loaded : form.wellFormed s ≡ true → {k : ℕ} → k ≡ keyOf (drop 0 s) → Loads (c .settings) 0 k
-  unfolding puts allGiven
+  pub nothing-loaded : wellFormed s ≡ true → {k : ℕ} → k ≡ keyAt (drop 0 s) → Loads (c .settings) 0 k
+  unfolding putAll allGiven
   nothing-loaded w e = rw e (record {
     here = first-at s w;
-    is = sym (ap (puts (c .settings)) (given-between givenAt 0 (keyOf (drop 0 s)) (omega arith) (λ j l u. absent-given j (none-before s w j u))));
+    is = sym (ap (putAll (c .settings)) (given-between givenAt 0 (keyAt (drop 0 s)) (omega arith) (λ j l u. absent-given j (none-before s w j u))));
     taken = λ j l. absent-code j (none-before s w j l);
   })
 
   -- a turn, by what the calls ensure
-  module _ {h : Settings} {at k n : ℕ} {r : List ℕ} {i : Item} {code : ℕ} (w : Loads h at k) (l : k < keys) (is-size : n ≡ sizeOf k)
-      (is-part : r ≡ take n (drop at s)) (is-item : i ≡ recordItem (c .profile) (c .streaming) k r) (is-code : code ≡ codeOf i) where
-    item-here : i ≡ recordItem (c .profile) (c .streaming) k (take (sizeOf k) (drop at s))
+  module _ {h : Settings} {at k n : ℕ} {r : List ℕ} {i : Item} {code : ℕ} (w : Loads h at k) (l : k < keys) (is-size : n ≡ recordLength k)
+      (is-part : r ≡ take n (drop at s)) (is-item : i ≡ recordItem (c .profile) (c .streaming) k r) (is-code : code ≡ itemCode i) where
+    item-here : i ≡ recordItem (c .profile) (c .streaming) k (take (recordLength k) (drop at s))
     item-here = is-item ∙ ap (recordItem (c .profile) (c .streaming) k) (is-part ∙ ap (λ (m : ℕ). take m (drop at s)) is-size)
 
     code-here : code ≡ codeAt k
     unfolding Option·elim
-    code-here = is-code ∙ ap codeOf item-here ∙ sym (ap (codeBy (c .profile) (c .streaming) k) (record-at (w .here) l))
+    code-here = is-code ∙ ap itemCode item-here ∙ sym (ap (codeBy (c .profile) (c .streaming) k) (record-at (w .here) l))
 
     given-here : givenOf i ≡ givenAt k
     unfolding Option·elim
@@ -119,8 +119,8 @@ module _ (c : Camera) (s : List ℕ) where
     pub load-within : at + n ≤ length s
     load-within = omega (arith, is-size, next-within (w .here) l)
 
-    pub load-above : {j : ℕ} → j ≡ keyOf (drop (at + n) s) → k < j
-    load-above e = omega (arith, e, ap (λ (x : ℕ). keyOf (drop (at + x) s)) is-size, next-above (w .here) l)
+    pub load-above : {j : ℕ} → j ≡ keyAt (drop (at + n) s) → k < j
+    load-above e = omega (arith, e, ap (λ (x : ℕ). keyAt (drop (at + x) s)) is-size, next-above (w .here) l)
 
     pub load-stops : (code ≡ 0 → ⊥) → refused code c ≡ loadDone c s
     unfolding loadDone loadRefusal
@@ -128,18 +128,18 @@ module _ (c : Camera) (s : List ℕ) where
         let e = code-here ∙ sym (stops codeAt keys k (w .taken) l (λ z. bad (code-here ∙ z))) in
         rw (← e, ne-eqb code 0 bad)
 
-    pub load-next : code ≡ 0 → {next : Settings} → next ≡ puts h (givenOf i) → {j : ℕ} → j ≡ keyOf (drop (at + n) s) → Loads next (at + n) j
+    pub load-next : code ≡ 0 → {next : Settings} → next ≡ putAll h (givenOf i) → {j : ℕ} → j ≡ keyAt (drop (at + n) s) → Loads next (at + n) j
     load-next z is-put {j} e =
-        let m : at + n ≡ at + sizeOf k = ap (λ (x : ℕ). at + x) is-size in
-        let q : j ≡ keyOf (drop (at + sizeOf k) s) = e ∙ ap (λ (x : ℕ). keyOf (drop x s)) m in
+        let m : at + n ≡ at + recordLength k = ap (λ (x : ℕ). at + x) is-size in
+        let q : j ≡ keyAt (drop (at + recordLength k) s) = e ∙ ap (λ (x : ℕ). keyAt (drop x s)) m in
         let above : k < j = omega (arith, q, next-above (w .here) l) in
         let gap : (i : ℕ) → k + 1 ≤ i → i < j → decode s i ≡ none = λ i a b. none-between (w .here) l i (omega arith) (omega (arith, q)) in
         rw (m, q) (record {
           here = next-at (w .here) l;
           is = is-put
-              ∙ ap₂ puts (w .is) given-here
+              ∙ ap₂ putAll (w .is) given-here
               ∙ sym (puts-next (c .settings) k givenAt)
-              ∙ ap (puts (c .settings)) (sym (given-between givenAt (k + 1) (keyOf (drop (at + sizeOf k) s)) (omega (arith, q, above)) (λ i a b. absent-given i (gap i a (omega (arith, q))))));
+              ∙ ap (putAll (c .settings)) (sym (given-between givenAt (k + 1) (keyAt (drop (at + recordLength k) s)) (omega (arith, q, above)) (λ i a b. absent-given i (gap i a (omega (arith, q))))));
           taken = λ i b. go i (leb (k + 1) i) refl (λ a. gap i a (omega (arith, q)));
         })
       where
@@ -156,36 +156,36 @@ module _ (c : Camera) (s : List ℕ) where
       rw (e, w .is, q, z)
 
 -- what a load answers, by its form
-form-good : (s : List ℕ) → form.formCode s ≡ 0 → form.wellFormed s ≡ true
-unfolding form.formCode
-form-good s e = go (form.wellFormed s) e
+form-good : (s : List ℕ) → formCode s ≡ 0 → wellFormed s ≡ true
+unfolding formCode
+form-good s e = go (wellFormed s) e
   where
     go : (b : Bool) → cond {A = ℕ} b 0 malformedSnapshot ≡ 0 → b ≡ true
     go true q = refl
     go false q = absurd (omega arith)
 
-form-bad : (s : List ℕ) → (form.formCode s ≡ 0 → ⊥) → (form.wellFormed s ≡ false) × (form.formCode s ≡ malformedSnapshot)
-unfolding form.formCode
-form-bad s bad = go (form.wellFormed s) bad
+form-bad : (s : List ℕ) → (formCode s ≡ 0 → ⊥) → (wellFormed s ≡ false) × (formCode s ≡ malformedSnapshot)
+unfolding formCode
+form-bad s bad = go (wellFormed s) bad
   where
     go : (b : Bool) → (cond {A = ℕ} b 0 malformedSnapshot ≡ 0 → ⊥) → (b ≡ false) × (cond {A = ℕ} b 0 malformedSnapshot ≡ malformedSnapshot)
     go true z = absurd (z refl)
     go false z = (refl, refl)
 
 module _ (c : Camera) (s : List ℕ) where
-  pub load-unformed : wellFormed c ≡ false → refused malformedRecord c ≡ loaded c s
+  pub load-unformed : recordWellFormed c ≡ false → refused malformedRecord c ≡ loaded c s
   unfolding loaded loadCode
   load-unformed e = rw e
 
-  module _ {n : ℕ} (is-form : n ≡ form.formCode s) where
-    pub load-malformed : wellFormed c ≡ true → (n ≡ 0 → ⊥) → refused n c ≡ loaded c s
+  module _ {n : ℕ} (is-form : n ≡ formCode s) where
+    pub load-malformed : recordWellFormed c ≡ true → (n ≡ 0 → ⊥) → refused n c ≡ loaded c s
     unfolding loaded loadCode loadTests
     load-malformed formed bad = let f = form-bad s (λ z. bad (is-form ∙ z)) in rw (is-form ∙ f .1, formed, f .0)
 
-    pub load-formed : n ≡ 0 → form.wellFormed s ≡ true
+    pub load-formed : n ≡ 0 → wellFormed s ≡ true
     load-formed z = form-good s (sym is-form ∙ z)
 
-  pub load-records : wellFormed c ≡ true → form.wellFormed s ≡ true → loadDone c s ≡ loaded c s
+  pub load-records : recordWellFormed c ≡ true → wellFormed s ≡ true → loadDone c s ≡ loaded c s
   unfolding loaded loadCode loadTests loadDone
   load-records formed f = rw (formed, f) (go (eqb code 0) refl)
     where
@@ -193,7 +193,7 @@ module _ (c : Camera) (s : List ℕ) where
       code = loadRefusal (c .profile) (c .streaming) s
 
       done : Outcome
-      done = record { code = 0; count = 0; camera = withSettings c (puts (c .settings) (loadGives (c .profile) (c .streaming) s)) }
+      done = record { code = 0; count = 0; camera = withSettings c (putAll (c .settings) (loadGives (c .profile) (c .streaming) s)) }
 
       go : (b : Bool) → eqb code 0 ≡ b → cond b done (refused code c) ≡ outcomeBy (cond (not b) code 0) c done
       go true e = refl

@@ -3,15 +3,15 @@ use mathlib.Core.Path.{_≡_}
 use mathlib.Core.Bool.{Bool, true, false, and-eq-true-iff}
 use lib.IntN.{pos}
 use Rattle.wire.specs.Uvc.{malformedRecord}
-use Rattle.exposure.specs.Ev.{compensation}
+use Rattle.exposure.specs.Exposure.{sensorValue}
 use Rattle.profile.specs.Profile.{profileValid}
-use Rattle.settings.specs.Settings as settings
+use Rattle.settings.specs.Kept.{settingsWellFormed}
 use Rattle.camera.specs.declared.record.Camera.{Camera}
-use Rattle.camera.specs.Record.{withStreaming, wellFormed}
+use Rattle.camera.specs.Record.{withStreaming, recordWellFormed}
 use Rattle.camera.specs.Requests.{refused}
 use Rattle.camera.specs.Calls.{streamed, sensed}
 
-module _ (c : Camera) (w : wellFormed c ≡ false) where
+module _ (c : Camera) (w : recordWellFormed c ≡ false) where
   pub streamed-refused : (on : Bool) → streamed c on ≡ refused malformedRecord c
   unfolding streamed
   streamed-refused on = rw w
@@ -20,15 +20,15 @@ module _ (c : Camera) (w : wellFormed c ≡ false) where
   unfolding sensed
   sensed-refused = rw w
 
-module _ (c : Camera) (w : wellFormed c ≡ true) where
+module _ (c : Camera) (w : recordWellFormed c ≡ true) where
   pub streamed-done : (on : Bool) → streamed c on ≡ record { code = 0; count = 0; camera = withStreaming c on }
   unfolding streamed
   streamed-done on = rw w
 
-  pub sensed-done : sensed c ≡ record { code = 0; value = compensation (c .profile .ev) (c .settings .ev); camera = c }
+  pub sensed-done : sensed c ≡ record { code = 0; value = sensorValue (c .profile .ev) (c .settings .ev); camera = c }
   unfolding sensed
   sensed-done = rw w
 
   pub formed-profile : profileValid (c .profile) ≡ true
-  unfolding settings.wellFormed
+  unfolding settingsWellFormed
   formed-profile = let q = simp and-eq-true-iff at w in q .0

@@ -10,35 +10,35 @@ use borrow.Author.Tests.{eq-eqb, ne-eqb, eqb-true}
 use Rattle.wire.specs.Rows.{_⇒_, answers, firstOf}
 use Rattle.wire.specs.Uvc.{setCur, malformedRecord, invalidControl, invalidRequest}
 use Rattle.request.specs.declared.reply.Sent.{Sent}
-use Rattle.request.specs.Setup.{selectorOf, codeOf, wLengthOf, isSetRequest}
+use Rattle.request.specs.Setup.{setupSelector, setupCode, setupWLength, isSetRequest}
 use Rattle.request.specs.Tests.{requestTests, asked, sentCount}
-use Rattle.request.specs.Tests as request
+use Rattle.request.specs.Tests.{tableRefusal}
 use Rattle.request.specs.Reply.{replyOf}
-use Rattle.request.specs.Requests as leaves
+use Rattle.request.specs.Requests.{replied}
 use Rattle.request.proofs.Laws.Tests.{at-unformed, at-tests, at-state, at-set, at-get, set-replied, get-sent}
 use Rattle.profile.specs.declared.Profile.{Profile}
 use Rattle.settings.specs.declared.items.Taken.{Taken}
-use Rattle.profile.specs.Profile.{has, settable}
-use Rattle.profile.specs.Profile as profile
+use Rattle.profile.specs.Profile.{has, isSettable}
+use Rattle.profile.specs.Profile.{profileRefusal}
 use Rattle.profile.specs.Items.{setRefusal}
 use Rattle.settings.specs.Items.{setGives, setTaken}
 use Rattle.camera.specs.declared.record.Camera.{Camera}
 use Rattle.camera.specs.declared.calls.Outcome.{Outcome}
-use Rattle.camera.specs.Record.{puts, withSettings, wellFormed}
-use Rattle.camera.specs.Requests.{stateOf, table, controlRefusal, requestCode, refused, requestDone, requested, replied}
+use Rattle.camera.specs.Record.{puts, withSettings, recordWellFormed}
+use Rattle.camera.specs.Requests.{stateRefusal, table, controlRefusal, requestedCode, refused, requestDone, requested, requestedReply}
 use Rattle.camera.specs.Steps.{setDone, getDone}
 
 -- a SET before its payload is looked at: the profile's own tests, then test 7
 module _ (p : Profile) (streaming : Bool) (selector : ℕ) where
   own : ℕ
-  own = profile.controlRefusal p selector
+  own = profileRefusal p selector
 
   state : ℕ
-  state = stateOf streaming selector setCur
+  state = stateRefusal streaming selector setCur
 
   by-profile : controlRefusal p streaming selector ≡ cond (eqb own 0) state own
-  unfolding own state request.controlRefusal profile.controlRefusal
-  by-profile = go (has p selector) (settable p selector) state
+  unfolding own state tableRefusal profileRefusal
+  by-profile = go (has p selector) (isSettable p selector) state
     where
       passes : (n : ℕ) → cond (not (eqb n 0)) n 0 ≡ n
       passes n = at (eqb n 0) refl
@@ -53,11 +53,11 @@ module _ (p : Profile) (streaming : Bool) (selector : ℕ) where
       go true false n = refl
       go false t n = refl
 
-  pub control-refused : {code : ℕ} → code ≡ profile.controlRefusal p selector → (code ≡ 0 → ⊥) → code ≡ controlRefusal p streaming selector
+  pub control-refused : {code : ℕ} → code ≡ profileRefusal p selector → (code ≡ 0 → ⊥) → code ≡ controlRefusal p streaming selector
   unfolding own
   control-refused e n = e ∙ sym (by-profile ∙ rw (ne-eqb own 0 (λ z. n (e ∙ z))))
 
-  pub control-state : {code : ℕ} → code ≡ profile.controlRefusal p selector → code ≡ 0 → stateOf streaming selector setCur ≡ controlRefusal p streaming selector
+  pub control-state : {code : ℕ} → code ≡ profileRefusal p selector → code ≡ 0 → stateRefusal streaming selector setCur ≡ controlRefusal p streaming selector
   unfolding own state
   control-state e z = sym (by-profile ∙ rw (eq-eqb own 0 (sym e ∙ z)))
 
@@ -78,35 +78,35 @@ set-done c selector payload {t} is = rw is (go (eqb code 0) refl)
 
 -- what is answered, and what is left in the reply buffer
 abbrev pub Answers : Camera → List ℕ → List ℕ → List ℕ → Outcome → List ℕ → Type 0
-Answers c s payload reply o after = (o ≡ requested c s payload (length reply)) × (after ≡ replied c s payload reply)
+Answers c s payload reply o after = (o ≡ requested c s payload (length reply)) × (after ≡ requestedReply c s payload reply)
 
 module _ (c : Camera) (s payload reply : List ℕ) where
   abbrev number : ℕ
-  number = requestCode c s payload (length reply)
+  number = requestedCode c s payload (length reply)
 
   refusal-answers : (code : ℕ) → number ≡ code → (code ≡ 0 → ⊥) → Answers c s payload reply (refused code c) reply
-  unfolding requested leaves.replied
+  unfolding requested replied
   refusal-answers code e n = (rw (e, ne-eqb code 0 n), rw (e, ne-eqb code 0 n))
 
-  pub malformed : wellFormed c ≡ false → Answers c s payload reply (refused malformedRecord c) reply
+  pub malformed : recordWellFormed c ≡ false → Answers c s payload reply (refused malformedRecord c) reply
   malformed w = refusal-answers malformedRecord (at-unformed (table c) s payload (length reply) w) (λ e. omega arith)
 
-  module _ (w : wellFormed c ≡ true) where
+  module _ (w : recordWellFormed c ≡ true) where
     pub tests-fail : (firstOf (requestTests (table c) s payload) ≡ 0 → ⊥) → Answers c s payload reply (refused (firstOf (requestTests (table c) s payload)) c) reply
     tests-fail n = refusal-answers _ (at-tests (table c) s payload (length reply) w n) n
 
     module _ (t : firstOf (requestTests (table c) s payload) ≡ 0) where
-      pub state-fails : (stateOf (c .streaming) (selectorOf s) (codeOf s) ≡ 0 → ⊥) → Answers c s payload reply (refused (stateOf (c .streaming) (selectorOf s) (codeOf s)) c) reply
+      pub state-fails : (stateRefusal (c .streaming) (setupSelector s) (setupCode s) ≡ 0 → ⊥) → Answers c s payload reply (refused (stateRefusal (c .streaming) (setupSelector s) (setupCode s)) c) reply
       state-fails n = refusal-answers _ (at-state (table c) s payload (length reply) w t n) n
 
-      module _ (y : stateOf (c .streaming) (selectorOf s) (codeOf s) ≡ 0) where
-        pub a-set : isSetRequest s ≡ true → Answers c s payload reply (setDone c (selectorOf s) payload) reply
+      module _ (y : stateRefusal (c .streaming) (setupSelector s) (setupCode s) ≡ 0) where
+        pub a-set : isSetRequest s ≡ true → Answers c s payload reply (setDone c (setupSelector s) payload) reply
         unfolding requested setDone requestDone
         a-set e =
             let n = at-set (table c) s payload (length reply) w t y e in
             (rw (n, e), set-replied (table c) s payload reply e)
 
-        pub a-get : isSetRequest s ≡ false → Answers c s payload reply (getDone c s (length reply)) (replyOf (asked (table c) s) (wLengthOf s) reply)
+        pub a-get : isSetRequest s ≡ false → Answers c s payload reply (getDone c s (length reply)) (replyOf (asked (table c) s) (setupWLength s) reply)
         unfolding requested getDone requestDone
         a-get e =
             let r = get-sent (table c) s payload reply e (at-get (table c) s payload (length reply) w t y e) in

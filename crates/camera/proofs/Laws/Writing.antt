@@ -6,22 +6,22 @@ use Prim.Native.Nat.{ℕ, _≤_, _<_}
 use native.Mathlib.Omega.{arith}
 use lib.ListN.{length}
 use borrow.Author.Tests.{lt-ltb, le-ltb}
-use Rattle.wire.specs.Overlay.{overlay}
+use Rattle.wire.specs.Writes.{overlay}
 use Rattle.wire.specs.Uvc.{malformedRecord, noRoom}
-use Rattle.wire.proofs.Laws.Overlay.{fits-start}
+use Rattle.wire.proofs.Laws.Writes.{fits-start}
 use Rattle.encoding.specs.Encoding.{encoded}
 use Rattle.camera.specs.declared.record.Camera.{Camera}
-use Rattle.camera.specs.Record.{wellFormed}
+use Rattle.camera.specs.Record.{recordWellFormed}
 use Rattle.camera.specs.Requests.{refused}
-use Rattle.camera.specs.Snapshots.{snapshot, writeCode, written, writtenOut}
+use Rattle.camera.specs.Writing.{snapshot, writeCode, written, writtenOut}
 
 -- each of its refusals, and none
 module _ (c : Camera) (out : List ℕ) where
-  pub write-unformed : wellFormed c ≡ false → (refused malformedRecord c ≡ written c (length out)) × (out ≡ writtenOut c out)
+  pub write-unformed : recordWellFormed c ≡ false → (refused malformedRecord c ≡ written c (length out)) × (out ≡ writtenOut c out)
   unfolding written writtenOut writeCode
   write-unformed e = (rw e, rw e)
 
-  module _ (formed : wellFormed c ≡ true) {n : ℕ} (is-long : n ≡ length (encoded (c .settings))) where
+  module _ (formed : recordWellFormed c ≡ true) {n : ℕ} (is-long : n ≡ length (encoded (c .settings))) where
     long : n ≡ length (snapshot c)
     unfolding snapshot
     long = is-long

@@ -6,7 +6,7 @@ use native.Mathlib.Nat.{zero-add}
 use native.Mathlib.Omega.{arith}
 use lib.Dec.{eqb}
 use borrow.Author.Tests.{eq-eqb, ne-eqb, eqb-true, eqb-false}
-use Rattle.controls.specs.Settings.{firstRefusal}
+use Rattle.controls.specs.Controls.{firstRefusal}
 
 module _ (code : ℕ → ℕ) where
   -- the first that is refused, where those before it are not

@@ -1,5 +1,5 @@
 use mathlib.Core.Path.{sym}
-use Rattle.controls.proofs.Laws.Settings.{item-given, item-refused}
+use Rattle.controls.proofs.Laws.Controls.{item-given, item-refused}
 use Rattle.controls.proofs.item_of.Statement.{statement}
 use Rattle.controls.proofs.item_of.Tie as tie
 

@@ -1,6 +1,6 @@
 use mathlib.Core.Path.{ap, sym}
 use borrow.Author.Needs.{needs}
-use Rattle.controls.specs.Settings.{numberOr}
+use Rattle.controls.specs.Controls.{numberOr}
 use Rattle.controls.proofs.number_or.Statement.{statement}
 use Rattle.controls.proofs.number_or.Tie as tie
 

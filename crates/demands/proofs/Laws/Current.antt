@@ -6,65 +6,66 @@ use Prim.Native.Nat.{ℕ, _+_, _-_, _≤_, _<_}
 use native.Mathlib.Omega.{arith}
 use lib.ListN.{getD}
 use borrow.Author.Tests.{ne-eqb}
-use Rattle.wire.specs.Number.{bytesOf}
+use Rattle.wire.specs.Numbers.{bytesOf}
 use Rattle.wire.specs.Endpoints.{firstAddress, lastAddress}
 use Rattle.wire.specs.Selectors as selector
 use Rattle.wire.specs.Uvc.{getCur, getDef}
-use Rattle.snapshot.specs.Form.{keyFor, metadataKey}
-use Rattle.request.specs.Tests as tests
-use Rattle.answering.specs.Answers.{valueOf}
-use Rattle.settings.specs.Settings.{keyOf, faceHeld}
-use Rattle.settings.specs.Settings as settings
+use Rattle.snapshot.specs.Keys.{keyFor, metadataKey}
+use Rattle.request.specs.Tests.{fullAnswer}
+use Rattle.answering.specs.Answering.{valueOf}
+use Rattle.settings.specs.Settings.{settingKey}
+use Rattle.settings.specs.Held.{faceHeld}
+use Rattle.settings.specs.Held.{settingsHeld}
 use Rattle.controls.specs.declared.Setting.the-variants as S
-use Rattle.exposure.specs.declared.ev.Ev.the-variants as E
+use Rattle.exposure.specs.declared.ev.HeldEv.the-variants as E
 use Rattle.controls.specs.declared.EvSetting.{EvSetting}
-use Rattle.controls.specs.declared.Number.the-variants as N
-use Rattle.throttle.specs.declared.Throttle.the-variants as T
+use Rattle.controls.specs.declared.HeldNumber.the-variants as N
+use Rattle.throttle.specs.declared.HeldThrottle.the-variants as T
 use Rattle.controls.specs.declared.ThrottleSetting.{ThrottleSetting}
 use Rattle.request.specs.Answers.{answerBy}
-use Rattle.controls.specs.Settings.{numberOr}
-use Rattle.exposure.specs.Ev.{evBytes, evCurrent, evAt}
-use Rattle.face.specs.Limits.{endpoints, addressAt}
+use Rattle.controls.specs.Controls.{numberOr}
+use Rattle.exposure.specs.Exposure.{evBytes, evCurrent, evAttribute}
+use Rattle.face.specs.Limits.{endpointsOf, addressAt}
 use Rattle.face.specs.Answers.{entryOf, heldAt}
-use Rattle.metadata.specs.Metadata.{metadataAt}
-use Rattle.hdr.specs.Hdr.{hdrAt}
-use Rattle.throttle.specs.Throttle.{throttleBytes, throttleCurrent, throttleAt}
+use Rattle.metadata.specs.Metadata.{metadataAttribute}
+use Rattle.hdr.specs.Hdr.{hdrAttribute}
+use Rattle.throttle.specs.Throttle.{throttleBytes, throttleCurrent, throttleAttribute}
 use Rattle.face.proofs.Laws.Limits.{place-listed}
 use Rattle.profile.specs.Profile.{has}
 use Rattle.profile.proofs.Laws.Profile.{valid-face}
 use Rattle.camera.specs.declared.record.Camera.{Camera}
-use Rattle.camera.specs.Record.{held, wellFormed}
-use Rattle.camera.specs.Requests.{answerOf}
+use Rattle.camera.specs.Record.{held, recordWellFormed}
+use Rattle.camera.specs.Requests.{cameraAnswer}
 use Rattle.camera.proofs.Laws.Record.{formed-profile}
-use Rattle.demands.specs.Demand2.{entryBytes}
+use Rattle.demands.specs.Answers.{entryBytes}
 use Rattle.demands.proofs.Laws.Held.{held-face, held-named}
 use Rattle.demands.proofs.Laws.Kept.{control-settable, held-good}
 use Rattle.demands.proofs.Laws.Same.{ev-same, metadata-same, hdr-same, throttle-same, face-same}
 use Rattle.demands.proofs.Laws.ReadBack.{current-entry, default-entry, current-held, current-unset, face-unset}
 
 module _ (c : Camera) where
-  pub ev-current : (s : EvSetting) → held c (keyOf (S.Ev s)) ≡ some (S.Ev s) → answerOf c selector.ev getCur ≡ evBytes s
-  unfolding settings.held tests.answerOf valueOf answerBy evAt evCurrent
+  pub ev-current : (s : EvSetting) → held c (settingKey (S.Ev s)) ≡ some (S.Ev s) → cameraAnswer c selector.ev getCur ≡ evBytes s
+  unfolding settingsHeld fullAnswer valueOf answerBy evAttribute evCurrent
   ev-current s e = rw (ev-same (c .settings .ev) (E.Held s) e)
 
-  pub hdr-current : (n : ℕ) → held c (keyOf (S.Hdr n)) ≡ some (S.Hdr n) → answerOf c selector.hdr getCur ≡ bytesOf 4 n
-  unfolding settings.held tests.answerOf valueOf answerBy hdrAt numberOr
+  pub hdr-current : (n : ℕ) → held c (settingKey (S.Hdr n)) ≡ some (S.Hdr n) → cameraAnswer c selector.hdr getCur ≡ bytesOf 4 n
+  unfolding settingsHeld fullAnswer valueOf answerBy hdrAttribute numberOr
   hdr-current n e = rw (hdr-same (c .settings .hdr) (N.Held n) e)
 
-  pub throttle-current : (s : ThrottleSetting) → held c (keyOf (S.Throttle s)) ≡ some (S.Throttle s) → answerOf c selector.throttle getCur ≡ throttleBytes s (c .profile .throttle)
-  unfolding settings.held tests.answerOf valueOf answerBy throttleAt throttleCurrent
+  pub throttle-current : (s : ThrottleSetting) → held c (settingKey (S.Throttle s)) ≡ some (S.Throttle s) → cameraAnswer c selector.throttle getCur ≡ throttleBytes s (c .profile .throttle)
+  unfolding settingsHeld fullAnswer valueOf answerBy throttleAttribute throttleCurrent
   throttle-current s e = rw (throttle-same (c .settings .throttle) (T.Held s) e)
 
   -- metadata that is held is writable
-  module _ (w : wellFormed c ≡ true) where
-    pub metadata-current : (n : ℕ) → held c (keyOf (S.Metadata n)) ≡ some (S.Metadata n) → answerOf c selector.metadata getCur ≡ bytesOf 4 n
-    unfolding settings.held tests.answerOf valueOf answerBy metadataAt numberOr
+  module _ (w : recordWellFormed c ≡ true) where
+    pub metadata-current : (n : ℕ) → held c (settingKey (S.Metadata n)) ≡ some (S.Metadata n) → cameraAnswer c selector.metadata getCur ≡ bytesOf 4 n
+    unfolding settingsHeld fullAnswer valueOf answerBy metadataAttribute numberOr
     metadata-current n e =
         let writable : c .profile .metadata .writable ≡ true = control-settable (c .profile) selector.metadata (held-good (c .profile) (c .settings) w metadataKey (S.Metadata n) e .1 .control) in
         rw (writable, metadata-same (c .settings .metadata) (N.Held n) e)
 
 -- the entry of the endpoint at place j, by its address's setting
-module _ (c : Camera) (j : ℕ) (h : j < endpoints (c .profile .face)) where
+module _ (c : Camera) (j : ℕ) (h : j < endpointsOf (c .profile .face)) where
   abbrev address : ℕ
   address = addressAt (c .profile .face) j
 
@@ -77,14 +78,14 @@ module _ (c : Camera) (j : ℕ) (h : j < endpoints (c .profile .face)) where
       let f : key - 1 ≡ address - firstAddress = omega arith in
       held-face (c .settings) key (omega arith) (omega arith) ∙ ap₂ (λ (m n : ℕ). faceHeld m (getD (c .settings .face) n 0)) e f
 
-  pub face-current : (flags : ℕ) → held c key ≡ some (S.Face address flags) → entryBytes (answerOf c selector.face getCur) j ≡ entryOf address flags
+  pub face-current : (flags : ℕ) → held c key ≡ some (S.Face address flags) → entryBytes (cameraAnswer c selector.face getCur) j ≡ entryOf address flags
   face-current flags e =
       let p = held-named (c .settings) key (S.Face address flags) e .1 in
       let s : some (S.Face address flags) ≡ faceHeld address flags = rw (ne-eqb flags 0 (omega arith)) in
       let q = face-same address (heldAt (c .settings .face) address) flags (sym (place-held (p .0) (p .1)) ∙ e ∙ s) in
       current-entry c j h ∙ ap (entryOf address) (current-held (c .profile .face) (c .settings .face) j flags q (p .2))
 
-  pub face-default : wellFormed c ≡ true → has (c .profile) selector.face ≡ true → held c key ≡ none → entryBytes (answerOf c selector.face getCur) j ≡ entryBytes (answerOf c selector.face getDef) j
+  pub face-default : recordWellFormed c ≡ true → has (c .profile) selector.face ≡ true → held c key ≡ none → entryBytes (cameraAnswer c selector.face getCur) j ≡ entryBytes (cameraAnswer c selector.face getDef) j
   face-default w g e =
       let p = place-listed (c .profile .face) (valid-face (c .profile) (formed-profile c w) g) j (omega arith) in
       let q = face-unset address (heldAt (c .settings .face) address) (sym (place-held (p .first) (p .last)) ∙ e) in

@@ -12,18 +12,18 @@ use borrow.Author.Tests.{leb-true}
 use Rattle.wire.specs.Selectors as selector
 use Rattle.controls.specs.declared.Setting.{Setting}
 use Rattle.controls.specs.declared.Setting.the-variants as S
-use Rattle.exposure.proofs.Laws.Ev.{accepts, range-small}
+use Rattle.exposure.proofs.Laws.Exposure.{accepts, range-small}
 use Rattle.metadata.proofs.Laws.Metadata.{metadata-within}
 use Rattle.hdr.proofs.Laws.Hdr.{hdr-within}
 use Rattle.throttle.proofs.Laws.Throttle.{throttle-within}
 use Rattle.profile.specs.declared.Profile.{Profile}
 use Rattle.profile.specs.Profile.{has, profileValid}
-use Rattle.settings.specs.Settings.{valueRefusal}
+use Rattle.settings.specs.Kept.{valueRefusal}
 use Rattle.camera.specs.declared.record.Camera.{Camera}
-use Rattle.camera.specs.Record.{held, wellFormed}
+use Rattle.camera.specs.Record.{held, recordWellFormed}
 use Rattle.profile.proofs.Laws.Profile.{valid-ev}
 use Rattle.camera.proofs.Laws.Record.{formed-profile}
-use Rattle.demands.specs.Records.{flagsOf, Typed}
+use Rattle.demands.specs.Cameras.{settingFlags, Typed}
 use Rattle.demands.proofs.Laws.Kept.{Good, control-there, held-good}
 
 -- flags of a byte, and values of four
@@ -43,18 +43,18 @@ module _ (p : Profile) (v : profileValid p ≡ true) where
       leb-true (p .throttle .maximum) 100 (t .0 .0 .0 .1)
 
   -- a SET's own tests bound all but the flags, which they read 56 bits of, and a metadata setting by the profile's maximum
-  good-fitting : (s : Setting) → Good p s → flagsOf s < 2 ^ 8 → p .metadata .maximum < 2 ^ 32 → Fitting s
+  good-fitting : (s : Setting) → Good p s → settingFlags s < 2 ^ 8 → p .metadata .maximum < 2 ^ 32 → Fitting s
   unfolding valueRefusal
   good-fitting (S.Ev s) g f m =
       let a = accepts (p .ev) (s .flags) (s .value) (g .value) in
       (f, record { sfits = lt-trans (range-small (p .ev) (valid-ev p v (control-there p selector.ev (g .control))) (a .0) (s .value) (a .1 .1)) (lit< tt) })
   good-fitting (S.Face address flags) g f m = f
   good-fitting (S.Metadata n) g f m = omega (arith, metadata-within (p .metadata) n (g .value))
-  good-fitting (S.Hdr n) g f m = omega (arith, hdr-within (p .auto) n (g .value))
+  good-fitting (S.Hdr n) g f m = omega (arith, hdr-within (p .hdr) n (g .value))
   good-fitting (S.Throttle s) g f m =
       let w = throttle-within (p .throttle) (s .mode) (s .percent) (g .value) in
       let h = throttle-maximum (control-there p selector.throttle (g .control)) in
       (omega arith, omega arith)
 
-pub held-fitting : (c : Camera) → wellFormed c ≡ true → Typed c → (k : ℕ) (s : Setting) → held c k ≡ some s → Fitting s
+pub held-fitting : (c : Camera) → recordWellFormed c ≡ true → Typed c → (k : ℕ) (s : Setting) → held c k ≡ some s → Fitting s
 held-fitting c w t k s e = good-fitting (c .profile) (formed-profile c w) s (held-good (c .profile) (c .settings) w k s e .1) (t .flags k s e) (t .maximum)

@@ -9,21 +9,22 @@ use lib.Dec.{eqb, leb}
 use lib.ListN.{length, getD, replicate, getD-replicate}
 use borrow.Author.Tests.{eq-eqb, ne-eqb, eqb-true, eqb-false, le-leb, lt-leb, leb-true}
 use Rattle.wire.specs.Endpoints.{firstAddress, lastAddress, places}
-use Rattle.snapshot.specs.Form.{keys, metadataKey, hdrKey, throttleKey}
-use Rattle.snapshot.specs.Settings.{over, lastOf}
-use Rattle.snapshot.proofs.Laws.Settings.{over-assoc}
+use Rattle.snapshot.specs.Keys.{keys, metadataKey, hdrKey, throttleKey}
+use Rattle.snapshot.specs.Given.{over, lastOf}
+use Rattle.snapshot.proofs.Laws.Given.{over-assoc}
 use Rattle.controls.specs.declared.Setting.{Setting}
 use Rattle.controls.specs.declared.Setting.the-variants as S
-use Rattle.exposure.specs.declared.ev.Ev.{Ev}
-use Rattle.exposure.specs.declared.ev.Ev.the-variants as E
-use Rattle.controls.specs.declared.Number.{Number}
-use Rattle.controls.specs.declared.Number.the-variants as N
-use Rattle.throttle.specs.declared.Throttle.{Throttle}
-use Rattle.throttle.specs.declared.Throttle.the-variants as T
+use Rattle.exposure.specs.declared.ev.HeldEv.{HeldEv}
+use Rattle.exposure.specs.declared.ev.HeldEv.the-variants as E
+use Rattle.controls.specs.declared.HeldNumber.{HeldNumber}
+use Rattle.controls.specs.declared.HeldNumber.the-variants as N
+use Rattle.throttle.specs.declared.HeldThrottle.{HeldThrottle}
+use Rattle.throttle.specs.declared.HeldThrottle.the-variants as T
 use Rattle.entries.proofs.Laws.Held.{put-at, length-put}
 use Rattle.settings.specs.declared.settings.Settings.{Settings}
-use Rattle.settings.specs.Settings.{noSettings, keyOf, evHeld, faceHeld, numberHeld, metadataHeld, hdrHeld, throttleHeld, held, put}
-use Rattle.settings.specs.Items.{puts}
+use Rattle.settings.specs.Settings.{noSettings, settingKey, put}
+use Rattle.settings.specs.Held.{evHeld, faceHeld, numberHeld, metadataHeld, hdrHeld, throttleHeld, settingsHeld}
+use Rattle.settings.specs.Items.{putAll}
 
 -- a setting that can be held: of face authentication, at an address that has a place and with a flag
 abbrev pub Proper : Setting → Type 0
@@ -35,18 +36,18 @@ Proper (S.Throttle s) = Unit {0}
 
 -- what decides of the keys of face authentication, and behind the last key
 module _ (h : Settings) (k : ℕ) where
-  pub held-face : 1 ≤ k → k ≤ places → held h k ≡ faceHeld (firstAddress + (k - 1)) (getD (h .face) (k - 1) 0)
-  unfolding held
+  pub held-face : 1 ≤ k → k ≤ places → settingsHeld h k ≡ faceHeld (firstAddress + (k - 1)) (getD (h .face) (k - 1) 0)
+  unfolding settingsHeld
   held-face l u = rw (ne-eqb k 0 (omega arith), le-leb k places u)
 
-  pub held-none : keys ≤ k → held h k ≡ none
-  unfolding held
+  pub held-none : keys ≤ k → settingsHeld h k ≡ none
+  unfolding settingsHeld
   held-none l = rw (ne-eqb k 0 (omega arith), lt-leb k places (omega arith), ne-eqb k metadataKey (omega arith), ne-eqb k hdrKey (omega arith), ne-eqb k throttleKey (omega arith))
 
 -- settings that agree on the control of key k hold the same of it
 held-same : (c d : Settings) (k : ℕ) → (k ≡ 0 → c .ev ≡ d .ev) → (1 ≤ k → k ≤ places → getD (c .face) (k - 1) 0 ≡ getD (d .face) (k - 1) 0)
-    → (k ≡ metadataKey → c .metadata ≡ d .metadata) → (k ≡ hdrKey → c .hdr ≡ d .hdr) → (k ≡ throttleKey → c .throttle ≡ d .throttle) → held c k ≡ held d k
-unfolding held
+    → (k ≡ metadataKey → c .metadata ≡ d .metadata) → (k ≡ hdrKey → c .hdr ≡ d .hdr) → (k ≡ throttleKey → c .throttle ≡ d .throttle) → settingsHeld c k ≡ settingsHeld d k
+unfolding settingsHeld
 held-same c d k ev face metadata hdr throttle = go (eqb k 0) (leb k places) (eqb k metadataKey) (eqb k hdrKey) (eqb k throttleKey) refl refl refl refl refl
   where
     by : Bool → Bool → Bool → Bool → Bool → Settings → Option Setting
@@ -61,11 +62,11 @@ held-same c d k ev face metadata hdr throttle = go (eqb k 0) (leb k places) (eqb
     go false false false false false p q r s u = refl
 
 -- what is put in is held
-put-held : (h : Settings) (s : Setting) → Proper s → length (h .face) ≡ places → held (put h s) (keyOf s) ≡ some s
-unfolding held put
+put-held : (h : Settings) (s : Setting) → Proper s → length (h .face) ≡ places → settingsHeld (put h s) (settingKey s) ≡ some s
+unfolding settingsHeld put
 put-held h (S.Ev s) p l = refl
 put-held h (S.Face address flags) p l =
-    let k = keyOf (S.Face address flags) in
+    let k = settingKey (S.Face address flags) in
     let e : firstAddress + (k - 1) ≡ address = omega arith in
     held-face (put h (S.Face address flags)) k (omega arith) (omega arith)
     ∙ ap₂ faceHeld e (put-at (h .face) address flags (k - 1) (omega arith) ∙ ap (λ b. cond b flags (getD (h .face) (k - 1) 0)) (eq-eqb address (firstAddress + (k - 1)) (sym e)))
@@ -75,7 +76,7 @@ put-held h (S.Hdr n) p l = refl
 put-held h (S.Throttle s) p l = refl
 
 -- and nothing else changes
-put-other : (h : Settings) (s : Setting) → Proper s → length (h .face) ≡ places → (k : ℕ) → (keyOf s ≡ k → ⊥) → held (put h s) k ≡ held h k
+put-other : (h : Settings) (s : Setting) → Proper s → length (h .face) ≡ places → (k : ℕ) → (settingKey s ≡ k → ⊥) → settingsHeld (put h s) k ≡ settingsHeld h k
 unfolding put
 put-other h (S.Ev s) p l k n = held-same _ _ k (λ e. absurd (n (sym e))) (λ a b. refl) (λ e. refl) (λ e. refl) (λ e. refl)
 put-other h (S.Face address flags) p l k n =
@@ -86,12 +87,12 @@ put-other h (S.Metadata m) p l k n = held-same _ _ k (λ e. refl) (λ a b. refl)
 put-other h (S.Hdr m) p l k n = held-same _ _ k (λ e. refl) (λ a b. refl) (λ e. refl) (λ e. absurd (n (sym e))) (λ e. refl)
 put-other h (S.Throttle s) p l k n = held-same _ _ k (λ e. refl) (λ a b. refl) (λ e. refl) (λ e. refl) (λ e. absurd (n (sym e)))
 
-held-put : (h : Settings) (s : Setting) → Proper s → length (h .face) ≡ places → (k : ℕ) → held (put h s) k ≡ over (held h k) (cond (eqb (keyOf s) k) (some s) none)
-held-put h s p l k = go (eqb (keyOf s) k) refl
+held-put : (h : Settings) (s : Setting) → Proper s → length (h .face) ≡ places → (k : ℕ) → settingsHeld (put h s) k ≡ over (settingsHeld h k) (cond (eqb (settingKey s) k) (some s) none)
+held-put h s p l k = go (eqb (settingKey s) k) refl
   where
-    go : (b : Bool) → eqb (keyOf s) k ≡ b → held (put h s) k ≡ over (held h k) (cond b (some s) none)
-    go true e = let q : keyOf s ≡ k = eqb-true (keyOf s) k e in ap (held (put h s)) (sym q) ∙ put-held h s p l
-    go false e = put-other h s p l k (eqb-false (keyOf s) k e)
+    go : (b : Bool) → eqb (settingKey s) k ≡ b → settingsHeld (put h s) k ≡ over (settingsHeld h k) (cond b (some s) none)
+    go true e = let q : settingKey s ≡ k = eqb-true (settingKey s) k e in ap (settingsHeld (put h s)) (sym q) ∙ put-held h s p l
+    go false e = put-other h s p l k (eqb-false (settingKey s) k e)
 
 put-length : (h : Settings) (s : Setting) → length (put h s .face) ≡ length (h .face)
 unfolding put
@@ -104,25 +105,25 @@ put-length h (S.Throttle s) = refl
 -- P holds of every setting of a list, each under its own key
 abbrev pub Each : (Setting → Type 0) → List (ℕ × Setting) → Type 0
 Each P [] = Unit {0}
-Each P (x ∷ l) = (x .0 ≡ keyOf (x .1)) × P (x .1) × Each P l
+Each P (x ∷ l) = (x .0 ≡ settingKey (x .1)) × P (x .1) × Each P l
 
-pub puts-held : (h : Settings) (l : List (ℕ × Setting)) → Each Proper l → length (h .face) ≡ places → (k : ℕ) → held (puts h l) k ≡ over (held h k) (lastOf l k)
-unfolding puts
+pub puts-held : (h : Settings) (l : List (ℕ × Setting)) → Each Proper l → length (h .face) ≡ places → (k : ℕ) → settingsHeld (putAll h l) k ≡ over (settingsHeld h k) (lastOf l k)
+unfolding putAll
 puts-held h [] p f k = refl
 puts-held h (x ∷ l) p f k =
     puts-held (put h (x .1)) l (p .2) (put-length h (x .1) ∙ f) k
     ∙ ap (λ o. over o (lastOf l k)) (held-put h (x .1) (p .1) f k)
-    ∙ over-assoc (held h k) (cond (eqb (keyOf (x .1)) k) (some (x .1)) none) (lastOf l k)
-    ∙ ap (λ (j : ℕ). over (held h k) (over (cond (eqb j k) (some (x .1)) none) (lastOf l k))) (sym (p .0))
+    ∙ over-assoc (settingsHeld h k) (cond (eqb (settingKey (x .1)) k) (some (x .1)) none) (lastOf l k)
+    ∙ ap (λ (j : ℕ). over (settingsHeld h k) (over (cond (eqb j k) (some (x .1)) none) (lastOf l k))) (sym (p .0))
 
-pub puts-length : (h : Settings) (l : List (ℕ × Setting)) → length (puts h l .face) ≡ length (h .face)
-unfolding puts
+pub puts-length : (h : Settings) (l : List (ℕ × Setting)) → length (putAll h l .face) ≡ length (h .face)
+unfolding putAll
 puts-length h [] = refl
 puts-length h (x ∷ l) = puts-length (put h (x .1)) l ∙ put-length h (x .1)
 
 -- no settings hold nothing
-pub none-held : (k : ℕ) → held noSettings k ≡ none
-unfolding held noSettings
+pub none-held : (k : ℕ) → settingsHeld noSettings k ≡ none
+unfolding settingsHeld noSettings
 none-held k = go (eqb k 0) (leb k places) (eqb k metadataKey) (eqb k hdrKey) (eqb k throttleKey) refl refl
   where
     go : (a b m h t : Bool) → eqb k 0 ≡ a → leb k places ≡ b
@@ -144,21 +145,21 @@ pub none-never : (s : Setting) → none ≡ some s → ⊥
 none-never s e = let z : _≡_ {A = ℕ} 0 1 = cc in omega arith
 
 abbrev Named : ℕ → Setting → Type 0
-Named k s = (keyOf s ≡ k) × Proper s
+Named k s = (settingKey s ≡ k) × Proper s
 
-pub held-named : (h : Settings) (k : ℕ) (s : Setting) → held h k ≡ some s → Named k s
-unfolding held
+pub held-named : (h : Settings) (k : ℕ) (s : Setting) → settingsHeld h k ≡ some s → Named k s
+unfolding settingsHeld
 held-named c k s e = go (eqb k 0) (leb k places) (eqb k metadataKey) (eqb k hdrKey) (eqb k throttleKey) refl refl refl refl refl e
   where
-    of-ev : (h : Ev) → evHeld h ≡ some s → Named 0 s
+    of-ev : (h : HeldEv) → evHeld h ≡ some s → Named 0 s
     of-ev E.Unset q = absurd (none-never s q)
     of-ev (E.Held x) q = some-is (Named 0) (S.Ev x) s q (refl, tt)
 
-    of-number : (n : ℕ) (control : ℕ → Setting) → ((m : ℕ) → Named n (control m)) → (h : Number) → numberHeld control h ≡ some s → Named n s
+    of-number : (n : ℕ) (control : ℕ → Setting) → ((m : ℕ) → Named n (control m)) → (h : HeldNumber) → numberHeld control h ≡ some s → Named n s
     of-number n control p N.Unset q = absurd (none-never s q)
     of-number n control p (N.Held m) q = some-is (Named n) (control m) s q (p m)
 
-    of-throttle : (h : Throttle) → throttleHeld h ≡ some s → Named throttleKey s
+    of-throttle : (h : HeldThrottle) → throttleHeld h ≡ some s → Named throttleKey s
     of-throttle T.Unset q = absurd (none-never s q)
     of-throttle (T.Held x) q = some-is (Named throttleKey) (S.Throttle x) s q (refl, tt)
 

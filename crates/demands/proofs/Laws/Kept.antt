@@ -9,71 +9,73 @@ use lib.Dec.{eqb, leb}
 use lib.ListN.{length}
 use borrow.Author.Tests.{eq-eqb, eqb-true, eqb-false, leb-true, leb-false}
 use Rattle.wire.specs.Endpoints.{places}
-use Rattle.flags.specs.Flags.{bitsOf, count, choiceOf}
-use Rattle.wire.specs.Number.{leAt}
+use Rattle.flags.specs.Flags.{bitsOf, count, oneFlag}
+use Rattle.wire.specs.Numbers.{leAt}
 use Rattle.wire.specs.Rows.{Row, _⇒_, Quiet}
 use Rattle.wire.specs.Selectors as selectors
 use Rattle.wire.specs.Uvc.{outOfRange, invalidValue, wrongState}
 use Rattle.wire.proofs.Laws.Rows.{quiet}
-use Rattle.snapshot.specs.Form.{keys}
-use Rattle.snapshot.specs.Settings.{over, lastOf}
+use Rattle.snapshot.specs.Keys.{keys}
+use Rattle.snapshot.specs.Given.{over, lastOf}
 use Rattle.controls.specs.declared.Item.{Item}
 use Rattle.controls.specs.declared.Item.the-variants.{Refused, Given}
 use Rattle.controls.specs.declared.Setting.{Setting}
 use Rattle.controls.specs.declared.Setting.the-variants as S
-use Rattle.controls.specs.Settings.{itemOf}
-use Rattle.exposure.specs.Ev.{evItem, evFlags, evValue}
+use Rattle.controls.specs.Controls.{itemOf}
+use Rattle.exposure.specs.Exposure.{evItem, evFlags, evValue}
 use Rattle.face.specs.Limits.{allBelow, faceValid, offersOf}
 use Rattle.entries.specs.Entries.{entryAddress, entryFlags, seenBefore, isChoice, entryRefusal, settingRefusal, faceItem}
 use Rattle.metadata.specs.Metadata.{metadataItem}
 use Rattle.hdr.specs.Hdr.{hdrItem}
 use Rattle.throttle.specs.Throttle.{throttleItem}
-use Rattle.controls.proofs.Laws.Settings.{given-is}
+use Rattle.controls.proofs.Laws.Controls.{given-is}
 use Rattle.face.proofs.Laws.Limits.{all-at, all-of, listed}
 use Rattle.profile.specs.declared.Profile.{Profile}
 use Rattle.settings.specs.declared.settings.Settings.{Settings}
-use Rattle.profile.specs.Profile.{has, settable, profileValid, controlRefusal}
-use Rattle.settings.specs.Settings.{keyOf, selectorOf, held, valueRefusal, kept, wellFormed}
-use Rattle.profile.specs.Items.{itemAt}
-use Rattle.settings.specs.Items.{givenOf, allGiven, puts}
-use Rattle.profile.specs.Selectors.{Control, ev, face, metadata, hdr, throttle}
+use Rattle.profile.specs.Profile.{has, isSettable, profileValid, profileRefusal}
+use Rattle.settings.specs.Settings.{settingKey, settingSelector}
+use Rattle.settings.specs.Held.{settingsHeld}
+use Rattle.settings.specs.Kept.{valueRefusal, kept, settingsWellFormed}
+use Rattle.profile.specs.Items.{profileItem}
+use Rattle.settings.specs.Items.{givenOf, allGiven, putAll}
+use Rattle.profile.specs.KnownControl.{KnownControl, ev, face, metadata, hdr, throttle}
 use Rattle.profile.proofs.Laws.Profile.{valid-face}
 use Rattle.settings.proofs.Laws.Kept.{control-kept}
-use Rattle.camera.specs.Requests as camera
+use Rattle.camera.specs.Requests.{controlRefusal}
 use Rattle.camera.proofs.Laws.Requests.{control-refused, control-state}
 use Rattle.demands.proofs.Laws.Held.{Proper, Each, held-none, held-named, puts-held}
 
 -- a setting that its SET takes if streaming, and that can be held
 pub record Good (p : Profile) (s : Setting) : Type 0 where
-  pub control : controlRefusal p (selectorOf s) ≡ 0
+  pub control : profileRefusal p (settingSelector s) ≡ 0
   pub value : valueRefusal p s ≡ 0
   pub proper : Proper s
 
 pub good-kept : (p : Profile) (s : Setting) → Good p s → kept p (some s) ≡ true
 unfolding kept
-good-kept p s g = rw (eq-eqb (controlRefusal p (selectorOf s)) 0 (g .control), eq-eqb (valueRefusal p s) 0 (g .value))
+good-kept p s g = rw (eq-eqb (profileRefusal p (settingSelector s)) 0 (g .control), eq-eqb (valueRefusal p s) 0 (g .value))
 
 -- a control whose tests before the values hold is there, and takes a SET
-module _ (p : Profile) (selector : ℕ) (e : controlRefusal p selector ≡ 0) where
-  there : (has p selector ≡ true) × (settable p selector ≡ true)
-  there = and-eq-true-iff (has p selector) (settable p selector) .0 (sym (control-kept p selector) ∙ eq-eqb _ 0 e)
+module _ (p : Profile) (selector : ℕ) (e : profileRefusal p selector ≡ 0) where
+  there : (has p selector ≡ true) × (isSettable p selector ≡ true)
+  there = and-eq-true-iff (has p selector) (isSettable p selector) .0 (sym (control-kept p selector) ∙ eq-eqb _ 0 e)
 
   pub control-there : has p selector ≡ true
   control-there = there .0
 
-  pub control-settable : settable p selector ≡ true
+  pub control-settable : isSettable p selector ≡ true
   control-settable = there .1
 
 -- test 7 aside, they hold at either flag; and streaming, that passes
 module _ (p : Profile) (selector : ℕ) where
-  pub control-streaming : (streaming : Bool) → camera.controlRefusal p streaming selector ≡ 0 → controlRefusal p selector ≡ 0
-  control-streaming streaming e = go (eqb (controlRefusal p selector) 0) refl
+  pub control-streaming : (streaming : Bool) → controlRefusal p streaming selector ≡ 0 → profileRefusal p selector ≡ 0
+  control-streaming streaming e = go (eqb (profileRefusal p selector) 0) refl
     where
-      go : (b : Bool) → eqb (controlRefusal p selector) 0 ≡ b → controlRefusal p selector ≡ 0
+      go : (b : Bool) → eqb (profileRefusal p selector) 0 ≡ b → profileRefusal p selector ≡ 0
       go true q = eqb-true _ 0 q
       go false q = control-refused p streaming selector refl (eqb-false _ 0 q) ∙ e
 
-  pub streaming-control : controlRefusal p selector ≡ 0 → camera.controlRefusal p true selector ≡ 0
+  pub streaming-control : profileRefusal p selector ≡ 0 → controlRefusal p true selector ≡ 0
   streaming-control z = sym (control-state p true selector refl z) ∙ go (eqb selector selectors.throttle)
     where
       go : (b : Bool) → cond {A = ℕ} (b && true && false) wrongState 0 ≡ 0
@@ -81,8 +83,8 @@ module _ (p : Profile) (selector : ℕ) where
       go false = refl
 
 -- some flag is chosen only where one is set
-choice-some : (offers flags : ℕ) → not (isChoice (choiceOf offers flags)) ≡ false → 0 < flags
-unfolding choiceOf isChoice bitsOf count
+choice-some : (offers flags : ℕ) → not (isChoice (oneFlag offers flags)) ≡ false → 0 < flags
+unfolding oneFlag isChoice bitsOf count
 choice-some offers zero e = absurd (true≢false e)
 choice-some offers (suc n) e = omega arith
 
@@ -92,7 +94,7 @@ module _ (p : Profile) (payload : List ℕ) (i : ℕ) (e : entryRefusal (p .face
   offers = offersOf (p .face) (entryAddress payload i)
 
   abbrev rows : List Row
-  rows = (eqb offers 0 ⇒ outOfRange) ∷ (seenBefore payload i ⇒ invalidValue) ∷ (not (isChoice (choiceOf offers (entryFlags payload i))) ⇒ invalidValue) ∷ []
+  rows = (eqb offers 0 ⇒ outOfRange) ∷ (seenBefore payload i ⇒ invalidValue) ∷ (not (isChoice (oneFlag offers (entryFlags payload i))) ⇒ invalidValue) ∷ []
 
   entry-tests : Quiet rows
   unfolding entryRefusal
@@ -109,13 +111,13 @@ module _ (p : Profile) (payload : List ℕ) (i : ℕ) (e : entryRefusal (p .face
 
 -- what an item gives is good, where the control's own tests hold
 module _ (p : Profile) (v : profileValid p ≡ true) (payload : List ℕ) (i : ℕ) (s : Setting) where
-  one-good : (code : ℕ) (t : Setting) → controlRefusal p (selectorOf t) ≡ 0 → (code ≡ 0 → valueRefusal p t ≡ 0) → (code ≡ 0 → Proper t) → itemOf code t ≡ Given s → Good p s
+  one-good : (code : ℕ) (t : Setting) → profileRefusal p (settingSelector t) ≡ 0 → (code ≡ 0 → valueRefusal p t ≡ 0) → (code ≡ 0 → Proper t) → itemOf code t ≡ Given s → Good p s
   one-good code t c a b e =
       let g = given-is code t s e in
       subst (Good p) (g .1) (record { control = c; value = a (g .0); proper = b (g .0) })
 
-  pub item-good : (selector : ℕ) → Control selector → controlRefusal p selector ≡ 0 → itemAt p selector payload i ≡ Given s → Good p s
-  unfolding itemAt evItem faceItem metadataItem hdrItem throttleItem valueRefusal
+  pub item-good : (selector : ℕ) → KnownControl selector → profileRefusal p selector ≡ 0 → profileItem p selector payload i ≡ Given s → Good p s
+  unfolding profileItem evItem faceItem metadataItem hdrItem throttleItem valueRefusal
   item-good _ ev c e = one-good _ (S.Ev (record { flags = evFlags payload; value = evValue payload })) c (λ z. z) (λ z. tt) e
   item-good _ face c e =
       one-good _ (S.Face (entryAddress payload i) (entryFlags payload i)) c (λ z. entry-value p payload i z)
@@ -145,17 +147,17 @@ each-proper p (x ∷ l) g = (g .0, g .1 .proper, each-proper p l (g .2))
 
 -- settings that are well formed, key by key
 module _ (p : Profile) (h : Settings) where
-  formed-kept : wellFormed p h ≡ true → (k : ℕ) → kept p (held h k) ≡ true
-  unfolding wellFormed kept
+  formed-kept : settingsWellFormed p h ≡ true → (k : ℕ) → kept p (settingsHeld h k) ≡ true
+  unfolding settingsWellFormed kept
   formed-kept w k = let q = simp and-eq-true-iff at w in go (leb keys k) refl (q .1)
     where
-      go : (b : Bool) → leb keys k ≡ b → allBelow keys (λ k. kept p (held h k)) ≡ true → kept p (held h k) ≡ true
+      go : (b : Bool) → leb keys k ≡ b → allBelow keys (λ k. kept p (settingsHeld h k)) ≡ true → kept p (settingsHeld h k) ≡ true
       go true e a = rw (held-none h k (leb-true keys k e))
-      go false e a = all-at keys (λ k. kept p (held h k)) a k (leb-false keys k e)
+      go false e a = all-at keys (λ k. kept p (settingsHeld h k)) a k (leb-false keys k e)
 
-  pub kept-formed : profileValid p ≡ true → ((k : ℕ) → kept p (held h k) ≡ true) → wellFormed p h ≡ true
-  unfolding wellFormed
-  kept-formed v f = rw (v, all-of keys (λ k. kept p (held h k)) (λ k l. f k))
+  pub kept-formed : profileValid p ≡ true → ((k : ℕ) → kept p (settingsHeld h k) ≡ true) → settingsWellFormed p h ≡ true
+  unfolding settingsWellFormed
+  kept-formed v f = rw (v, all-of keys (λ k. kept p (settingsHeld h k)) (λ k l. f k))
 
 -- of two that are kept, either
 over-kept : (p : Profile) (a b : Option Setting) → kept p a ≡ true → kept p b ≡ true → kept p (over a b) ≡ true
@@ -171,22 +173,22 @@ last-kept p (x ∷ l) g k = over-kept p (cond (eqb (x .0) k) (some (x .1)) none)
     go true = good-kept p (x .1) (g .1)
     go false = refl
 
-module _ (p : Profile) (h : Settings) (w : wellFormed p h ≡ true) where
+module _ (p : Profile) (h : Settings) (w : settingsWellFormed p h ≡ true) where
   formed-valid : profileValid p ≡ true
-  unfolding wellFormed
+  unfolding settingsWellFormed
   formed-valid = let q = simp and-eq-true-iff at w in q .0
 
   -- good settings leave them well formed
-  pub puts-formed : (l : List (ℕ × Setting)) → length (h .face) ≡ places → Each (Good p) l → wellFormed p (puts h l) ≡ true
+  pub puts-formed : (l : List (ℕ × Setting)) → length (h .face) ≡ places → Each (Good p) l → settingsWellFormed p (putAll h l) ≡ true
   puts-formed l f g =
-      kept-formed p (puts h l) formed-valid
-      (λ k. rw (puts-held h l (each-proper p l g) f k) (over-kept p (held h k) (lastOf l k) (formed-kept p h w k) (last-kept p l g k)))
+      kept-formed p (putAll h l) formed-valid
+      (λ k. rw (puts-held h l (each-proper p l g) f k) (over-kept p (settingsHeld h k) (lastOf l k) (formed-kept p h w k) (last-kept p l g k)))
 
   -- and what is held of a key is good
-  pub held-good : (k : ℕ) (s : Setting) → held h k ≡ some s → (keyOf s ≡ k) × Good p s
+  pub held-good : (k : ℕ) (s : Setting) → settingsHeld h k ≡ some s → (settingKey s ≡ k) × Good p s
   unfolding kept
   held-good k s e =
       let n = held-named h k s e in
-      let q : eqb (controlRefusal p (selectorOf s)) 0 && eqb (valueRefusal p s) 0 ≡ true = ap (kept p) (sym e) ∙ formed-kept p h w k in
+      let q : eqb (profileRefusal p (settingSelector s)) 0 && eqb (valueRefusal p s) 0 ≡ true = ap (kept p) (sym e) ∙ formed-kept p h w k in
       let r = simp and-eq-true-iff at q in
       (n .0, record { control = eqb-true _ 0 (r .0); value = eqb-true _ 0 (r .1); proper = n .1 })

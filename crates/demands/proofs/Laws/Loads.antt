@@ -13,33 +13,34 @@ use Rattle.wire.specs.Endpoints.{firstAddress}
 use Rattle.wire.specs.Rows.{_⇒_, answers, firstOf}
 use Rattle.wire.specs.Uvc.{malformedSnapshot}
 use Rattle.wire.proofs.Laws.Rows.{quiet}
-use Rattle.snapshot.specs.Form.{keys}
-use Rattle.snapshot.specs.Form as form
-use Rattle.snapshot.specs.Records.{decode, GoodAt, Record}
-use Rattle.snapshot.specs.Settings.{over, lastOf}
-use Rattle.merging.specs.Merge.{merged}
+use Rattle.snapshot.specs.Keys.{keys}
+use Rattle.snapshot.specs.Form.{statedKey, wellFormed}
+use Rattle.snapshot.specs.Keys.{keyFor}
+use Rattle.snapshot.specs.Records.{decode, GoodAt, RecordOf}
+use Rattle.snapshot.specs.Given.{over, lastOf}
+use Rattle.merging.specs.Merging.{merged}
 use Rattle.snapshot.proofs.Laws.Sound.{stands-sound}
 use Rattle.snapshot.proofs.Laws.Maps.{decode-good, none-above}
-use Rattle.snapshot.proofs.Laws.Settings.{over-none, last-append}
+use Rattle.snapshot.proofs.Laws.Given.{over-none, last-append}
 use Rattle.merging.proofs.Laws.Merging.{decode-merged, merged-formed}
 use Rattle.controls.specs.declared.Item.{Item}
 use Rattle.controls.specs.declared.Item.the-variants.{Refused, Given}
 use Rattle.controls.specs.declared.Setting.{Setting}
-use Rattle.controls.specs.Settings.{itemOf, codeOf}
-use Rattle.exposure.specs.Ev.{evItem}
+use Rattle.controls.specs.Controls.{itemOf, itemCode}
+use Rattle.exposure.specs.Exposure.{evItem}
 use Rattle.entries.specs.Entries.{faceItem}
 use Rattle.metadata.specs.Metadata.{metadataItem}
 use Rattle.hdr.specs.Hdr.{hdrItem}
 use Rattle.throttle.specs.Throttle.{throttleItem}
-use Rattle.controls.proofs.Laws.Settings.{item-given, item-code, given-is}
+use Rattle.controls.proofs.Laws.Controls.{item-given, item-code, given-is}
 use Rattle.profile.specs.declared.Profile.{Profile}
-use Rattle.settings.specs.Settings.{keyOf}
+use Rattle.settings.specs.Settings.{settingKey}
 use Rattle.camera.specs.Requests.{controlRefusal}
-use Rattle.profile.specs.Items.{itemAt}
+use Rattle.profile.specs.Items.{profileItem}
 use Rattle.settings.specs.Items.{givenOf, allGiven}
 use Rattle.controls.proofs.Laws.Items.{passes, none-refused}
-use Rattle.profile.specs.Selectors.{Control, ev, face, metadata, hdr, throttle}
-use Rattle.camera.specs.Snapshots.{selectorAt, recordItem, loadRefusal, loadTests, loadGives}
+use Rattle.profile.specs.KnownControl.{KnownControl, ev, face, metadata, hdr, throttle}
+use Rattle.camera.specs.Loading.{selectorAt, recordItem, loadRefusal, loadTests, loadGives}
 use Rattle.camera.proofs.Laws.Loading.{codeBy, givenBy}
 use Rattle.demands.proofs.Laws.Sets.{is-kind, row-number}
 use Rattle.demands.proofs.Laws.Steps.{not-off, isGiven, key-control}
@@ -75,29 +76,29 @@ module _ (given : ℕ → List (ℕ × Setting)) (keyed : Keyed given) where
   last-above (suc n) k j h = last-append (given k) (allGiven n (suc k) given) j ∙ ap₂ over (keyed k j (omega arith)) (last-above n (suc k) j (omega arith))
 
 -- an item whose number is 0 gives the setting
-pub taken : (code : ℕ) (s : Setting) → codeOf (itemOf code s) ≡ 0 → itemOf code s ≡ Given s
+pub taken : (code : ℕ) (s : Setting) → itemCode (itemOf code s) ≡ 0 → itemOf code s ≡ Given s
 taken code s e = item-given code s (sym (item-code code s) ∙ e)
 
 -- the setting that a control's payload gives stands under the key of its kind and address
-item-key : (p : Profile) (r : List ℕ) (s : Setting) (selector : ℕ) → Control selector → itemAt p selector (drop 4 r) 0 ≡ Given s → keyOf s ≡ form.keyFor selector (getD r 5 0)
-unfolding itemAt evItem faceItem metadataItem hdrItem throttleItem
-item-key p r s _ ev e = ap keyOf (sym (given-is _ _ s e .1))
-item-key p r s _ face e = ap keyOf (sym (given-is _ _ s e .1)) ∙ ap (λ (a : ℕ). a - (firstAddress - 1)) (getD-drop 4 r 1 0)
-item-key p r s _ metadata e = ap keyOf (sym (given-is _ _ s e .1))
-item-key p r s _ hdr e = ap keyOf (sym (given-is _ _ s e .1))
-item-key p r s _ throttle e = ap keyOf (sym (given-is _ _ s e .1))
+item-key : (p : Profile) (r : List ℕ) (s : Setting) (selector : ℕ) → KnownControl selector → profileItem p selector (drop 4 r) 0 ≡ Given s → settingKey s ≡ keyFor selector (getD r 5 0)
+unfolding profileItem evItem faceItem metadataItem hdrItem throttleItem
+item-key p r s _ ev e = ap settingKey (sym (given-is _ _ s e .1))
+item-key p r s _ face e = ap settingKey (sym (given-is _ _ s e .1)) ∙ ap (λ (a : ℕ). a - (firstAddress - 1)) (getD-drop 4 r 1 0)
+item-key p r s _ metadata e = ap settingKey (sym (given-is _ _ s e .1))
+item-key p r s _ hdr e = ap settingKey (sym (given-is _ _ s e .1))
+item-key p r s _ throttle e = ap settingKey (sym (given-is _ _ s e .1))
 
 -- so the setting that a record gives stands under the record's key
-record-keyed : (p : Profile) (k : ℕ) (r : List ℕ) (s : Setting) → Record k r → itemAt p (selectorAt k) (drop 4 r) 0 ≡ Given s → keyOf s ≡ k
-unfolding form.keyAt
+record-keyed : (p : Profile) (k : ℕ) (r : List ℕ) (s : Setting) → RecordOf k r → profileItem p (selectorAt k) (drop 4 r) 0 ≡ Given s → settingKey s ≡ k
+unfolding statedKey
 record-keyed p k r s q e =
     item-key p r s (selectorAt k) (key-control k) e
-    ∙ ap (λ (n : ℕ). form.keyFor n (getD r 5 0)) (is-kind k r q)
+    ∙ ap (λ (n : ℕ). keyFor n (getD r 5 0)) (is-kind k r q)
     ∙ stands-sound k r (q .is) .1
 
 -- a control's item is by its tests' number
-item-taken : (p : Profile) (selector : ℕ) (payload : List ℕ) (i : ℕ) → Control selector → codeOf (itemAt p selector payload i) ≡ 0 → isGiven (itemAt p selector payload i) ≡ true
-unfolding itemAt evItem faceItem metadataItem hdrItem throttleItem isGiven
+item-taken : (p : Profile) (selector : ℕ) (payload : List ℕ) (i : ℕ) → KnownControl selector → itemCode (profileItem p selector payload i) ≡ 0 → isGiven (profileItem p selector payload i) ≡ true
+unfolding profileItem evItem faceItem metadataItem hdrItem throttleItem isGiven
 item-taken p _ payload i ev e = ap isGiven (taken _ _ e)
 item-taken p _ payload i face e = ap isGiven (taken _ _ e)
 item-taken p _ payload i metadata e = ap isGiven (taken _ _ e)
@@ -106,22 +107,22 @@ item-taken p _ payload i throttle e = ap isGiven (taken _ _ e)
 
 module _ (p : Profile) (streaming : Bool) where
   -- so is a record's
-  record-taken : (k : ℕ) (r : List ℕ) → codeOf (recordItem p streaming k r) ≡ 0 → isGiven (recordItem p streaming k r) ≡ true
-  unfolding recordItem codeOf
+  record-taken : (k : ℕ) (r : List ℕ) → itemCode (recordItem p streaming k r) ≡ 0 → isGiven (recordItem p streaming k r) ≡ true
+  unfolding recordItem itemCode
   record-taken k r e = go (eqb (controlRefusal p streaming (selectorAt k)) 0) refl e
     where
       go : (b : Bool) → eqb (controlRefusal p streaming (selectorAt k)) 0 ≡ b
-          → codeOf (cond b (itemAt p (selectorAt k) (drop 4 r) 0) (Refused (controlRefusal p streaming (selectorAt k)))) ≡ 0
-          → isGiven (cond b (itemAt p (selectorAt k) (drop 4 r) 0) (Refused (controlRefusal p streaming (selectorAt k)))) ≡ true
+          → itemCode (cond b (profileItem p (selectorAt k) (drop 4 r) 0) (Refused (controlRefusal p streaming (selectorAt k)))) ≡ 0
+          → isGiven (cond b (profileItem p (selectorAt k) (drop 4 r) 0) (Refused (controlRefusal p streaming (selectorAt k)))) ≡ true
       go true q z = item-taken p (selectorAt k) (drop 4 r) 0 (key-control k) z
       go false q z = absurd (eqb-false _ 0 q z)
 
   -- the setting that a record gives stands under its key
-  record-key : (k : ℕ) (r : List ℕ) → Record k r → (t : Setting) → recordItem p streaming k r ≡ Given t → keyOf t ≡ k
+  record-key : (k : ℕ) (r : List ℕ) → RecordOf k r → (t : Setting) → recordItem p streaming k r ≡ Given t → settingKey t ≡ k
   unfolding recordItem isGiven
   record-key k r g t e = go (eqb (controlRefusal p streaming (selectorAt k)) 0) e
     where
-      go : (b : Bool) → cond b (itemAt p (selectorAt k) (drop 4 r) 0) (Refused (controlRefusal p streaming (selectorAt k))) ≡ Given t → keyOf t ≡ k
+      go : (b : Bool) → cond b (profileItem p (selectorAt k) (drop 4 r) 0) (Refused (controlRefusal p streaming (selectorAt k))) ≡ Given t → settingKey t ≡ k
       go true i = record-keyed p k r t g i
       go false i = absurd (true≢false (sym (ap isGiven i)))
 
@@ -129,7 +130,7 @@ module _ (p : Profile) (streaming : Bool) where
   unfolding Option·elim givenOf
   load-keyed s k j n = go (decode s k) (decode-good s k)
     where
-      one : (i : Item) → ((t : Setting) → i ≡ Given t → keyOf t ≡ k) → lastOf (givenOf i) j ≡ none
+      one : (i : Item) → ((t : Setting) → i ≡ Given t → settingKey t ≡ k) → lastOf (givenOf i) j ≡ none
       one (Refused code) h = refl
       one (Given t) h = rw (h t refl, ne-eqb k j n)
 
@@ -154,15 +155,15 @@ module _ (p : Profile) (streaming : Bool) where
 
   -- an accepted load: well formed, and no record is refused
   pub record Accepted (s : List ℕ) : Type 0 where
-    pub formed : form.wellFormed s ≡ true
+    pub formed : wellFormed s ≡ true
     pub each : (k : ℕ) → codeBy p streaming k (decode s k) ≡ 0
 
   pub load-accepted : (s : List ℕ) → firstOf (loadTests p streaming s) ≡ 0 → Accepted s
   unfolding loadTests loadRefusal Option·elim
   load-accepted s e =
       let n = loadRefusal p streaming s in
-      let q = quiet ((not (form.wellFormed s) ⇒ malformedSnapshot) ∷ []) (answers n ∷ []) refl e in
-      record { formed = not-off (form.wellFormed s) (q .0 .0); each = λ k. go (sym (row-number n) ∙ q .1) k (leb keys k) refl }
+      let q = quiet ((not (wellFormed s) ⇒ malformedSnapshot) ∷ []) (answers n ∷ []) refl e in
+      record { formed = not-off (wellFormed s) (q .0 .0); each = λ k. go (sym (row-number n) ∙ q .1) k (leb keys k) refl }
     where
       go : loadRefusal p streaming s ≡ 0 → (k : ℕ) (b : Bool) → leb keys k ≡ b → codeBy p streaming k (decode s k) ≡ 0
       go z k true q = ap (codeBy p streaming k) (load-end s k (leb-true keys k q))
@@ -183,7 +184,7 @@ module _ (p : Profile) (streaming : Bool) where
   over-setting k x none g b = refl
   over-setting k x (some r) g b = go (recordItem p streaming k r) (record-key k r g) (record-taken k r b)
     where
-      go : (i : Item) → ((t : Setting) → i ≡ Given t → keyOf t ≡ k) → isGiven i ≡ true → lastOf (givenOf i) k ≡ over (lastOf (givenBy p streaming k x) k) (lastOf (givenOf i) k)
+      go : (i : Item) → ((t : Setting) → i ≡ Given t → settingKey t ≡ k) → isGiven i ≡ true → lastOf (givenOf i) k ≡ over (lastOf (givenBy p streaming k x) k) (lastOf (givenOf i) k)
       go (Refused code) h e = absurd (true≢false (sym e))
       go (Given t) h e = rw (h t refl, eq-eqb k k refl)
 

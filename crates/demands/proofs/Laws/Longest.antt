@@ -10,25 +10,25 @@ use lib.Dec.{eqb}
 use lib.ListN.{length, getD}
 use borrow.Author.Tests.{eqb-true, eqb-false}
 use Rattle.wire.specs.Endpoints.{firstAddress, places, endpointLimit}
-use Rattle.flags.specs.Flags.{choiceOf}
+use Rattle.flags.specs.Flags.{oneFlag}
 use Rattle.wire.specs.Rows.{_⇒_}
 use Rattle.wire.specs.Uvc.{outOfRange, invalidValue}
 use Rattle.wire.proofs.Laws.Rows.{quiet}
-use Rattle.snapshot.specs.Records as records
+use Rattle.snapshot.specs.Records.{countOne, recordCount}
 use Rattle.snapshot.proofs.Laws.Lengths.{encode-short}
 use Rattle.face.specs.declared.limits.FaceLimits.{FaceLimits}
-use Rattle.settings.specs.Settings.{valueRefusal}
-use Rattle.face.specs.Limits.{addressAt, offersAt, offersFrom, offersOf, endpoints}
+use Rattle.settings.specs.Kept.{valueRefusal}
+use Rattle.face.specs.Limits.{addressAt, offersAt, offersFrom, offersOf, endpointsOf}
 use Rattle.entries.specs.Entries.{isChoice, settingRefusal}
 use Rattle.controls.specs.declared.Setting.{Setting}
 use Rattle.controls.specs.declared.Setting.the-variants as S
 use Rattle.camera.specs.declared.record.Camera.{Camera}
-use Rattle.camera.specs.Record.{held, wellFormed}
-use Rattle.encoding.specs.Encoding.{row}
-use Rattle.camera.specs.Snapshots.{snapshot}
+use Rattle.camera.specs.Record.{held, recordWellFormed}
+use Rattle.encoding.specs.Encoding.{recordOf}
+use Rattle.camera.specs.Writing.{snapshot}
 use Rattle.demands.proofs.Laws.Held.{held-face, none-never}
 use Rattle.demands.proofs.Laws.Kept.{held-good}
-use Rattle.demands.proofs.Laws.Records.{held-rows}
+use Rattle.demands.proofs.Laws.Cameras.{held-records}
 
 -- how many of the n numbers from k on f holds of
 tally : ℕ → ℕ → (ℕ → Bool) → ℕ
@@ -111,20 +111,20 @@ value-offered : (l : FaceLimits) (address flags : ℕ) → settingRefusal l addr
 unfolding settingRefusal
 value-offered l address flags z =
     let offers = offersOf l address in
-    let rows = (eqb offers 0 ⇒ outOfRange) ∷ (not (isChoice (choiceOf offers flags)) ⇒ invalidValue) ∷ [] in
+    let rows = (eqb offers 0 ⇒ outOfRange) ∷ (not (isChoice (oneFlag offers flags)) ⇒ invalidValue) ∷ [] in
     eqb-false offers 0 (quiet rows [] refl z .0 .0)
 
 -- so is the address of every endpoint that a well-formed record holds a setting of
-module _ (c : Camera) (w : wellFormed c ≡ true) where
+module _ (c : Camera) (w : recordWellFormed c ≡ true) where
   abbrev limits : FaceLimits
   limits = c .profile .face
 
-  held-listed : (k : ℕ) (s : Setting) → 1 ≤ k → k ≤ places → held c k ≡ some s → listed limits (endpoints limits) k ≡ true
+  held-listed : (k : ℕ) (s : Setting) → 1 ≤ k → k ≤ places → held c k ≡ some s → listed limits (endpointsOf limits) k ≡ true
   unfolding offersOf valueRefusal
   held-listed k s l h e = go (eqb (getD (c .settings .face) (k - 1) 0) 0) refl (sym (held-face (c .settings) k l h) ∙ e)
     where
       go : (b : Bool) → eqb (getD (c .settings .face) (k - 1) 0) 0 ≡ b → cond b none (some (S.Face (firstAddress + (k - 1)) (getD (c .settings .face) (k - 1) 0))) ≡ some s
-          → listed limits (endpoints limits) k ≡ true
+          → listed limits (endpointsOf limits) k ≡ true
       go true p q = absurd (none-never s q)
       go false p q =
           let address = firstAddress + (k - 1) in
@@ -132,25 +132,25 @@ module _ (c : Camera) (w : wellFormed c ≡ true) where
           let f : S.Face address flags ≡ s = cc in
           let v : valueRefusal (c .profile) (S.Face address flags) ≡ 0 = ap (valueRefusal (c .profile)) f ∙ held-good (c .profile) (c .settings) w k s e .1 .value in
           let a : address ≡ addressOf k = omega arith in
-          ap (λ (n : ℕ). listed limits n k) (sym (add-zero (endpoints limits))) ∙ found limits k (endpoints limits) 0 (rw a at (value-offered limits address flags v))
+          ap (λ (n : ℕ). listed limits n k) (sym (add-zero (endpointsOf limits))) ∙ found limits k (endpointsOf limits) 0 (rw a at (value-offered limits address flags v))
 
   abbrev rows : ℕ → Option (List ℕ)
-  rows k = Option·map (row k) (held c k)
+  rows k = Option·map recordOf (held c k)
 
-  held-tally : (n k : ℕ) → 1 ≤ k → n + k ≤ places + 1 → records.recordCount n k rows ≤ tally n k (listed limits (endpoints limits))
-  unfolding records.recordCount tally
+  held-tally : (n k : ℕ) → 1 ≤ k → n + k ≤ places + 1 → recordCount n k rows ≤ tally n k (listed limits (endpointsOf limits))
+  unfolding recordCount tally
   held-tally zero k l h = omega arith
   held-tally (suc n) k l h = go (held c k) refl (held-tally n (suc k) (omega arith) (omega arith))
     where
-      go : (o : Option Setting) → held c k ≡ o → records.recordCount n (suc k) rows ≤ tally n (suc k) (listed limits (endpoints limits))
-          → records.counted (Option·map (row k) o) (records.recordCount n (suc k) rows) ≤ cond (listed limits (endpoints limits) k) 1 0 + tally n (suc k) (listed limits (endpoints limits))
+      go : (o : Option Setting) → held c k ≡ o → recordCount n (suc k) rows ≤ tally n (suc k) (listed limits (endpointsOf limits))
+          → countOne (Option·map recordOf o) (recordCount n (suc k) rows) ≤ cond (listed limits (endpointsOf limits) k) 1 0 + tally n (suc k) (listed limits (endpointsOf limits))
       go none e ih = omega arith
       go (some s) e ih = rw (held-listed k s l (omega arith) e) (omega arith)
 
   -- at most eight endpoints hold a setting
-  few-held : records.recordCount places 1 rows ≤ endpointLimit
-  few-held = omega (arith, held-tally places 1 (omega arith) (omega arith), tally-listed limits (endpoints limits) places 1)
+  few-held : recordCount places 1 rows ≤ endpointLimit
+  few-held = omega (arith, held-tally places 1 (omega arith) (omega arith), tally-listed limits (endpointsOf limits) places 1)
 
   pub snapshot-short : length (snapshot c) ≤ 159
   unfolding snapshot
-  snapshot-short = encode-short rows (held-rows c w) few-held
+  snapshot-short = encode-short rows (held-records c w) few-held

@@ -10,56 +10,57 @@ use lib.ListN.{length, getD, take, drop, length-drop, List·getD-eq-default}
 use lib.Seq.{drop-cons, drop-drop, drop-at, drop-append-le, take-add, take-append-le, getD-set-same, getD-set-other}
 use borrow.Author.Tests.{eq-eqb, ne-eqb, eqb-true, eqb-false, ltb-true, ltb-false, le-leb}
 use Rattle.wire.specs.Endpoints.{firstAddress, lastAddress, places}
-use Rattle.wire.specs.Number.{leAt, bytesOf}
+use Rattle.wire.specs.Numbers.{leAt, bytesOf}
 use Rattle.wire.specs.Selectors as selectors
 use Rattle.wire.specs.Uvc.{getCur, getDef}
 use Rattle.wire.proofs.Laws.Bytes.{bytes-at, word-bytes}
 use Rattle.wire.proofs.Laws.Numbers.{Bytes}
 use Rattle.request.specs.Answers.{answerBy}
-use Rattle.request.specs.Tests as tests
+use Rattle.request.specs.Tests.{fullAnswer}
 use Rattle.controls.specs.declared.Item.{Item}
 use Rattle.controls.specs.declared.Item.the-variants.{Given}
 use Rattle.controls.specs.declared.Setting.{Setting}
 use Rattle.controls.specs.declared.Setting.the-variants as S
-use Rattle.controls.specs.Settings.{itemOf, numberOr, codeOf, firstRefusal}
-use Rattle.exposure.specs.Ev.{evFlags, evValue, evItem, evCurrent, evAt}
+use Rattle.controls.specs.Controls.{itemOf, numberOr, itemCode, firstRefusal}
+use Rattle.exposure.specs.Exposure.{evFlags, evValue, evItem, evCurrent, evAttribute}
 use Rattle.face.specs.declared.limits.FaceLimits.{FaceLimits}
-use Rattle.face.specs.Limits.{endpoints, addressAt, offersAt, offersFrom, offersOf}
-use Rattle.entries.specs.Entries.{takesFace, entryAddress, entryFlags, seenIn, seenBefore, putFace, entriesPut, facesTaken}
+use Rattle.face.specs.Limits.{endpointsOf, addressAt, offersAt, offersFrom, offersOf}
+use Rattle.entries.specs.Entries.{faceSetLength, entryAddress, entryFlags, seenIn, seenBefore, putFace, entriesPut, facesTaken}
 use Rattle.face.specs.Answers.{entryOf, heldAt, flagsAt, entriesOf, faceValue}
-use Rattle.metadata.specs.Metadata.{metadataItem, metadataAt}
-use Rattle.hdr.specs.Hdr.{hdrItem, hdrAt}
-use Rattle.throttle.specs.Throttle.{throttleItem, throttleCurrent, throttleAt, throttleBytes}
+use Rattle.metadata.specs.Metadata.{metadataItem, metadataAttribute}
+use Rattle.hdr.specs.Hdr.{hdrItem, hdrAttribute}
+use Rattle.throttle.specs.Throttle.{throttleItem, throttleCurrent, throttleAttribute, throttleBytes}
 use Rattle.controls.proofs.Laws.Items.{none-refused}
-use Rattle.exposure.proofs.Laws.Ev.{ev-bytes}
+use Rattle.exposure.proofs.Laws.Exposure.{ev-bytes}
 use Rattle.entries.proofs.Laws.Entries.{taken-entries}
 use Rattle.face.proofs.Laws.Answers.{length-entries}
 use Rattle.entries.proofs.Laws.Payload.{accepted}
 use Rattle.entries.proofs.Laws.Held.{length-put}
 use Rattle.profile.specs.declared.Profile.{Profile}
 use Rattle.settings.specs.declared.settings.Settings.{Settings}
-use Rattle.profile.specs.Selectors.{Control, ev, face, metadata, hdr, throttle}
-use Rattle.profile.specs.Profile.{settable, takes, profileValid, controlRefusal}
-use Rattle.settings.specs.Settings.{faceHeld, held, put}
-use Rattle.profile.specs.Items.{itemAt, setRefusal}
-use Rattle.settings.specs.Items.{givenOf, allGiven, puts, setGives, setTaken}
-use Rattle.answering.specs.Answers.{valueOf}
+use Rattle.profile.specs.KnownControl.{KnownControl, ev, face, metadata, hdr, throttle}
+use Rattle.profile.specs.Profile.{isSettable, setLength, profileValid, profileRefusal}
+use Rattle.settings.specs.Held.{faceHeld, settingsHeld}
+use Rattle.settings.specs.Settings.{put}
+use Rattle.profile.specs.Items.{profileItem, setRefusal}
+use Rattle.settings.specs.Items.{givenOf, allGiven, putAll, setGives, setTaken}
+use Rattle.answering.specs.Answering.{valueOf}
 use Rattle.settings.proofs.Laws.Items.{face-refusal, face-set}
 use Rattle.camera.specs.declared.record.Camera.{Camera}
 use Rattle.camera.specs.Record.{withSettings}
-use Rattle.camera.specs.Requests.{answerOf}
-use Rattle.camera.specs.Snapshots.{selectorAt}
-use Rattle.demands.specs.Demand2.{bytesBack, entryBytes}
+use Rattle.camera.specs.Requests.{cameraAnswer}
+use Rattle.camera.specs.Loading.{selectorAt}
+use Rattle.demands.specs.Answers.{bytesBack, entryBytes}
 use Rattle.demands.proofs.Laws.Held.{none-never, held-face}
 use Rattle.demands.proofs.Laws.Kept.{item-good}
 use Rattle.demands.proofs.Laws.Loads.{taken}
 
 -- one item that no test refuses is put in
-one-put : (h : Settings) (item : ℕ → Item) (code : ℕ) (s : Setting) → item 0 ≡ itemOf code s → firstRefusal 1 0 (λ i. codeOf (item i)) ≡ 0
-    → puts h (allGiven 1 0 (λ i. givenOf (item i))) ≡ put h s
-unfolding allGiven givenOf puts
+one-put : (h : Settings) (item : ℕ → Item) (code : ℕ) (s : Setting) → item 0 ≡ itemOf code s → firstRefusal 1 0 (λ i. itemCode (item i)) ≡ 0
+    → putAll h (allGiven 1 0 (λ i. givenOf (item i))) ≡ put h s
+unfolding allGiven givenOf putAll
 one-put h item code s e z =
-    let g : item 0 ≡ Given s = e ∙ taken code s (ap codeOf (sym e) ∙ none-refused (λ i. codeOf (item i)) 1 z 0 (lit< tt)) in
+    let g : item 0 ≡ Given s = e ∙ taken code s (ap itemCode (sym e) ∙ none-refused (λ i. itemCode (item i)) 1 z 0 (lit< tt)) in
     rw g
 
 -- the four controls of one setting
@@ -68,26 +69,26 @@ module _ (c : Camera) (payload : List ℕ) (b : Bytes payload) where
   front n = ap₂ _++_ (bytes-at 4 payload 0 (omega arith) b) (bytes-at 4 payload 4 (omega arith) b) ∙ sym (take-add 4 4 payload)
 
   abbrev currentOf : ℕ → Settings → List ℕ
-  currentOf control h = answerOf (withSettings c h) control getCur
+  currentOf control h = cameraAnswer (withSettings c h) control getCur
 
-  pub answer-back : (control : ℕ) → Control control → (control ≡ selectors.face → ⊥) → settable (c .profile) control ≡ true → setRefusal (c .profile) control payload ≡ 0
-      → length payload ≡ takes (c .profile) control payload
-      → currentOf control (puts (c .settings) (setGives (c .profile) control payload)) ≡ bytesBack (c .profile) control payload
-  unfolding setRefusal setGives itemAt evItem metadataItem hdrItem throttleItem tests.answerOf valueOf put answerBy evAt evCurrent metadataAt hdrAt numberOr throttleAt throttleCurrent throttleBytes
+  pub answer-back : (control : ℕ) → KnownControl control → (control ≡ selectors.face → ⊥) → isSettable (c .profile) control ≡ true → setRefusal (c .profile) control payload ≡ 0
+      → length payload ≡ setLength (c .profile) control payload
+      → currentOf control (putAll (c .settings) (setGives (c .profile) control payload)) ≡ bytesBack (c .profile) control payload
+  unfolding setRefusal setGives profileItem evItem metadataItem hdrItem throttleItem fullAnswer valueOf put answerBy evAttribute evCurrent metadataAttribute hdrAttribute numberOr throttleAttribute throttleCurrent throttleBytes
   answer-back _ ev m w z n =
-      ap (currentOf selectors.ev) (one-put (c .settings) (itemAt (c .profile) selectors.ev payload) _ (S.Ev (record { flags = evFlags payload; value = evValue payload })) refl z)
+      ap (currentOf selectors.ev) (one-put (c .settings) (profileItem (c .profile) selectors.ev payload) _ (S.Ev (record { flags = evFlags payload; value = evValue payload })) refl z)
       ∙ ev-bytes payload n b
   answer-back _ face m w z n = absurd (m refl)
   answer-back _ metadata m w z n =
-      ap (currentOf selectors.metadata) (one-put (c .settings) (itemAt (c .profile) selectors.metadata payload) _ (S.Metadata (leAt 4 payload 0)) refl z)
+      ap (currentOf selectors.metadata) (one-put (c .settings) (profileItem (c .profile) selectors.metadata payload) _ (S.Metadata (leAt 4 payload 0)) refl z)
       ∙ rw w (word-bytes payload n b)
   answer-back _ hdr m w z n =
-      ap (currentOf selectors.hdr) (one-put (c .settings) (itemAt (c .profile) selectors.hdr payload) _ (S.Hdr (leAt 4 payload 0)) refl z)
+      ap (currentOf selectors.hdr) (one-put (c .settings) (profileItem (c .profile) selectors.hdr payload) _ (S.Hdr (leAt 4 payload 0)) refl z)
       ∙ word-bytes payload n b
   answer-back _ throttle m w z n =
       let l = c .profile .throttle in
       ap (currentOf selectors.throttle)
-      (one-put (c .settings) (itemAt (c .profile) selectors.throttle payload) _ (S.Throttle (record { mode = leAt 4 payload 0; percent = leAt 4 payload 4 })) refl z)
+      (one-put (c .settings) (profileItem (c .profile) selectors.throttle payload) _ (S.Throttle (record { mode = leAt 4 payload 0; percent = leAt 4 payload 4 })) refl z)
       ∙ ap (λ f. f ++ bytesOf 4 (l .minimum) ++ bytesOf 4 (l .maximum) ++ bytesOf 4 (l .step)) (front (omega arith))
 
 -- an entry that is not seen before has an address of its own
@@ -115,8 +116,8 @@ pub record Taken (p : Profile) (payload : List ℕ) (i : ℕ) : Type 0 where
   pub known : offersOf (p .face) (entryAddress payload i) ≡ 0 → ⊥
 
 module _ (p : Profile) (payload : List ℕ) (z : setRefusal p selectors.face payload ≡ 0) where
-  pub entry-taken : profileValid p ≡ true → controlRefusal p selectors.face ≡ 0 → (i : ℕ) → i < getD payload 0 0 → Taken p payload i
-  unfolding itemAt
+  pub entry-taken : profileValid p ≡ true → profileRefusal p selectors.face ≡ 0 → (i : ℕ) → i < getD payload 0 0 → Taken p payload i
+  unfolding profileItem
   entry-taken v r i h =
       let g = taken-entries (p .face) payload (getD payload 0 0) (sym (face-refusal p payload) ∙ z) i h in
       let proper = item-good p v payload i _ selectors.face face r g .proper in
@@ -124,7 +125,7 @@ module _ (p : Profile) (payload : List ℕ) (z : setRefusal p selectors.face pay
       record { first = proper .0; last = proper .1; some = proper .2; new = x .new; known = x .known }
 
   -- they are put in one after the other
-  pub face-put : (h : Settings) → puts h (setGives p selectors.face payload) .face ≡ entriesPut (h .face) payload (getD payload 0 0)
+  pub face-put : (h : Settings) → putAll h (setGives p selectors.face payload) .face ≡ entriesPut (h .face) payload (getD payload 0 0)
   unfolding setTaken facesTaken
   face-put h =
       let e = ap (λ t. t .settings .face) (face-set p h payload refl) in
@@ -180,26 +181,26 @@ payload-entry payload i b h =
     ∙ ap (λ r. entryAddress payload i ∷ r) (sym (bytes-at 7 payload (2 + 8 * i) (omega arith) b))
 
 -- of an answer: its place's
-module _ (l : FaceLimits) (held : List ℕ) (code : ℕ) where
-  place-entry : (n j : ℕ) → j < n → take 8 (drop (8 * j) (entriesOf l held code n)) ≡ entryOf (addressAt l j) (flagsAt l held code j)
+module _ (l : FaceLimits) (settingsHeld : List ℕ) (code : ℕ) where
+  place-entry : (n j : ℕ) → j < n → take 8 (drop (8 * j) (entriesOf l settingsHeld code n)) ≡ entryOf (addressAt l j) (flagsAt l settingsHeld code j)
   unfolding entriesOf bytesOf
   place-entry zero j h = absurd (omega arith)
   place-entry (suc n) j h = go (eqb j n) refl (place-entry n j)
     where
-      go : (b : Bool) → eqb j n ≡ b → (j < n → take 8 (drop (8 * j) (entriesOf l held code n)) ≡ entryOf (addressAt l j) (flagsAt l held code j))
-          → take 8 (drop (8 * j) (entriesOf l held code (suc n))) ≡ entryOf (addressAt l j) (flagsAt l held code j)
+      go : (b : Bool) → eqb j n ≡ b → (j < n → take 8 (drop (8 * j) (entriesOf l settingsHeld code n)) ≡ entryOf (addressAt l j) (flagsAt l settingsHeld code j))
+          → take 8 (drop (8 * j) (entriesOf l settingsHeld code (suc n))) ≡ entryOf (addressAt l j) (flagsAt l settingsHeld code j)
       go true e ih =
           let q : j ≡ n = eqb-true j n e in
-          rw q (ap (take 8) (drop-at (entriesOf l held code n) (entryOf (addressAt l n) (flagsAt l held code n)) (8 * n) (length-entries l held code n)))
+          rw q (ap (take 8) (drop-at (entriesOf l settingsHeld code n) (entryOf (addressAt l n) (flagsAt l settingsHeld code n)) (8 * n) (length-entries l settingsHeld code n)))
       go false e ih =
           let q = eqb-false j n e in
-          let m = length-entries l held code n in
-          ap (take 8) (drop-append-le (8 * j) (entriesOf l held code n) _ (omega arith))
-          ∙ take-append-le 8 (drop (8 * j) (entriesOf l held code n)) _ (simp length-drop (omega arith))
+          let m = length-entries l settingsHeld code n in
+          ap (take 8) (drop-append-le (8 * j) (entriesOf l settingsHeld code n) _ (omega arith))
+          ∙ take-append-le 8 (drop (8 * j) (entriesOf l settingsHeld code n)) _ (simp length-drop (omega arith))
           ∙ ih (omega arith)
 
-  answer-entry : (m n j : ℕ) → j < n → entryBytes (m ∷ entriesOf l held code n) j ≡ entryOf (addressAt l j) (flagsAt l held code j)
-  answer-entry m n j h = ap (take 8) (sym (drop-drop (8 * j) 1 (m ∷ entriesOf l held code n))) ∙ place-entry n j h
+  answer-entry : (m n j : ℕ) → j < n → entryBytes (m ∷ entriesOf l settingsHeld code n) j ≡ entryOf (addressAt l j) (flagsAt l settingsHeld code j)
+  answer-entry m n j h = ap (take 8) (sym (drop-drop (8 * j) 1 (m ∷ entriesOf l settingsHeld code n))) ∙ place-entry n j h
 
 -- an address that offers flags is an endpoint's
 place-of : (l : FaceLimits) (address n i : ℕ) → (offersFrom l address n i ≡ 0 → ⊥) → (j : ℕ) × ((j < i + n) × (addressAt l j ≡ address))
@@ -212,13 +213,13 @@ place-of l address (suc n) i h = go (eqb (addressAt l i) address) refl h (place-
     go true e q ih = (i, (omega arith, eqb-true (addressAt l i) address e))
     go false e q ih = let r = ih q in (r .0, (let b = r .1 .0 in omega arith, r .1 .1))
 
-pub place-at : (l : FaceLimits) (address : ℕ) → (offersOf l address ≡ 0 → ⊥) → (j : ℕ) × ((j < endpoints l) × (addressAt l j ≡ address))
+pub place-at : (l : FaceLimits) (address : ℕ) → (offersOf l address ≡ 0 → ⊥) → (j : ℕ) × ((j < endpointsOf l) × (addressAt l j ≡ address))
 unfolding offersOf
-place-at l address h = let r = place-of l address (endpoints l) 0 h in (r .0, (let b = r .1 .0 in omega arith, r .1 .1))
+place-at l address h = let r = place-of l address (endpointsOf l) 0 h in (r .0, (let b = r .1 .0 in omega arith, r .1 .1))
 
 -- an accepted payload has as many bytes as its first byte says
-pub face-sized : (l : FaceLimits) (payload : List ℕ) → length payload ≡ takesFace l payload → length payload ≡ 1 + 8 * getD payload 0 0
-unfolding takesFace
+pub face-sized : (l : FaceLimits) (payload : List ℕ) → length payload ≡ faceSetLength l payload → length payload ≡ 1 + 8 * getD payload 0 0
+unfolding faceSetLength
 face-sized l [] e = absurd (omega arith)
 face-sized l (n ∷ rest) e = go (leb n (l .count)) e
   where
@@ -231,29 +232,29 @@ module _ (c : Camera) where
   abbrev limits : FaceLimits
   limits = c .profile .face
 
-  pub current-entry : (j : ℕ) → j < endpoints limits → entryBytes (answerOf c selectors.face getCur) j ≡ entryOf (addressAt limits j) (flagsAt limits (c .settings .face) getCur j)
-  unfolding tests.answerOf valueOf answerBy faceValue
-  current-entry j h = answer-entry limits (c .settings .face) getCur (endpoints limits) (endpoints limits) j h
+  pub current-entry : (j : ℕ) → j < endpointsOf limits → entryBytes (cameraAnswer c selectors.face getCur) j ≡ entryOf (addressAt limits j) (flagsAt limits (c .settings .face) getCur j)
+  unfolding fullAnswer valueOf answerBy faceValue
+  current-entry j h = answer-entry limits (c .settings .face) getCur (endpointsOf limits) (endpointsOf limits) j h
 
-  pub default-entry : (j : ℕ) → j < endpoints limits → entryBytes (answerOf c selectors.face getDef) j ≡ entryOf (addressAt limits j) (flagsAt limits (c .settings .face) getDef j)
-  unfolding tests.answerOf valueOf answerBy faceValue
-  default-entry j h = answer-entry limits (c .settings .face) getDef (endpoints limits) (endpoints limits) j h
+  pub default-entry : (j : ℕ) → j < endpointsOf limits → entryBytes (cameraAnswer c selectors.face getDef) j ≡ entryOf (addressAt limits j) (flagsAt limits (c .settings .face) getDef j)
+  unfolding fullAnswer valueOf answerBy faceValue
+  default-entry j h = answer-entry limits (c .settings .face) getDef (endpointsOf limits) (endpointsOf limits) j h
 
-  pub current-length : length (answerOf c selectors.face getCur) ≡ 1 + 8 * endpoints limits
-  unfolding tests.answerOf valueOf answerBy faceValue
-  current-length = omega (arith, length-entries limits (c .settings .face) getCur (endpoints limits))
+  pub current-length : length (cameraAnswer c selectors.face getCur) ≡ 1 + 8 * endpointsOf limits
+  unfolding fullAnswer valueOf answerBy faceValue
+  current-length = omega (arith, length-entries limits (c .settings .face) getCur (endpointsOf limits))
 
 -- its flags are the setting held
-module _ (l : FaceLimits) (held : List ℕ) (j : ℕ) where
-  pub current-held : (flags : ℕ) → heldAt held (addressAt l j) ≡ flags → 0 < flags → flagsAt l held getCur j ≡ flags
+module _ (l : FaceLimits) (settingsHeld : List ℕ) (j : ℕ) where
+  pub current-held : (flags : ℕ) → heldAt settingsHeld (addressAt l j) ≡ flags → 0 < flags → flagsAt l settingsHeld getCur j ≡ flags
   unfolding flagsAt
   current-held flags e h = rw (e, ne-eqb flags 0 (omega arith))
 
-  pub current-unset : heldAt held (addressAt l j) ≡ 0 → flagsAt l held getCur j ≡ flagsAt l held getDef j
+  pub current-unset : heldAt settingsHeld (addressAt l j) ≡ 0 → flagsAt l settingsHeld getCur j ≡ flagsAt l settingsHeld getDef j
   unfolding flagsAt
   current-unset e = rw e
 
-  pub current-same : (before : List ℕ) → heldAt held (addressAt l j) ≡ heldAt before (addressAt l j) → flagsAt l held getCur j ≡ flagsAt l before getCur j
+  pub current-same : (before : List ℕ) → heldAt settingsHeld (addressAt l j) ≡ heldAt before (addressAt l j) → flagsAt l settingsHeld getCur j ≡ flagsAt l before getCur j
   unfolding flagsAt
   current-same before e = rw e
 
@@ -265,7 +266,7 @@ face-unset address flags e = go (eqb flags 0) refl e
     go true q z = eqb-true flags 0 q
     go false q z = absurd (none-never (S.Face address flags) (sym z))
 
-pub face-none : (h : Settings) → length (h .face) ≡ places → ((k : ℕ) → selectorAt k ≡ selectors.face → held h k ≡ none) → (address : ℕ) → heldAt (h .face) address ≡ 0
+pub face-none : (h : Settings) → length (h .face) ≡ places → ((k : ℕ) → selectorAt k ≡ selectors.face → settingsHeld h k ≡ none) → (address : ℕ) → heldAt (h .face) address ≡ 0
 face-none g l h address = go (ltb (address - firstAddress) places) refl
   where
     go : (b : Bool) → ltb (address - firstAddress) places ≡ b → heldAt (g .face) address ≡ 0

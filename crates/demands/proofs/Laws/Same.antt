@@ -8,39 +8,39 @@ use lib.Dec.{eqb}
 use lib.ListN.{length, getD}
 use lib.Seq.{ext-getD}
 use borrow.Author.Tests.{eqb-true}
-use Rattle.snapshot.specs.Form.{metadataKey, hdrKey, throttleKey}
+use Rattle.snapshot.specs.Keys.{metadataKey, hdrKey, throttleKey}
 use Rattle.wire.specs.Endpoints.{firstAddress, places}
 use Rattle.controls.specs.declared.Setting.{Setting}
 use Rattle.controls.specs.declared.Setting.the-variants as S
-use Rattle.exposure.specs.declared.ev.Ev.{Ev}
-use Rattle.exposure.specs.declared.ev.Ev.the-variants as E
-use Rattle.controls.specs.declared.Number.{Number}
-use Rattle.controls.specs.declared.Number.the-variants as N
-use Rattle.throttle.specs.declared.Throttle.{Throttle}
-use Rattle.throttle.specs.declared.Throttle.the-variants as T
+use Rattle.exposure.specs.declared.ev.HeldEv.{HeldEv}
+use Rattle.exposure.specs.declared.ev.HeldEv.the-variants as E
+use Rattle.controls.specs.declared.HeldNumber.{HeldNumber}
+use Rattle.controls.specs.declared.HeldNumber.the-variants as N
+use Rattle.throttle.specs.declared.HeldThrottle.{HeldThrottle}
+use Rattle.throttle.specs.declared.HeldThrottle.the-variants as T
 use Rattle.settings.specs.declared.settings.Settings.{Settings}
-use Rattle.settings.specs.Settings.{held, evHeld, faceHeld, numberHeld, metadataHeld, hdrHeld, throttleHeld}
+use Rattle.settings.specs.Held.{settingsHeld, evHeld, faceHeld, numberHeld, metadataHeld, hdrHeld, throttleHeld}
 use Rattle.demands.proofs.Laws.Held.{none-never, held-face}
 
-pub ev-same : (a b : Ev) → evHeld a ≡ evHeld b → a ≡ b
+pub ev-same : (a b : HeldEv) → evHeld a ≡ evHeld b → a ≡ b
 ev-same E.Unset E.Unset e = refl
 ev-same E.Unset (E.Held t) e = absurd (none-never (S.Ev t) e)
 ev-same (E.Held s) E.Unset e = absurd (none-never (S.Ev s) (sym e))
 ev-same (E.Held s) (E.Held t) e = cc
 
-number-same : (control : ℕ → Setting) → ((m n : ℕ) → control m ≡ control n → m ≡ n) → (a b : Number) → numberHeld control a ≡ numberHeld control b → a ≡ b
+number-same : (control : ℕ → Setting) → ((m n : ℕ) → control m ≡ control n → m ≡ n) → (a b : HeldNumber) → numberHeld control a ≡ numberHeld control b → a ≡ b
 number-same control f N.Unset N.Unset e = refl
 number-same control f N.Unset (N.Held n) e = absurd (none-never (control n) e)
 number-same control f (N.Held m) N.Unset e = absurd (none-never (control m) (sym e))
 number-same control f (N.Held m) (N.Held n) e = ap N.Held (f m n (cc))
 
-pub metadata-same : (a b : Number) → metadataHeld a ≡ metadataHeld b → a ≡ b
+pub metadata-same : (a b : HeldNumber) → metadataHeld a ≡ metadataHeld b → a ≡ b
 metadata-same = number-same S.Metadata (λ m n e. cc)
 
-pub hdr-same : (a b : Number) → hdrHeld a ≡ hdrHeld b → a ≡ b
+pub hdr-same : (a b : HeldNumber) → hdrHeld a ≡ hdrHeld b → a ≡ b
 hdr-same = number-same S.Hdr (λ m n e. cc)
 
-pub throttle-same : (a b : Throttle) → throttleHeld a ≡ throttleHeld b → a ≡ b
+pub throttle-same : (a b : HeldThrottle) → throttleHeld a ≡ throttleHeld b → a ≡ b
 throttle-same T.Unset T.Unset e = refl
 throttle-same T.Unset (T.Held t) e = absurd (none-never (S.Throttle t) e)
 throttle-same (T.Held s) T.Unset e = absurd (none-never (S.Throttle s) (sym e))
@@ -57,7 +57,7 @@ face-same address m n e = go (eqb m 0) (eqb n 0) refl refl e
     go false false p q z = cc
 
 -- so settings that hold the same of every key are the same
-module _ (g h : Settings) (same : (k : ℕ) → held g k ≡ held h k) (l : length (g .face) ≡ places) (m : length (h .face) ≡ places) where
+module _ (g h : Settings) (same : (k : ℕ) → settingsHeld g k ≡ settingsHeld h k) (l : length (g .face) ≡ places) (m : length (h .face) ≡ places) where
   place-same : (i : ℕ) → i < places → getD (g .face) i 0 ≡ getD (h .face) i 0
   place-same i b =
       let k = 1 + i in
@@ -67,7 +67,7 @@ module _ (g h : Settings) (same : (k : ℕ) → held g k ≡ held h k) (l : leng
       rw e at f
 
   pub settings-same : g ≡ h
-  unfolding held
+  unfolding settingsHeld
   settings-same =
       let e = ev-same (g .ev) (h .ev) (same 0) in
       let f = ext-getD 0 (g .face) (h .face) (l ∙ sym m) (λ i b. place-same i (omega arith)) in

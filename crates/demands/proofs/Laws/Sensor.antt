@@ -7,7 +7,7 @@ use native.Mathlib.Omega.{arith}
 use lib.IntN.{ℤ, pos, negsuc, negℤ, _*ℤ_}
 use borrow.Author.Tests.{ltb-true}
 use Rattle.exposure.specs.declared.ev.EvLimits.{EvLimits}
-use Rattle.exposure.specs.Ev.{evValid, divisor}
+use Rattle.exposure.specs.Exposure.{evValid, divisor}
 
 -- every step is a whole number of twelfths
 pub twelfths-whole : (place : ℕ) → divisor place * (12 / divisor place) ≡ 12

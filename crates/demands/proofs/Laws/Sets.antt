@@ -8,33 +8,34 @@ use lib.Dec.{eqb}
 use lib.ListN.{length, getD, drop, length-drop}
 use lib.Seq.{getD-drop}
 use borrow.Author.Tests.{eq-eqb, ne-eqb, le-leb, eqb-true, eqb-false}
-use Rattle.snapshot.specs.Form.{metadataKey, hdrKey, throttleKey}
+use Rattle.snapshot.specs.Keys.{metadataKey, hdrKey, throttleKey}
 use Rattle.wire.specs.Endpoints.{firstAddress, places}
-use Rattle.wire.specs.Number.{leAt, bytesOf}
+use Rattle.wire.specs.Numbers.{leAt, bytesOf}
 use Rattle.wire.specs.Rows.{Row, _⇒_, answers, firstOf}
 use Rattle.wire.specs.Selectors as selectors
 use Rattle.wire.specs.Uvc.{setCur, invalidControl, invalidRequest}
 use Rattle.wire.proofs.Laws.Bytes.{number-bytes}
-use Rattle.request.specs.Setup as setup
-use Rattle.request.specs.Tests.{requestTests, valueTests, setAccepted, controlRefusal}
-use Rattle.snapshot.specs.Form as form
-use Rattle.snapshot.specs.Records.{Record}
+use Rattle.request.specs.Setup.{setupWLength}
+use Rattle.request.specs.Tests.{requestTests, valueTests, setAccepted, tableRefusal}
+use Rattle.snapshot.specs.Form.{statedKey, statedKind}
+use Rattle.snapshot.specs.Keys.{kindLength}
+use Rattle.snapshot.specs.Records.{RecordOf}
 use Rattle.snapshot.proofs.Laws.Sound.{Sound, Kind, ev, face, metadata, hdr, throttle, kind-of, sound-address, stands-sound, stands-size}
 use Rattle.controls.specs.declared.Item.{Item}
 use Rattle.controls.specs.declared.Item.the-variants.{Refused, Given}
 use Rattle.face.proofs.Laws.Limits.{count-least}
-use Rattle.entries.proofs.Laws.Payload.{takes-first}
-use Rattle.controls.specs.Settings.{codeOf, firstRefusal}
+use Rattle.entries.proofs.Laws.Payload.{set-length-first}
+use Rattle.controls.specs.Controls.{itemCode, firstRefusal}
 use Rattle.profile.specs.declared.Profile.{Profile}
-use Rattle.profile.specs.Profile.{has, settable, takes, profileValid}
-use Rattle.camera.specs.Requests.{stateOf}
-use Rattle.camera.specs.Requests as camera
-use Rattle.profile.specs.Items.{itemCount, itemAt, setRefusal}
+use Rattle.profile.specs.Profile.{has, isSettable, setLength, profileValid}
+use Rattle.camera.specs.Requests.{stateRefusal}
+use Rattle.camera.specs.Requests.{controlRefusal}
+use Rattle.profile.specs.Items.{itemCount, profileItem, setRefusal}
 use Rattle.settings.specs.Items.{givenOf, allGiven, setGives}
 use Rattle.profile.proofs.Laws.Profile.{valid-face}
-use Rattle.camera.specs.Snapshots.{selectorAt, recordItem}
-use Rattle.demands.specs.Lists.{gives}
-use Rattle.demands.specs.Loading.{setOf, setCode, AsSet}
+use Rattle.camera.specs.Loading.{selectorAt, recordItem}
+use Rattle.demands.specs.Runs.{gives}
+use Rattle.demands.specs.Loading.{recordSet, setCode, AsSet}
 
 -- a row that answers its own number, where that is not 0
 pub row-number : (n : ℕ) → firstOf ((not (eqb n 0) ⇒ n) ∷ []) ≡ n
@@ -45,21 +46,21 @@ row-number n = go (eqb n 0) refl
     go false e = refl
 
 -- an item with a number gives nothing
-refused-nothing : (i : Item) → eqb (codeOf i) 0 ≡ false → givenOf i ≡ []
-unfolding codeOf givenOf
+refused-nothing : (i : Item) → eqb (itemCode i) 0 ≡ false → givenOf i ≡ []
+unfolding itemCode givenOf
 refused-nothing (Refused code) e = refl
 refused-nothing (Given s) e = absurd (true≢false e)
 
 -- of face authentication, a sound record has one entry
-sound-count : (r : List ℕ) → Sound r → form.kindAt r ≡ selectors.face → getD r 4 0 ≡ 1
+sound-count : (r : List ℕ) → Sound r → statedKind r ≡ selectors.face → getD r 4 0 ≡ 1
 sound-count r s e =
     let f = rw e at (s .face) in
     let q = simp and-eq-true-iff at f in
     eqb-true (getD r 4 0) 1 (q .0)
 
 -- the selector of a record's key is its kind
-key-kind : (k : ℕ) (r : List ℕ) → Sound r → form.keyAt r ≡ k → Kind (form.kindAt r) → selectorAt k ≡ form.kindAt r
-unfolding form.keyAt
+key-kind : (k : ℕ) (r : List ℕ) → Sound r → statedKey r ≡ k → Kind (statedKind r) → selectorAt k ≡ statedKind r
+unfolding statedKey
 key-kind k r s e (ev q) = let z : 0 ≡ k = rw q at e in rw (← z, q)
 key-kind k r s e (face q) =
     let z : getD r 5 0 - (firstAddress - 1) ≡ k = rw q at e in
@@ -69,20 +70,20 @@ key-kind k r s e (metadata q) = let z : metadataKey ≡ k = rw q at e in rw (←
 key-kind k r s e (hdr q) = let z : hdrKey ≡ k = rw q at e in rw (← z, q)
 key-kind k r s e (throttle q) = let z : throttleKey ≡ k = rw q at e in rw (← z, q)
 
-module _ (k : ℕ) (r : List ℕ) (g : Record k r) where
+module _ (k : ℕ) (r : List ℕ) (g : RecordOf k r) where
   record-sound : Sound r
   record-sound = stands-sound k r (g .is) .0
 
-  pub is-kind : selectorAt k ≡ form.kindAt r
-  is-kind = key-kind k r record-sound (stands-sound k r (g .is) .1) (kind-of (form.kindAt r) (record-sound .known))
+  pub is-kind : selectorAt k ≡ statedKind r
+  is-kind = key-kind k r record-sound (stands-sound k r (g .is) .1) (kind-of (statedKind r) (record-sound .known))
 
   kind : Kind (selectorAt k)
   kind = kind-of (selectorAt k) (rw is-kind (record-sound .known))
 
   -- its payload has the length that its kind gives it
-  payload-length : (n : ℕ) → selectorAt k ≡ n → 4 + length (drop 4 r) ≡ form.lengthOf n
+  payload-length : (n : ℕ) → selectorAt k ≡ n → 4 + length (drop 4 r) ≡ kindLength n
   payload-length n e =
-      let m = g .long ∙ stands-size k r (g .is) ∙ record-sound .right ∙ ap form.lengthOf (sym is-kind ∙ e) in
+      let m = g .long ∙ stands-size k r (g .is) ∙ record-sound .right ∙ ap kindLength (sym is-kind ∙ e) in
       let l : length (drop 4 r) ≡ length r - 4 = length-drop 4 r in
       omega (arith, record-sound .four)
 
@@ -98,35 +99,35 @@ module _ (k : ℕ) (r : List ℕ) (g : Record k r) where
       go true e = one-entry (eqb-true (selectorAt k) selectors.face e)
       go false e = refl
 
-  set-refusal : (p : Profile) → setRefusal p (selectorAt k) (drop 4 r) ≡ codeOf (itemAt p (selectorAt k) (drop 4 r) 0)
+  set-refusal : (p : Profile) → setRefusal p (selectorAt k) (drop 4 r) ≡ itemCode (profileItem p (selectorAt k) (drop 4 r) 0)
   unfolding setRefusal firstRefusal
-  set-refusal p = rw one-item (go (eqb (codeOf (itemAt p (selectorAt k) (drop 4 r) 0)) 0) refl)
+  set-refusal p = rw one-item (go (eqb (itemCode (profileItem p (selectorAt k) (drop 4 r) 0)) 0) refl)
     where
-      go : (b : Bool) → eqb (codeOf (itemAt p (selectorAt k) (drop 4 r) 0)) 0 ≡ b
-          → cond b 0 (codeOf (itemAt p (selectorAt k) (drop 4 r) 0)) ≡ codeOf (itemAt p (selectorAt k) (drop 4 r) 0)
+      go : (b : Bool) → eqb (itemCode (profileItem p (selectorAt k) (drop 4 r) 0)) 0 ≡ b
+          → cond b 0 (itemCode (profileItem p (selectorAt k) (drop 4 r) 0)) ≡ itemCode (profileItem p (selectorAt k) (drop 4 r) 0)
       go true e = sym (eqb-true _ 0 e)
       go false e = refl
 
-  set-gives : (p : Profile) → setGives p (selectorAt k) (drop 4 r) ≡ givenOf (itemAt p (selectorAt k) (drop 4 r) 0)
+  set-gives : (p : Profile) → setGives p (selectorAt k) (drop 4 r) ≡ givenOf (profileItem p (selectorAt k) (drop 4 r) 0)
   unfolding setGives allGiven
-  set-gives p = rw one-item (append-nil (givenOf (itemAt p (selectorAt k) (drop 4 r) 0)))
+  set-gives p = rw one-item (append-nil (givenOf (profileItem p (selectorAt k) (drop 4 r) 0)))
 
   -- test 6: the payload has the control's length. Of face authentication, one entry is no more than a valid profile's endpoints.
-  takes-payload : (p : Profile) → profileValid p ≡ true → has p (selectorAt k) ≡ true → takes p (selectorAt k) (drop 4 r) ≡ length (drop 4 r)
-  takes-payload p v h = go kind
+  set-length-payload : (p : Profile) → profileValid p ≡ true → has p (selectorAt k) ≡ true → setLength p (selectorAt k) (drop 4 r) ≡ length (drop 4 r)
+  set-length-payload p v h = go kind
     where
-      go : Kind (selectorAt k) → takes p (selectorAt k) (drop 4 r) ≡ length (drop 4 r)
+      go : Kind (selectorAt k) → setLength p (selectorAt k) (drop 4 r) ≡ length (drop 4 r)
       go (ev e) = rw e (omega (arith, payload-length selectors.ev e))
       go (face e) =
           let n = payload-length selectors.face e in
           let few : 1 ≤ p .face .count = count-least (p .face) (valid-face p v (rw e at h)) in
-          rw e (takes-first (p .face) (drop 4 r) (λ z. omega arith) ∙ rw (one-entry e, le-leb 1 (p .face .count) few) (omega arith))
+          rw e (set-length-first (p .face) (drop 4 r) (λ z. omega arith) ∙ rw (one-entry e, le-leb 1 (p .face .count) few) (omega arith))
       go (metadata e) = rw e (omega (arith, payload-length selectors.metadata e))
       go (hdr e) = rw e (omega (arith, payload-length selectors.hdr e))
       go (throttle e) = rw e (omega (arith, payload-length selectors.throttle e))
 
   -- wLength says that length
-  length-said : (p : Profile) → setup.wLengthOf (setOf p k r) ≡ length (drop 4 r)
+  length-said : (p : Profile) → setupWLength (recordSet p k r) ≡ length (drop 4 r)
   unfolding leAt bytesOf
   length-said p = number-bytes 2 (length (drop 4 r)) (go kind)
     where
@@ -140,56 +141,56 @@ module _ (k : ℕ) (r : List ℕ) (g : Record k r) where
   -- tests 2 to 8
   module _ (p : Profile) (v : profileValid p ≡ true) (streaming : Bool) where
     abbrev state : ℕ
-    state = stateOf streaming (selectorAt k) setCur
+    state = stateRefusal streaming (selectorAt k) setCur
 
     abbrev rows : ℕ → List Row
-    rows n = (not (has p (selectorAt k)) ⇒ invalidControl) ∷ (not (settable p (selectorAt k)) ⇒ invalidRequest) ∷ answers state ∷ answers n ∷ []
+    rows n = (not (has p (selectorAt k)) ⇒ invalidControl) ∷ (not (isSettable p (selectorAt k)) ⇒ invalidRequest) ∷ answers state ∷ answers n ∷ []
 
     value : ℕ
-    value = codeOf (itemAt p (selectorAt k) (drop 4 r) 0)
+    value = itemCode (profileItem p (selectorAt k) (drop 4 r) 0)
 
     -- where the control is there, test 6 holds
     set-tests : (b : Bool) → has p (selectorAt k) ≡ b → setCode p streaming k r ≡ firstOf (rows value)
     unfolding requestTests valueTests bytesOf value
     set-tests true h =
-        let z = takes-payload p v h in
+        let z = set-length-payload p v h in
         let w = length-said p in
         rw (eq-eqb (p .unit) (p .unit) refl, eq-eqb (p .interface) (p .interface) refl, h, w, z, eq-eqb (length (drop 4 r)) (length (drop 4 r)) refl, set-refusal p)
     set-tests false h = rw (eq-eqb (p .unit) (p .unit) refl, eq-eqb (p .interface) (p .interface) refl, h)
 
-    record-code : codeOf (recordItem p streaming k r) ≡ firstOf (rows value)
-    unfolding recordItem controlRefusal codeOf value
-    record-code = go (has p (selectorAt k)) (settable p (selectorAt k)) state
+    record-code : itemCode (recordItem p streaming k r) ≡ firstOf (rows value)
+    unfolding recordItem tableRefusal itemCode value
+    record-code = go (has p (selectorAt k)) (isSettable p (selectorAt k)) state
       where
         code : Bool → Bool → ℕ → List Row → ℕ
         code a b n rest = firstOf ((not a ⇒ invalidControl) ∷ (not b ⇒ invalidRequest) ∷ answers n ∷ rest)
 
-        last : (n : ℕ) (b : Bool) → eqb n 0 ≡ b → codeOf (cond (eqb (cond (not b) n 0) 0) (itemAt p (selectorAt k) (drop 4 r) 0) (Refused (cond (not b) n 0))) ≡ cond (not b) n (firstOf (answers value ∷ []))
+        last : (n : ℕ) (b : Bool) → eqb n 0 ≡ b → itemCode (cond (eqb (cond (not b) n 0) 0) (profileItem p (selectorAt k) (drop 4 r) 0) (Refused (cond (not b) n 0))) ≡ cond (not b) n (firstOf (answers value ∷ []))
         last n true e = sym (row-number value)
         last n false e = rw e
 
-        go : (a b : Bool) (n : ℕ) → codeOf (cond (eqb (code a b n []) 0) (itemAt p (selectorAt k) (drop 4 r) 0) (Refused (code a b n []))) ≡ code a b n (answers value ∷ [])
+        go : (a b : Bool) (n : ℕ) → itemCode (cond (eqb (code a b n []) 0) (profileItem p (selectorAt k) (drop 4 r) 0) (Refused (code a b n []))) ≡ code a b n (answers value ∷ [])
         go true true n = last n (eqb n 0) refl
         go true false n = refl
         go false b n = refl
 
-    set-code : setCode p streaming k r ≡ codeOf (recordItem p streaming k r)
+    set-code : setCode p streaming k r ≡ itemCode (recordItem p streaming k r)
     set-code = set-tests (has p (selectorAt k)) refl ∙ sym record-code
 
     -- where no test refuses the record, its item is its payload's
-    record-item : codeOf (recordItem p streaming k r) ≡ 0 → recordItem p streaming k r ≡ itemAt p (selectorAt k) (drop 4 r) 0
-    unfolding recordItem codeOf
+    record-item : itemCode (recordItem p streaming k r) ≡ 0 → recordItem p streaming k r ≡ profileItem p (selectorAt k) (drop 4 r) 0
+    unfolding recordItem itemCode
     record-item e = go (eqb code 0) refl e
       where
         code : ℕ
-        code = camera.controlRefusal p streaming (selectorAt k)
+        code = controlRefusal p streaming (selectorAt k)
 
-        go : (b : Bool) → eqb code 0 ≡ b → codeOf (cond b (itemAt p (selectorAt k) (drop 4 r) 0) (Refused code)) ≡ 0
-            → cond b (itemAt p (selectorAt k) (drop 4 r) 0) (Refused code) ≡ itemAt p (selectorAt k) (drop 4 r) 0
+        go : (b : Bool) → eqb code 0 ≡ b → itemCode (cond b (profileItem p (selectorAt k) (drop 4 r) 0) (Refused code)) ≡ 0
+            → cond b (profileItem p (selectorAt k) (drop 4 r) 0) (Refused code) ≡ profileItem p (selectorAt k) (drop 4 r) 0
         go true q z = refl
         go false q z = absurd (eqb-false code 0 q z)
 
-    set-settings : (b : Bool) → eqb (codeOf (recordItem p streaming k r)) 0 ≡ b → cond b (setGives p (selectorAt k) (drop 4 r)) [] ≡ givenOf (recordItem p streaming k r)
+    set-settings : (b : Bool) → eqb (itemCode (recordItem p streaming k r)) 0 ≡ b → cond b (setGives p (selectorAt k) (drop 4 r)) [] ≡ givenOf (recordItem p streaming k r)
     set-settings true e = set-gives p ∙ ap givenOf (sym (record-item (eqb-true _ 0 e)))
     set-settings false e = sym (refused-nothing (recordItem p streaming k r) e)
 

@@ -13,36 +13,37 @@ use Rattle.wire.specs.Selectors as selectors
 use Rattle.wire.specs.Uvc.{malformedRecord, noRoom}
 use Rattle.wire.proofs.Laws.Rows.{quiet, quiet-own, own-coded, own-quiet}
 use Rattle.request.specs.Setup.{isSetRequest}
-use Rattle.request.specs.Setup as setup
+use Rattle.request.specs.Setup.{setupSelector, setupValueLow, setupWLength}
 use Rattle.request.specs.Table.{Table}
-use Rattle.request.specs.Tests.{requestTests, sized, sentCount, valueTests, requestRows}
-use Rattle.request.specs.Tests as tests
-use Rattle.snapshot.specs.Form.{keys, metadataKey, hdrKey}
+use Rattle.request.specs.Tests.{requestTests, isSized, sentCount, valueTests, requestRows}
+use Rattle.request.specs.Tests.{requestCode, setAccepted}
+use Rattle.snapshot.specs.Keys.{keys, metadataKey, hdrKey}
 use Rattle.snapshot.specs.Records.{decode}
-use Rattle.snapshot.specs.Settings.{over, lastOf}
+use Rattle.snapshot.specs.Given.{over, lastOf}
 use Rattle.controls.specs.declared.Item.{Item}
 use Rattle.controls.specs.declared.Item.the-variants.{Refused, Given}
 use Rattle.controls.specs.declared.Setting.{Setting}
 use Rattle.profile.specs.declared.Profile.{Profile}
-use Rattle.profile.specs.Profile.{has, settable, takes, profileValid, controlRefusal}
-use Rattle.profile.specs.Items.{itemCount, itemAt, setRefusal}
+use Rattle.profile.specs.Profile.{has, isSettable, setLength, profileValid, profileRefusal}
+use Rattle.profile.specs.Items.{itemCount, profileItem, setRefusal}
 use Rattle.settings.specs.Items.{givenOf, setGives}
-use Rattle.settings.specs.Items as items
-use Rattle.profile.specs.Selectors.{Control, ev, face, metadata, hdr, throttle}
+use Rattle.settings.specs.Items.{putAll}
+use Rattle.profile.specs.KnownControl.{KnownControl, ev, face, metadata, hdr, throttle}
 use Rattle.settings.proofs.Laws.Kept.{control-kept}
 use Rattle.profile.proofs.Laws.Profile.{valid-presence}
-use Rattle.profile.proofs.Laws.Selectors.{control-known}
+use Rattle.profile.proofs.Laws.KnownControl.{control-known}
 use Rattle.camera.specs.declared.record.Camera.{Camera}
 use Rattle.camera.specs.declared.calls.Outcome.{Outcome}
-use Rattle.camera.specs.Record.{held, wellFormed, puts}
-use Rattle.camera.specs.Requests.{requestCode, refused, outcomeBy, requestDone, requested, rules, table}
-use Rattle.camera.specs.Requests as camera
-use Rattle.camera.specs.Snapshots.{selectorAt, snapshot, recordItem, loadTests, loadCode, loadGives, loaded, written, writeCode}
+use Rattle.camera.specs.Record.{held, recordWellFormed, puts}
+use Rattle.camera.specs.Requests.{requestedCode, refused, outcomeBy, requestDone, requested, rules, table}
+use Rattle.camera.specs.Requests.{controlRefusal}
+use Rattle.camera.specs.Loading.{selectorAt, recordItem, loadTests, loadCode, loadGives, loaded}
+use Rattle.camera.specs.Writing.{snapshot, written, writeCode}
 use Rattle.camera.specs.Calls.{sensed, Call, request, stream, load, write, sense, outcome, next}
 use Rattle.camera.proofs.Laws.Record.{formed-profile, streamed-done}
 use Rattle.camera.proofs.Laws.Loading.{givenBy}
-use Rattle.demands.specs.Lists.{setAccepted, gives, leaves}
-use Rattle.demands.specs.Records.{Ok}
+use Rattle.demands.specs.Runs.{acceptsSet, gives, leaves}
+use Rattle.demands.specs.Cameras.{Ok}
 use Rattle.demands.proofs.Laws.Held.{Each, puts-held, puts-length}
 use Rattle.demands.proofs.Laws.Kept.{Good, control-streaming, item-good, given-good, all-good, each-proper, puts-formed}
 
@@ -56,9 +57,9 @@ abbrev testsOf : Profile → Bool → List ℕ → List ℕ → List Row
 testsOf p streaming s payload = requestTests (rules p streaming) s payload ++ valueTests (rules p streaming) s payload
 
 -- the number of a SET, on a well-formed record
-set-code : (c : Camera) (s payload : List ℕ) (room : ℕ) → wellFormed c ≡ true → isSetRequest s ≡ true
-    → requestCode c s payload room ≡ firstOf (testsOf (c .profile) (c .streaming) s payload)
-unfolding tests.requestCode requestRows requestTests valueTests
+set-code : (c : Camera) (s payload : List ℕ) (room : ℕ) → recordWellFormed c ≡ true → isSetRequest s ≡ true
+    → requestedCode c s payload room ≡ firstOf (testsOf (c .profile) (c .streaming) s payload)
+unfolding requestCode requestRows requestTests valueTests
 set-code c s payload room w e =
     let last = (not (isSetRequest s) && ltb room (sentCount (table c) s) ⇒ noRoom) ∷ [] in
     let z : firstOf last ≡ 0 = rw e in
@@ -74,22 +75,22 @@ outcome-code code c done z = go (eqb code 0) refl
     go false e = refl
 
 -- a SET is accepted where the request answers 0
-pub set-answer : (c : Camera) (s payload : List ℕ) (room : ℕ) → wellFormed c ≡ true → isSetRequest s ≡ true
-    → setAccepted (c .profile) (c .streaming) s payload ≡ eqb (requested c s payload room .code) 0
-unfolding requested requestDone tests.setAccepted
+pub set-answer : (c : Camera) (s payload : List ℕ) (room : ℕ) → recordWellFormed c ≡ true → isSetRequest s ≡ true
+    → acceptsSet (c .profile) (c .streaming) s payload ≡ eqb (requested c s payload room .code) 0
+unfolding requested requestDone setAccepted
 set-answer c s payload room w e =
-    let done : Outcome = record { code = 0; count = 0; camera = puts c (setGives (c .profile) (setup.selectorOf s) payload) } in
-    rw e (ap (λ (n : ℕ). eqb n 0) (sym (outcome-code (requestCode c s payload room) c done refl ∙ set-code c s payload room w e)))
+    let done : Outcome = record { code = 0; count = 0; camera = puts c (setGives (c .profile) (setupSelector s) payload) } in
+    rw e (ap (λ (n : ℕ). eqb n 0) (sym (outcome-code (requestedCode c s payload room) c done refl ∙ set-code c s payload room w e)))
 
-pub load-answer : (c : Camera) (s : List ℕ) → wellFormed c ≡ true → loaded c s .code ≡ firstOf (loadTests (c .profile) (c .streaming) s)
+pub load-answer : (c : Camera) (s : List ℕ) → recordWellFormed c ≡ true → loaded c s .code ≡ firstOf (loadTests (c .profile) (c .streaming) s)
 unfolding loaded loadCode
 load-answer c s w =
     let code = firstOf (loadTests (c .profile) (c .streaming) s) in
     rw w (outcome-code code c (record { code = 0; count = 0; camera = puts c (loadGives (c .profile) (c .streaming) s) }) refl)
 
 -- a refused call gives no setting
-pub refused-none : (c : Camera) → wellFormed c ≡ true → (call : Call) → (outcome c call .code ≡ 0 → ⊥) → gives (c .profile) (c .streaming) call ≡ []
-unfolding gives tests.setAccepted
+pub refused-none : (c : Camera) → recordWellFormed c ≡ true → (call : Call) → (outcome c call .code ≡ 0 → ⊥) → gives (c .profile) (c .streaming) call ≡ []
+unfolding gives setAccepted
 refused-none c w (request s payload reply) n = go (isSetRequest s) refl
   where
     go : (b : Bool) → isSetRequest s ≡ b → gives (c .profile) (c .streaming) (request s payload reply) ≡ []
@@ -101,15 +102,15 @@ refused-none c w (write out) n = refl
 refused-none c w sense n = refl
 
 -- what a request leaves of the record
-pub request-next : (c : Camera) (s payload reply : List ℕ) → wellFormed c ≡ true
+pub request-next : (c : Camera) (s payload reply : List ℕ) → recordWellFormed c ≡ true
     → requested c s payload (length reply) .camera ≡ puts c (gives (c .profile) (c .streaming) (request s payload reply))
-unfolding requested requestDone gives items.puts tests.setAccepted
+unfolding requested requestDone gives putAll setAccepted
 request-next c s payload reply w = go (isSetRequest s) refl
   where
     set : ℕ → Bool → Outcome
-    set code b = cond b (record { code = 0; count = 0; camera = puts c (setGives (c .profile) (setup.selectorOf s) payload) }) (refused code c)
+    set code b = cond b (record { code = 0; count = 0; camera = puts c (setGives (c .profile) (setupSelector s) payload) }) (refused code c)
 
-    taken : (code : ℕ) (b : Bool) → set code b .camera ≡ puts c (cond b (setGives (c .profile) (setup.selectorOf s) payload) [])
+    taken : (code : ℕ) (b : Bool) → set code b .camera ≡ puts c (cond b (setGives (c .profile) (setupSelector s) payload) [])
     taken code true = refl
     taken code false = refl
 
@@ -122,10 +123,10 @@ request-next c s payload reply w = go (isSetRequest s) refl
         let n = set-code c s payload (length reply) w e in
         let code = firstOf (testsOf (c .profile) (c .streaming) s payload) in
         rw (e, n) (taken code (eqb code 0))
-    go false e = rw e (get (eqb (requestCode c s payload (length reply)) 0) (record { code = 0; count = sentCount (table c) s; camera = c }) (refused (requestCode c s payload (length reply)) c) refl refl)
+    go false e = rw e (get (eqb (requestedCode c s payload (length reply)) 0) (record { code = 0; count = sentCount (table c) s; camera = c }) (refused (requestedCode c s payload (length reply)) c) refl refl)
 
-pub load-next : (c : Camera) (s : List ℕ) → wellFormed c ≡ true → loaded c s .camera ≡ puts c (gives (c .profile) (c .streaming) (load s))
-unfolding loaded loadCode gives items.puts
+pub load-next : (c : Camera) (s : List ℕ) → recordWellFormed c ≡ true → loaded c s .camera ≡ puts c (gives (c .profile) (c .streaming) (load s))
+unfolding loaded loadCode gives putAll
 load-next c s w = rw w (go (eqb (firstOf (loadTests (c .profile) (c .streaming) s)) 0))
   where
     go : (b : Bool)
@@ -147,15 +148,15 @@ not-off true e = refl
 not-off false e = absurd (true≢false e)
 
 -- what tests 2 to 8 of an accepted SET say
-module _ (p : Profile) (streaming : Bool) (s payload : List ℕ) (a : setAccepted p streaming s payload ≡ true) where
+module _ (p : Profile) (streaming : Bool) (s payload : List ℕ) (a : acceptsSet p streaming s payload ≡ true) where
   abbrev t : Table
   t = rules p streaming
 
   abbrev selector : ℕ
-  selector = setup.selectorOf s
+  selector = setupSelector s
 
   accepted-zero : (isSetRequest s ≡ true) × (firstOf (testsOf p streaming s payload) ≡ 0)
-  unfolding tests.setAccepted
+  unfolding setAccepted
   accepted-zero = let q = and-eq-true-iff (isSetRequest s) _ .0 a in (q .0, eqb-true _ 0 (q .1))
 
   accepted-set : isSetRequest s ≡ true
@@ -166,19 +167,19 @@ module _ (p : Profile) (streaming : Bool) (s payload : List ℕ) (a : setAccepte
   accepted-quiet = quiet (requestTests t s payload) (valueTests t s payload) refl (accepted-zero .1)
 
   -- its control is there and takes a SET
-  pub accepted-control : (has p selector ≡ true) × (settable p selector ≡ true)
+  pub accepted-control : (has p selector ≡ true) × (isSettable p selector ≡ true)
   unfolding requestTests
   accepted-control =
       let q = accepted-quiet .0 .1 .1 in
-      let u = and-eq-true-iff (eqb (setup.valueLow s) 0) _ .0 (not-off _ (q .1 .0)) .1 in
+      let u = and-eq-true-iff (eqb (setupValueLow s) 0) _ .0 (not-off _ (q .1 .0)) .1 in
       (not-off _ (q .0), rw accepted-set at u)
 
   -- the payload has the control's length
-  pub accepted-length : length payload ≡ takes p selector payload
+  pub accepted-length : length payload ≡ setLength p selector payload
   unfolding requestTests
   accepted-length =
-      let z = rw accepted-set at (not-off (sized (takes p selector payload) s payload) (accepted-quiet .0 .1 .1 .1 .1 .0)) in
-      eqb-true (length payload) _ (and-eq-true-iff (eqb (length payload) (setup.wLengthOf s)) _ .0 z .1)
+      let z = rw accepted-set at (not-off (isSized (setLength p selector payload) s payload) (accepted-quiet .0 .1 .1 .1 .1 .0)) in
+      eqb-true (length payload) _ (and-eq-true-iff (eqb (length payload) (setupWLength s)) _ .0 z .1)
 
   -- and no value test refuses it
   pub accepted-values : setRefusal p selector payload ≡ 0
@@ -187,7 +188,7 @@ module _ (p : Profile) (streaming : Bool) (s payload : List ℕ) (a : setAccepte
       let v = quiet-own (valueTests t s payload) (own-coded _, (own-coded _, tt)) (accepted-quiet .1) in
       rw accepted-set at (own-quiet (cond (isSetRequest s) (setRefusal p selector payload) 0) (v .1 .0))
 
-  pub set-control : controlRefusal p selector ≡ 0
+  pub set-control : profileRefusal p selector ≡ 0
   set-control = eqb-true _ 0 (control-kept p selector ∙ rw (accepted-control .0, accepted-control .1))
 
 -- which items give a setting
@@ -196,10 +197,10 @@ isGiven (Refused code) = false
 isGiven (Given s) = true
 
 -- a key's records are of one of the five controls
-pub key-control : (k : ℕ) → Control (selectorAt k)
+pub key-control : (k : ℕ) → KnownControl (selectorAt k)
 key-control k = go (eqb k 0) (leb k places) (eqb k metadataKey) (eqb k hdrKey)
   where
-    go : (a b c d : Bool) → Control (cond a selectors.ev (cond b selectors.face (cond c selectors.metadata (cond d selectors.hdr selectors.throttle))))
+    go : (a b c d : Bool) → KnownControl (cond a selectors.ev (cond b selectors.face (cond c selectors.metadata (cond d selectors.hdr selectors.throttle))))
     go true b c d = ev
     go false true c d = face
     go false false true d = metadata
@@ -213,9 +214,9 @@ module _ (p : Profile) (v : profileValid p ≡ true) where
   record-good streaming k r s e = go (eqb code 0) refl e
     where
       code : ℕ
-      code = camera.controlRefusal p streaming (selectorAt k)
+      code = controlRefusal p streaming (selectorAt k)
 
-      go : (b : Bool) → eqb code 0 ≡ b → cond b (itemAt p (selectorAt k) (drop 4 r) 0) (Refused code) ≡ Given s → Good p s
+      go : (b : Bool) → eqb code 0 ≡ b → cond b (profileItem p (selectorAt k) (drop 4 r) 0) (Refused code) ≡ Given s → Good p s
       go true q i = item-good p v (drop 4 r) 0 s (selectorAt k) (key-control k) (control-streaming p (selectorAt k) streaming (eqb-true code 0 q)) i
       go false q i = absurd (true≢false (sym (ap isGiven i)))
 
@@ -227,19 +228,19 @@ module _ (p : Profile) (v : profileValid p ≡ true) where
       go k none = tt
       go k (some r) = given-good p (recordItem p streaming k r) (record-good streaming k r)
 
-  set-good : (streaming : Bool) (s payload : List ℕ) → setAccepted p streaming s payload ≡ true → Each (Good p) (setGives p (setup.selectorOf s) payload)
+  set-good : (streaming : Bool) (s payload : List ℕ) → acceptsSet p streaming s payload ≡ true → Each (Good p) (setGives p (setupSelector s) payload)
   unfolding setGives
   set-good streaming s payload a =
       let c = set-control p streaming s payload a in
-      let k = control-known (p .controls) (setup.selectorOf s) (valid-presence p v) (accepted-control p streaming s payload a .0) in
-      all-good p (itemCount (setup.selectorOf s) payload) 0 (λ i. givenOf (itemAt p (setup.selectorOf s) payload i))
-      (λ i. given-good p (itemAt p (setup.selectorOf s) payload i) (λ t e. item-good p v payload i t (setup.selectorOf s) k c e))
+      let k = control-known (p .controls) (setupSelector s) (valid-presence p v) (accepted-control p streaming s payload a .0) in
+      all-good p (itemCount (setupSelector s) payload) 0 (λ i. givenOf (profileItem p (setupSelector s) payload i))
+      (λ i. given-good p (profileItem p (setupSelector s) payload i) (λ t e. item-good p v payload i t (setupSelector s) k c e))
 
   pub gives-good : (streaming : Bool) (call : Call) → Each (Good p) (gives p streaming call)
   unfolding gives
-  gives-good streaming (request s payload reply) = go (setAccepted p streaming s payload) refl
+  gives-good streaming (request s payload reply) = go (acceptsSet p streaming s payload) refl
     where
-      go : (b : Bool) → setAccepted p streaming s payload ≡ b → Each (Good p) (cond b (setGives p (setup.selectorOf s) payload) [])
+      go : (b : Bool) → acceptsSet p streaming s payload ≡ b → Each (Good p) (cond b (setGives p (setupSelector s) payload) [])
       go true e = set-good streaming s payload e
       go false e = tt
   gives-good streaming (stream on) = tt
@@ -284,7 +285,7 @@ puts-step p c o call e f = record {
 }
 
 pub step : (p : Profile) (c : Camera) → Ok p c → (call : Call) → Step p c call
-unfolding gives items.puts sensed
+unfolding gives putAll sensed
 step p c o (request s payload reply) = puts-step p c o (request s payload reply) (request-next c s payload reply (o .formed)) refl
 step p c o (load s) = puts-step p c o (load s) (load-next c s (o .formed)) refl
 step p c o (write out) = puts-step p c o (write out) (write-next c out) refl

@@ -5,36 +5,36 @@ use mathlib.Core.Bool.{Bool, true, false, cond}
 use Prim.Native.Nat.{ℕ, _+_, _-_, _^_, _<_}
 use lib.Dec.{eqb, leb, lit<}
 use lib.ListN.{getD}
-use Rattle.snapshot.specs.Form.{metadataKey, hdrKey, throttleKey}
+use Rattle.snapshot.specs.Keys.{metadataKey, hdrKey, throttleKey}
 use Rattle.wire.specs.Endpoints.{firstAddress, places}
 use Rattle.controls.specs.declared.Setting.{Setting}
 use Rattle.controls.specs.declared.Setting.the-variants as S
-use Rattle.controls.specs.declared.Number.{Number}
-use Rattle.controls.specs.declared.Number.the-variants as N
-use Rattle.throttle.specs.declared.Throttle.{Throttle}
-use Rattle.throttle.specs.declared.Throttle.the-variants as T
+use Rattle.controls.specs.declared.HeldNumber.{HeldNumber}
+use Rattle.controls.specs.declared.HeldNumber.the-variants as N
+use Rattle.throttle.specs.declared.HeldThrottle.{HeldThrottle}
+use Rattle.throttle.specs.declared.HeldThrottle.the-variants as T
 use Rattle.settings.specs.declared.settings.Settings.{Settings}
-use Rattle.settings.specs.Settings.{evHeld, faceHeld, numberHeld, metadataHeld, hdrHeld, throttleHeld, held}
-use Rattle.demands.specs.Records.{flagsOf}
+use Rattle.settings.specs.Held.{evHeld, faceHeld, numberHeld, metadataHeld, hdrHeld, throttleHeld, settingsHeld}
+use Rattle.demands.specs.Cameras.{settingFlags}
 use Rattle.demands.proofs.Laws.Held.{none-never, some-is}
 
 abbrev Small : Setting → Type 0
-Small s = flagsOf s < 2 ^ 8
+Small s = settingFlags s < 2 ^ 8
 
-pub held-typed : (h : Settings) → ((s : Setting) → evHeld (h .ev) ≡ some s → flagsOf s < 2 ^ 8) → ((i : ℕ) → getD (h .face) i 0 < 2 ^ 8)
-    → (k : ℕ) (s : Setting) → held h k ≡ some s → flagsOf s < 2 ^ 8
-unfolding held
+pub held-typed : (h : Settings) → ((s : Setting) → evHeld (h .ev) ≡ some s → settingFlags s < 2 ^ 8) → ((i : ℕ) → getD (h .face) i 0 < 2 ^ 8)
+    → (k : ℕ) (s : Setting) → settingsHeld h k ≡ some s → settingFlags s < 2 ^ 8
+unfolding settingsHeld
 held-typed h ev face k s e = go (eqb k 0) (leb k places) (eqb k metadataKey) (eqb k hdrKey) (eqb k throttleKey) e
   where
     of-face : (flags : ℕ) (b : Bool) (address : ℕ) → flags < 2 ^ 8 → cond b none (some (S.Face address flags)) ≡ some s → Small s
     of-face flags true address l q = absurd (none-never s q)
     of-face flags false address l q = some-is Small (S.Face address flags) s q l
 
-    of-number : (control : ℕ → Setting) → ((n : ℕ) → Small (control n)) → (n : Number) → numberHeld control n ≡ some s → Small s
+    of-number : (control : ℕ → Setting) → ((n : ℕ) → Small (control n)) → (n : HeldNumber) → numberHeld control n ≡ some s → Small s
     of-number control p N.Unset q = absurd (none-never s q)
     of-number control p (N.Held n) q = some-is Small (control n) s q (p n)
 
-    of-throttle : (t : Throttle) → throttleHeld t ≡ some s → Small s
+    of-throttle : (t : HeldThrottle) → throttleHeld t ≡ some s → Small s
     of-throttle T.Unset q = absurd (none-never s q)
     of-throttle (T.Held t) q = some-is Small (S.Throttle t) s q (lit< tt)
 

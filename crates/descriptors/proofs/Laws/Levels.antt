@@ -8,8 +8,8 @@ use lib.ListN.{length}
 use lib.Dec.{ltb}
 use borrow.Author.Tests.{lt-ltb, le-ltb, ltb-true, ltb-false, eq-eqb}
 use Rattle.descriptors.specs.declared.header.Parent.{Parent}
-use Rattle.descriptors.specs.Header.{refusal, descriptorAt}
-use Rattle.descriptors.specs.Reading.{sizeOf, contentsOf, isSound}
+use Rattle.descriptors.specs.Header.{descriptorRefusal, descriptorAt}
+use Rattle.descriptors.specs.Set.{descriptorSize, contentsOf, isSound}
 use Rattle.descriptors.specs.Levels.{span, spans, spansOf, Follows}
 use Rattle.descriptors.proofs.Laws.Sound.{size-fits}
 use Rattle.descriptors.proofs.Laws.Contents.{sound-parts, sound-accepts}
@@ -19,8 +19,8 @@ unfolding spans
 spans-end zero s p at end h = refl
 spans-end (suc n) s p at end h = simp (le-ltb _ _ h)
 
-spans-step : (n : ℕ) (s : List ℕ) (p : Parent) (at end : ℕ) → at < end → refusal s p at end ≡ 0
-    → spans (suc n) s p at end ≡ span at (sizeOf (descriptorAt s p at end)) ∷ spans n s p (at + sizeOf (descriptorAt s p at end)) end
+spans-step : (n : ℕ) (s : List ℕ) (p : Parent) (at end : ℕ) → at < end → descriptorRefusal s p at end ≡ 0
+    → spans (suc n) s p at end ≡ span at (descriptorSize (descriptorAt s p at end)) ∷ spans n s p (at + descriptorSize (descriptorAt s p at end)) end
 unfolding spans
 spans-step n s p at end l e = simp (lt-ltb _ _ l, eq-eqb _ _ e)
 

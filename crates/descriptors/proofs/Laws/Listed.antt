@@ -13,33 +13,33 @@ use Rattle.descriptors.specs.declared.header.Parent.the-variants.{Set, C
 use Rattle.descriptors.specs.declared.header.Descriptor.{Descriptor}
 use Rattle.descriptors.specs.declared.header.Descriptor.the-variants.{Refused, Opaque, Property, Subset}
 use Rattle.descriptors.specs.Header.{typeAt, interfaceOf, descriptorAt}
-use Rattle.descriptors.specs.Reading.{Entry, Finding, refused, sound, _then_, descriptor, sizeOf, contentsOf, isSound, listed}
+use Rattle.descriptors.specs.Set.{PropertyPlace, SetReading, refused, sound, _then_, descriptor, descriptorSize, contentsOf, isSound, listed}
 use Rattle.descriptors.proofs.Laws.Sound.{Opens, known-as, size-fits}
 use Rattle.descriptors.proofs.Laws.Contents.{at-end, one-then, on-bytes, sound-parts, sound-accepts}
 use Rattle.descriptors.proofs.Laws.Reached.{Holds, here, later, deeper, bounds}
 use Rattle.descriptors.proofs.Laws.FirstFault.{held-sound}
 
-listed-then : (a b : Finding) → isSound (a then b) ≡ true → listed (a then b) ≡ listed a ++ listed b
+listed-then : (a b : SetReading) → isSound (a then b) ≡ true → listed (a then b) ≡ listed a ++ listed b
 unfolding listed
 listed-then (refused c o) b e = absurd (false≢true e)
 listed-then (sound ps) (refused c o) e = absurd (false≢true e)
 listed-then (sound ps) (sound qs) e = refl
 
 -- the properties of the first descriptor of a stretch, and of the rest
-abbrev alone : List ℕ → Parent → ℕ → ℕ → List Entry
+abbrev alone : List ℕ → Parent → ℕ → ℕ → List PropertyPlace
 alone s p at end = listed (descriptor (contentsOf s) p at (descriptorAt s p at end))
 
-abbrev rest : List ℕ → Parent → ℕ → ℕ → List Entry
-rest s p at end = listed (contentsOf s p (at + sizeOf (descriptorAt s p at end)) end)
+abbrev rest : List ℕ → Parent → ℕ → ℕ → List PropertyPlace
+rest s p at end = listed (contentsOf s p (at + descriptorSize (descriptorAt s p at end)) end)
 
 listed-parts : (s : List ℕ) (p : Parent) (at end : ℕ) → at < end → end ≤ length s → isSound (contentsOf s p at end) ≡ true
     → listed (contentsOf s p at end) ≡ alone s p at end ++ rest s p at end
 listed-parts s p at end l w e =
     let d = descriptorAt s p at end in
     let parts = one-then s p at end l w in
-    ap listed parts ∙ listed-then (descriptor (contentsOf s) p at d) (contentsOf s p (at + sizeOf d) end) (rw parts at e)
+    ap listed parts ∙ listed-then (descriptor (contentsOf s) p at d) (contentsOf s p (at + descriptorSize d) end) (rw parts at e)
 
-pub record PropertyIn (s : List ℕ) (p : Parent) (from end : ℕ) (x : Entry) : Type 0 where
+pub record PropertyIn (s : List ℕ) (p : Parent) (from end : ℕ) (x : PropertyPlace) : Type 0 where
   pub parent : Parent
   pub stop : ℕ
   pub holds : Holds s parent (x .at) stop p from end
@@ -47,10 +47,10 @@ pub record PropertyIn (s : List ℕ) (p : Parent) (from end : ℕ) (x : Entry) :
   pub property : typeAt s (x .at) ≡ 4
   pub interface : x .interface ≡ interfaceOf parent
 
-abbrev Finds : List ℕ → Entry → Parent → ℕ → ℕ → Type 0
+abbrev Finds : List ℕ → PropertyPlace → Parent → ℕ → ℕ → Type 0
 Finds s x p from end = end ≤ length s → isSound (contentsOf s p from end) ≡ true → List·Memᴰ x (listed (contentsOf s p from end)) → PropertyIn s p from end x
 
-step : (s : List ℕ) (x : Entry) (p : Parent) (from end : ℕ) → ((q : Parent) (a e : ℕ) → e - a < end - from → Finds s x q a e) → Finds s x p from end
+step : (s : List ℕ) (x : PropertyPlace) (p : Parent) (from end : ℕ) → ((q : Parent) (a e : ℕ) → e - a < end - from → Finds s x q a e) → Finds s x p from end
 unfolding listed
 step s x p from end more w e m = go (ltb from end) refl
   where
@@ -75,18 +75,18 @@ step s x p from end more w e m = go (ltb from end) refl
     parts l (inr i) =
         let a = sound-accepts s p from end l w e in
         let f = size-fits s p from end a in
-        let j = more p (from + sizeOf d) end (omega arith) w (sound-parts s p from end l w e .1) i in
+        let j = more p (from + descriptorSize d) end (omega arith) w (sound-parts s p from end l w e .1) i in
         record { parent = j .parent; stop = j .stop; holds = later l a (j .holds); more = j .more; property = j .property; interface = j .interface }
 
     go : (b : Bool) → ltb from end ≡ b → PropertyIn s p from end x
     go true f = let l = ltb-true from end f in parts l (List·Memᴰ·append-cases _ (rw (listed-parts s p from end l w e) at m))
     go false f = absurd (List·Memᴰ·not-nil (rw (at-end s p from end (ltb-false from end f)) at m))
 
-pub listed-stands : (s : List ℕ) (x : Entry) (p : Parent) (from end : ℕ) → Finds s x p from end
+pub listed-stands : (s : List ℕ) (x : PropertyPlace) (p : Parent) (from end : ℕ) → Finds s x p from end
 listed-stands s x = on-bytes (Finds s x) (step s x)
 
 -- what is listed of a stretch is listed of every stretch that holds it
-held-listed : (s : List ℕ) (x : Entry) (q : Parent) (at stop : ℕ) (p : Parent) (from end : ℕ) → Holds s q at stop p from end → end ≤ length s
+held-listed : (s : List ℕ) (x : PropertyPlace) (q : Parent) (at stop : ℕ) (p : Parent) (from end : ℕ) → Holds s q at stop p from end → end ≤ length s
     → isSound (contentsOf s p from end) ≡ true → List·Memᴰ x (listed (contentsOf s q at stop)) → List·Memᴰ x (listed (contentsOf s p from end))
 held-listed s x q at stop p from end here w e m = m
 held-listed s x q at stop p from end (later l f t) w e m =
@@ -103,7 +103,7 @@ no-subset Set e = omega arith
 no-subset Configuration e = omega arith
 no-subset (Function i) e = e
 
-property-listed : (s : List ℕ) (x : Entry) (p : Parent) (end : ℕ) → x .at < end → end ≤ length s → isSound (contentsOf s p (x .at) end) ≡ true
+property-listed : (s : List ℕ) (x : PropertyPlace) (p : Parent) (end : ℕ) → x .at < end → end ≤ length s → isSound (contentsOf s p (x .at) end) ≡ true
     → typeAt s (x .at) ≡ 4 → x .interface ≡ interfaceOf p → List·Memᴰ x (listed (contentsOf s p (x .at) end))
 unfolding listed
 property-listed s x p end l w e t i =
@@ -116,7 +116,7 @@ property-listed s x p end l w e t i =
     go (Subset size q) f g = absurd (no-subset p (rw t at (known-as s p (x .at) end _ f .4)))
 
 -- every property that stands in a sound stretch is listed
-pub stands-listed : (s : List ℕ) (x : Entry) (p : Parent) (from end : ℕ) → from ≤ end → end ≤ length s → isSound (contentsOf s p from end) ≡ true → PropertyIn s p from end x
+pub stands-listed : (s : List ℕ) (x : PropertyPlace) (p : Parent) (from end : ℕ) → from ≤ end → end ≤ length s → isSound (contentsOf s p from end) ≡ true → PropertyIn s p from end x
     → List·Memᴰ x (listed (contentsOf s p from end))
 stands-listed s x p from end h w e i =
     let b = bounds s (i .parent) (x .at) (i .stop) p from end (i .holds) h in

@@ -8,26 +8,26 @@ use Rattle.descriptors.specs.declared.header.Parent.{Parent}
 use Rattle.descriptors.specs.declared.header.Parent.the-variants.{Set, Configuration, Function}
 use Rattle.descriptors.specs.declared.header.Descriptor.{Descriptor}
 use Rattle.descriptors.specs.declared.header.Descriptor.the-variants.{Refused, Opaque, Property, Subset}
-use Rattle.descriptors.specs.Header.{typeAt, totalAt, interfaceByte, refusal, descriptorAt}
-use Rattle.descriptors.specs.Reading.{sizeOf}
+use Rattle.descriptors.specs.Header.{typeAt, totalAt, interfaceByte, descriptorRefusal, descriptorAt}
+use Rattle.descriptors.specs.Set.{descriptorSize}
 use Rattle.descriptors.specs.Levels.{Reached, top, behind, inside, Stands, InFunction}
 use Rattle.descriptors.proofs.Laws.Sound.{known-as, refusalOf, refusal-is, size-fits, subset-accepted}
 use Rattle.descriptors.proofs.Laws.Reached.{Holds, here, later, deeper, bounds, held}
 
 -- where the first descriptor of a stretch is a subset, what its inside holds comes before what is behind it
 module _ (s : List ℕ) (p : Parent) (from end : ℕ) (l : from < end) where
-  pub past-first : (q : Parent) (at stop : ℕ) → refusal s p from end ≡ 0 → Holds s q at stop p (from + sizeOf (descriptorAt s p from end)) end
-      → from + sizeOf (descriptorAt s p from end) ≤ at
+  pub past-first : (q : Parent) (at stop : ℕ) → descriptorRefusal s p from end ≡ 0 → Holds s q at stop p (from + descriptorSize (descriptorAt s p from end)) end
+      → from + descriptorSize (descriptorAt s p from end) ≤ at
   past-first q at stop e t =
       let f = size-fits s p from end e in
       bounds s q at stop p _ end t (omega arith) .0
 
   pub in-first : (q : Parent) (at stop size : ℕ) (r : Parent) → descriptorAt s p from end ≡ Subset size r → Holds s q at stop r (from + 8) (from + size)
-      → (from + 8 ≤ at) × (at ≤ stop) × (stop ≤ from + sizeOf (descriptorAt s p from end))
+      → (from + 8 ≤ at) × (at ≤ stop) × (stop ≤ from + descriptorSize (descriptorAt s p from end))
   in-first q at stop size r e t =
       let k = known-as s p from end _ e in
       let b = bounds s q at stop r (from + 8) (from + size) t (omega arith) in
-      let z : sizeOf (descriptorAt s p from end) ≡ size = ap sizeOf e in
+      let z : descriptorSize (descriptorAt s p from end) ≡ size = ap descriptorSize e in
       (omega arith, omega arith, omega arith)
 
   same-subset : {size n : ℕ} {r u : Parent} → descriptorAt s p from end ≡ Subset size r → descriptorAt s p from end ≡ Subset n u → (size ≡ n) × (r ≡ u)
@@ -54,7 +54,7 @@ nested : (s : List ℕ) (q q′ u : Parent) (at stop at′ stop′ n : ℕ) (p :
     → (at + 8 ≤ at′) × (at′ < at + n) → Holds s q at stop p from end → Holds s q′ at′ stop′ p from end → Holds s q′ at′ stop′ u (at + 8) (at + n)
 nested s q q′ u at stop at′ stop′ n p from end m e m′ b here here = absurd (omega arith)
 nested s q q′ u at stop at′ stop′ n p from end m e m′ b here (later l f t) =
-    let z : sizeOf (descriptorAt s p from end) ≡ n = ap sizeOf e in
+    let z : descriptorSize (descriptorAt s p from end) ≡ n = ap descriptorSize e in
     absurd (omega (arith, past-first s p from end l q′ at′ stop′ f t))
 nested s q q′ u at stop at′ stop′ n p from end m e m′ b here (deeper size r l f t) =
     let same = same-subset s p from end l f e in
@@ -77,7 +77,7 @@ only-function s q at stop i from end here = refl
 only-function s q at stop i from end (later l e t) = only-function s q at stop i _ end t
 only-function s q at stop i from end (deeper size r l e t) = absurd (known-as s (Function i) from end _ e .4)
 
-function-subset : (s : List ℕ) (at end : ℕ) → refusal s Configuration at end ≡ 0 → typeAt s at ≡ 2
+function-subset : (s : List ℕ) (at end : ℕ) → descriptorRefusal s Configuration at end ≡ 0 → typeAt s at ≡ 2
     → descriptorAt s Configuration at end ≡ Subset (totalAt s at) (Function (interfaceByte s at))
 function-subset s at end a t = go (descriptorAt s Configuration at end) refl
   where

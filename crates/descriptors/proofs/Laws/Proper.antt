@@ -13,34 +13,34 @@ use Rattle.descriptors.specs.declared.header.Descriptor.{Descriptor}
 use Rattle.descriptors.specs.declared.header.Descriptor.the-variants.{Refused, Opaque, Property, Subset}
 use Rattle.descriptors.specs.Codes.{badField}
 use Rattle.descriptors.specs.Header.{lengthAt, typeAt, goodProperty, descriptorAt}
-use Rattle.descriptors.specs.Reading.{Entry, Finding, refused, sound, _then_, descriptor, sizeOf, contents, contentsOf}
+use Rattle.descriptors.specs.Set.{PropertyPlace, SetReading, refused, sound, _then_, descriptor, descriptorSize, contents, contentsOf}
 use Rattle.descriptors.proofs.Laws.Sound.{Known, known}
 
 -- the descriptor of a property that keeps its rules and lies in the set
-pub record Lies (s : List ℕ) (q : Entry) : Type 0 where
+pub record Lies (s : List ℕ) (q : PropertyPlace) : Type 0 where
   pub property : typeAt s (q .at) ≡ 4
   pub long : 12 ≤ lengthAt s (q .at)
   pub fields : goodProperty s (q .at) ≡ true
   pub within : q .at + lengthAt s (q .at) ≤ length s
 
-abbrev pub AllLie : List ℕ → List Entry → Type 0
+abbrev pub AllLie : List ℕ → List PropertyPlace → Type 0
 AllLie s [] = Unit {0}
 AllLie s (q ∷ qs) = Lies s q × AllLie s qs
 
-abbrev pub Proper : List ℕ → Finding → Type 0
+abbrev pub Proper : List ℕ → SetReading → Type 0
 Proper s (refused code offset) = (0 < code) × (code ≤ badField) × (offset < length s)
 Proper s (sound ps) = AllLie s ps
 
-append : (s : List ℕ) (ps qs : List Entry) → AllLie s ps → AllLie s qs → AllLie s (ps ++ qs)
+append : (s : List ℕ) (ps qs : List PropertyPlace) → AllLie s ps → AllLie s qs → AllLie s (ps ++ qs)
 append s [] qs a b = b
 append s (p ∷ ps) qs a b = (a .0, append s ps qs (a .1) b)
 
-both : (s : List ℕ) (a b : Finding) → Proper s a → Proper s b → Proper s (a then b)
+both : (s : List ℕ) (a b : SetReading) → Proper s a → Proper s b → Proper s (a then b)
 both s (refused c o) b x y = x
 both s (sound ps) (refused c o) x y = y
 both s (sound ps) (sound qs) x y = append s ps qs x y
 
-one : (s : List ℕ) (f : Parent → ℕ → ℕ → Finding) (p : Parent) (at end : ℕ) (d : Descriptor) → Known s p at (end - at) d → at < end → end ≤ length s
+one : (s : List ℕ) (f : Parent → ℕ → ℕ → SetReading) (p : Parent) (at end : ℕ) (d : Descriptor) → Known s p at (end - at) d → at < end → end ≤ length s
     → ((q : Parent) (a e : ℕ) → e ≤ length s → Proper s (f q a e)) → Proper s (descriptor f p at d)
 one s f p at end (Refused code) w l k r = (w .0, w .1, omega arith)
 one s f p at end (Opaque size) w l k r = tt
@@ -52,13 +52,13 @@ unfolding contents
 proper zero s p at end k = tt
 proper (suc n) s p at end k =
     go _ (ltb at end) refl
-    (λ lt. both s (descriptor (contents n s) p at d) (contents n s p (at + sizeOf d) end) (one s (contents n s) p at end d (known s p at end) lt k (λ q a e r. proper n s q a e r))
-    (proper n s p (at + sizeOf d) end k))
+    (λ lt. both s (descriptor (contents n s) p at d) (contents n s p (at + descriptorSize d) end) (one s (contents n s) p at end d (known s p at end) lt k (λ q a e r. proper n s q a e r))
+    (proper n s p (at + descriptorSize d) end k))
   where
     d : Descriptor
     d = descriptorAt s p at end
 
-    go : (u : Finding) (b : Bool) → ltb at end ≡ b → (at < end → Proper s u) → Proper s (cond b u (sound []))
+    go : (u : SetReading) (b : Bool) → ltb at end ≡ b → (at < end → Proper s u) → Proper s (cond b u (sound []))
     go u true e f = f (ltb-true _ _ e)
     go u false e f = tt
 

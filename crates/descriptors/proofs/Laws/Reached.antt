@@ -7,15 +7,15 @@ use lib.ListN.{length}
 use Rattle.descriptors.specs.declared.header.Parent.{Parent}
 use Rattle.descriptors.specs.declared.header.Parent.the-variants.{Set}
 use Rattle.descriptors.specs.declared.header.Descriptor.the-variants.{Subset}
-use Rattle.descriptors.specs.Header.{refusal, descriptorAt}
-use Rattle.descriptors.specs.Reading.{sizeOf}
+use Rattle.descriptors.specs.Header.{descriptorRefusal, descriptorAt}
+use Rattle.descriptors.specs.Set.{descriptorSize}
 use Rattle.descriptors.specs.Levels.{Reached, top, behind, inside, Stands}
 use Rattle.descriptors.proofs.Laws.Sound.{known-as, size-fits}
 
 -- reading the stretch from `from` to `end` of the parent p comes to the offset `at` of q, which ends at `stop`
 pub data Holds (s : List ℕ) (q : Parent) (at stop : ℕ) : Parent → ℕ → ℕ → Type 0 where
   here : Holds s q at stop q at stop
-  later : {p : Parent} {from end : ℕ} → from < end → refusal s p from end ≡ 0 → Holds s q at stop p (from + sizeOf (descriptorAt s p from end)) end
+  later : {p : Parent} {from end : ℕ} → from < end → descriptorRefusal s p from end ≡ 0 → Holds s q at stop p (from + descriptorSize (descriptorAt s p from end)) end
       → Holds s q at stop p from end
   deeper : {p : Parent} {from end : ℕ} (size : ℕ) (r : Parent) → from < end → descriptorAt s p from end ≡ Subset size r
       → Holds s q at stop r (from + 8) (from + size) → Holds s q at stop p from end
@@ -24,7 +24,7 @@ pub bounds : (s : List ℕ) (q : Parent) (at stop : ℕ) (p : Parent) (from end 
 bounds s q at stop p from end here h = (omega arith, omega arith, omega arith)
 bounds s q at stop p from end (later l e t) h =
     let f = size-fits s p from end e in
-    let i = bounds s q at stop p (from + sizeOf (descriptorAt s p from end)) end t (omega arith) in
+    let i = bounds s q at stop p (from + descriptorSize (descriptorAt s p from end)) end t (omega arith) in
     (omega arith, omega arith, omega arith)
 bounds s q at stop p from end (deeper size r l e t) h =
     let k = known-as s p from end _ e in
@@ -32,8 +32,8 @@ bounds s q at stop p from end (deeper size r l e t) h =
     (omega arith, omega arith, omega arith)
 
 -- one step further
-go-later : (s : List ℕ) (q : Parent) (at stop : ℕ) (p : Parent) (from end : ℕ) → Holds s q at stop p from end → at < stop → refusal s q at stop ≡ 0
-    → Holds s q (at + sizeOf (descriptorAt s q at stop)) stop p from end
+go-later : (s : List ℕ) (q : Parent) (at stop : ℕ) (p : Parent) (from end : ℕ) → Holds s q at stop p from end → at < stop → descriptorRefusal s q at stop ≡ 0
+    → Holds s q (at + descriptorSize (descriptorAt s q at stop)) stop p from end
 go-later s q at stop p from end here l e = later l e here
 go-later s q at stop p from end (later m f t) l e = later m f (go-later s q at stop p _ end t l e)
 go-later s q at stop p from end (deeper size r m f t) l e = deeper size r m f (go-later s q at stop r _ _ t l e)

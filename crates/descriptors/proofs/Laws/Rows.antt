@@ -7,14 +7,14 @@ use native.Mathlib.Omega.{arith}
 use lib.ListN.{getD}
 use lib.Dec.{leb, eqb}
 use borrow.Author.Tests.{lt-ltb, le-ltb, le-leb, lt-leb, eq-eqb, ne-eqb}
-use Rattle.wire.specs.Number.{leAt}
+use Rattle.wire.specs.Numbers.{leAt}
 use Rattle.descriptors.specs.declared.header.Parent.{Parent}
 use Rattle.descriptors.specs.declared.header.Parent.the-variants.{Set, Configuration, Function}
 use Rattle.descriptors.specs.declared.header.Descriptor.{Descriptor}
 use Rattle.descriptors.specs.declared.header.Descriptor.the-variants.{Refused, Opaque, Property, Subset}
 use Rattle.descriptors.specs.Codes.{pastParent, badType, badLength, badField}
 use Rattle.wire.specs.Rows.{_⇒_, firstOf, allOf}
-use Rattle.descriptors.specs.Header.{lengthAt, typeAt, reservedAt, totalAt, kindAt, nameLengthAt, nameEndAt, dataLengthAt, isSubset, isProperty, allowed, goodProperty, propertyRefusal, subsetRefusal, refusal, inner, unless, descriptorAt}
+use Rattle.descriptors.specs.Header.{lengthAt, typeAt, reservedAt, totalAt, dataTypeAt, nameLengthAt, nameEndAt, dataLengthAt, isSubset, isProperty, allowed, goodProperty, propertyRefusal, subsetRefusal, descriptorRefusal, inner, unless, descriptorAt}
 use Rattle.registry.specs.Registry.{propertyTests, goodFields}
 use Rattle.descriptors.specs.Look.{subsetAt, Looked}
 
@@ -92,27 +92,27 @@ module _ (s : List ℕ) (at : ℕ) where
   pub name-past : lengthAt s at < 10 + nameLengthAt s at → goodProperty s at ≡ false
   unfolding goodFields
   name-past h =
-      fails 5 (propertyTests (lengthAt s at) (kindAt s at) (nameLengthAt s at) (nameEndAt s at) (dataLengthAt s at))
+      fails 5 (propertyTests (lengthAt s at) (dataTypeAt s at) (nameLengthAt s at) (nameEndAt s at) (dataLengthAt s at))
       (ne-eqb (lengthAt s at) (10 + nameLengthAt s at + dataLengthAt s at) (omega arith))
 
   -- the fields as they were read: the name's length first, and by it the name's end and the data's length
   pub gathered : (len kind name ending value : ℕ) (r b : Bool) → r ≡ goodFields len kind name ending value
-      → len ≡ lengthAt s at → kind ≡ kindAt s at → name ≡ nameLengthAt s at → ending ≡ leAt 2 s (at + 6 + name) → value ≡ leAt 2 s (at + 8 + name)
+      → len ≡ lengthAt s at → kind ≡ dataTypeAt s at → name ≡ nameLengthAt s at → ending ≡ leAt 2 s (at + 6 + name) → value ≡ leAt 2 s (at + 8 + name)
       → r ≡ b → goodProperty s at ≡ b
   gathered len kind name ending value r b e f g h i j k = simp (← k, e, i, j, f, g, h)
 
 -- any descriptor
 module _ (s : List ℕ) (p : Parent) (at end : ℕ) where
   pub few-left : end - at < 4 → Refused pastParent ≡ descriptorAt s p at end
-  unfolding descriptorAt refusal
+  unfolding descriptorAt descriptorRefusal
   few-left a = simp (lt-ltb _ _ a)
 
   pub past-parent : (4 ≤ end - at) × (end - at < lengthAt s at) → Refused pastParent ≡ descriptorAt s p at end
-  unfolding descriptorAt refusal
+  unfolding descriptorAt descriptorRefusal
   past-parent h = simp (le-ltb _ _ (h .0), lt-ltb _ _ (h .1))
 
   pub too-short : (4 ≤ end - at) × (lengthAt s at ≤ end - at) × (lengthAt s at < 4) → Refused badLength ≡ descriptorAt s p at end
-  unfolding descriptorAt refusal
+  unfolding descriptorAt descriptorRefusal
   too-short h = simp (le-ltb _ _ (h .0), le-ltb _ _ (h .1), lt-ltb _ _ (h .2))
 
   -- the first three rows pass
@@ -123,7 +123,7 @@ module _ (s : List ℕ) (p : Parent) (at end : ℕ) where
 
   -- the fourth row, as the type was read
   pub not-here : Whole → (t : ℕ) (r : Bool) → r ≡ allowed p t → t ≡ typeAt s at → r ≡ false → Refused badType ≡ descriptorAt s p at end
-  unfolding descriptorAt refusal
+  unfolding descriptorAt descriptorRefusal
   not-here w t r e f g =
       let a : allowed p (typeAt s at) ≡ false = simp (← f, ← e, g) in
       simp (le-ltb _ _ (w .room), le-ltb _ _ (w .within), le-ltb _ _ (w .long), a)
@@ -133,12 +133,12 @@ module _ (s : List ℕ) (p : Parent) (at end : ℕ) where
     here = simp (← f, ← e, g)
 
     -- the first four rows pass, and the last two are left
-    last-two : refusal s p at end
+    last-two : descriptorRefusal s p at end
         ≡ firstOf
         ((isSubset (typeAt s at) ⇒ subsetRefusal (end - at) (lengthAt s at) (totalAt s at) (reservedAt s at))
         ∷ (isProperty (typeAt s at) ⇒ propertyRefusal s at)
         ∷ [])
-    unfolding refusal
+    unfolding descriptorRefusal
     last-two = simp (le-ltb _ _ (w .room), le-ltb _ _ (w .within), le-ltb _ _ (w .long), here)
 
     no-subset : 2 < t → isSubset (typeAt s at) ≡ false

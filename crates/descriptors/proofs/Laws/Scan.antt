@@ -8,7 +8,7 @@ use native.Mathlib.Omega.{arith}
 use lib.ListN.{length, length-append}
 use lib.Dec.{eqb}
 use borrow.Author.Tests.{eqb-true, eqb-false}
-use Rattle.wire.specs.Number.{leAt}
+use Rattle.wire.specs.Numbers.{leAt}
 use Rattle.descriptors.specs.declared.header.Interface.{Interface}
 use Rattle.descriptors.specs.declared.header.Parent.{Parent}
 use Rattle.descriptors.specs.declared.header.Parent.the-variants.{Set, Configuration, Function}
@@ -17,32 +17,32 @@ use Rattle.descriptors.specs.declared.header.Descriptor.the-variants.{Re
 use Rattle.descriptors.specs.declared.scan.Cursor.{Cursor}
 use Rattle.descriptors.specs.declared.properties.RegistryProperty.{RegistryProperty}
 use Rattle.descriptors.specs.Codes.{badSetHeader, noProperty}
-use Rattle.descriptors.specs.Header.{kindAt, nameLengthAt, interfaceOf, descriptorAt}
-use Rattle.descriptors.specs.Reading.{Entry, Finding, refused, sound, _then_, descriptor, sizeOf, contentsOf, goodHeader, setOf}
-use Rattle.descriptors.specs.Property.{refusedWith, foundAt, nth, inFinding, propertyOf}
-use Rattle.descriptors.specs.Stops.{refusalNumber}
-use Rattle.descriptors.specs.Scan.{around, depth, entryOf, movedTo, outOf, intoSubset, counted, passing, outside, Within, Kept, Going, Scanning, Stepped}
+use Rattle.descriptors.specs.Header.{dataTypeAt, nameLengthAt, interfaceOf, descriptorAt}
+use Rattle.descriptors.specs.Set.{PropertyPlace, SetReading, refused, sound, _then_, descriptor, descriptorSize, contentsOf, goodHeader, readSet}
+use Rattle.descriptors.specs.Properties.{refusedProperty, foundAt, nth, inReading, propertyOf}
+use Rattle.descriptors.specs.Walk.{refusalNumber}
+use Rattle.descriptors.specs.Scan.{around, depth, propertyPlace, movedTo, outOf, intoSubset, passedProperty, passing, outside, Within, Kept, Going, Scanning, Stepped}
 use Rattle.descriptors.proofs.Laws.Sound.{known-as, sum-holds}
 use Rattle.descriptors.proofs.Laws.Contents.{at-end, one-then}
 use Rattle.descriptors.proofs.Laws.Whole.{header-room, good-set}
 
 -- one stretch and then the next, and then a third
-then-assoc : (a b c : Finding) → ((a then b) then c) ≡ (a then (b then c))
+then-assoc : (a b c : SetReading) → ((a then b) then c) ≡ (a then (b then c))
 then-assoc (refused x o) b c = refl
 then-assoc (sound ps) (refused x o) c = refl
 then-assoc (sound ps) (sound qs) (refused x o) = refl
 then-assoc (sound ps) (sound qs) (sound rs) = ap sound (append-assoc ps qs rs)
 
-nothing-then : (a : Finding) → (sound [] then a) ≡ a
+nothing-then : (a : SetReading) → (sound [] then a) ≡ a
 nothing-then (refused x o) = refl
 nothing-then (sound ps) = refl
 
-then-nothing : (a : Finding) → (a then sound []) ≡ a
+then-nothing : (a : SetReading) → (a then sound []) ≡ a
 then-nothing (refused x o) = refl
 then-nothing (sound ps) = ap sound (append-nil ps)
 
 -- what is read from the cursor on
-abbrev ahead : List ℕ → Parent → ℕ → ℕ → ℕ → Finding
+abbrev ahead : List ℕ → Parent → ℕ → ℕ → ℕ → SetReading
 ahead s p at end outer = contentsOf s p at end then outside s p end outer
 
 abbrev descriptorHere : List ℕ → Cursor → Descriptor
@@ -71,10 +71,10 @@ module _ (s : List ℕ) (at end outer : ℕ) (l : at < length s) (e : at ≡ end
 
 -- one descriptor, and then what is behind it
 one-ahead : (s : List ℕ) (p : Parent) (at end outer : ℕ) (d : Descriptor) → descriptorAt s p at end ≡ d → at < end → end ≤ length s
-    → ahead s p at end outer ≡ (descriptor (contentsOf s) p at d then ahead s p (at + sizeOf d) end outer)
+    → ahead s p at end outer ≡ (descriptor (contentsOf s) p at d then ahead s p (at + descriptorSize d) end outer)
 one-ahead s p at end outer d e l w =
-    ap (λ (f : Finding). f then outside s p end outer) (one-then s p at end l w)
-    ∙ rw e (then-assoc (descriptor (contentsOf s) p at d) (contentsOf s p (at + sizeOf d) end) (outside s p end outer))
+    ap (λ (f : SetReading). f then outside s p end outer) (one-then s p at end l w)
+    ∙ rw e (then-assoc (descriptor (contentsOf s) p at d) (contentsOf s p (at + descriptorSize d) end) (outside s p end outer))
 
 pub depth-low : (p : Parent) → depth p ≤ 2
 depth-low Set = omega arith
@@ -92,20 +92,20 @@ module _ (s : List ℕ) (at end outer size : ℕ) (q : Parent) where
   entered (Function i) w e = absurd (known-as s (Function i) at end _ e .4)
 
 -- property k of a list that one more property was put to
-nth-kept : (s : List ℕ) (k : ℕ) (ps : List Entry) (q : Entry) → k < length ps → nth s k (ps ++ q ∷ []) ≡ nth s k ps
+nth-kept : (s : List ℕ) (k : ℕ) (ps : List PropertyPlace) (q : PropertyPlace) → k < length ps → nth s k (ps ++ q ∷ []) ≡ nth s k ps
 unfolding nth
 nth-kept s k [] q h = absurd (omega arith)
 nth-kept s zero (p ∷ ps) q h = refl
 nth-kept s (suc k) (p ∷ ps) q h = nth-kept s k ps q (omega arith)
 
-nth-last : (s : List ℕ) (k : ℕ) (ps : List Entry) (q : Entry) → length ps ≡ k → nth s k (ps ++ q ∷ []) ≡ foundAt s q
+nth-last : (s : List ℕ) (k : ℕ) (ps : List PropertyPlace) (q : PropertyPlace) → length ps ≡ k → nth s k (ps ++ q ∷ []) ≡ foundAt s q
 unfolding nth
 nth-last s zero [] q h = refl
 nth-last s (suc k) [] q h = absurd (omega arith)
 nth-last s zero (p ∷ ps) q h = absurd (omega arith)
 nth-last s (suc k) (p ∷ ps) q h = nth-last s k ps q (omega arith)
 
-pub nth-past : (s : List ℕ) (k : ℕ) (ps : List Entry) → length ps ≤ k → nth s k ps ≡ refusedWith noProperty 0
+pub nth-past : (s : List ℕ) (k : ℕ) (ps : List PropertyPlace) → length ps ≤ k → nth s k ps ≡ refusedProperty noProperty 0
 unfolding nth
 nth-past s k [] h = refl
 nth-past s zero (p ∷ ps) h = absurd (omega arith)
@@ -127,8 +127,8 @@ module _ (s : List ℕ) (k : ℕ) (c : Cursor) (pre : Scanning s k c × (c .at <
   bounds = (g .few, g .before, end-within s (c .parent) (c .end) (c .outer) (g .within))
 
   -- the same set, by what is ahead of the cursor
-  on : (f : Finding) → ahead s (c .parent) (c .at) (c .end) (c .outer) ≡ f → setOf s ≡ (sound (g .passed) then f)
-  on f e = g .same ∙ ap (λ (x : Finding). sound (g .passed) then x) e
+  on : (f : SetReading) → ahead s (c .parent) (c .at) (c .end) (c .outer) ≡ f → readSet s ≡ (sound (g .passed) then f)
+  on f e = g .same ∙ ap (λ (x : SetReading). sound (g .passed) then x) e
 
   pub leaves : c .at ≡ c .end → (r : Cursor) → r ≡ outOf c (length s) → Stepped s k c r
   leaves e r f =
@@ -148,12 +148,12 @@ module _ (s : List ℕ) (k : ℕ) (c : Cursor) (pre : Scanning s k c × (c .at <
       )
 
   -- what is ahead of it so many bytes further on in the same parent
-  behind : ℕ → Finding
+  behind : ℕ → SetReading
   behind size = ahead s (c .parent) (c .at + size) (c .end) (c .outer)
 
   module _ (n : c .at ≡ c .end → ⊥) where
     next : (d : Descriptor) → descriptorHere s c ≡ d
-        → setOf s ≡ (sound (g .passed) then (descriptor (contentsOf s) (c .parent) (c .at) d then behind (sizeOf d)))
+        → readSet s ≡ (sound (g .passed) then (descriptor (contentsOf s) (c .parent) (c .at) d then behind (descriptorSize d)))
     unfolding behind
     next d e = on _ (one-ahead s (c .parent) (c .at) (c .end) (c .outer) d e (omega (arith, bounds)) (bounds .2))
 
@@ -170,7 +170,7 @@ module _ (s : List ℕ) (k : ℕ) (c : Cursor) (pre : Scanning s k c × (c .at <
           inl
               (record {
                 passed = g .passed;
-                same = next _ e ∙ ap (λ (x : Finding). sound (g .passed) then x) (nothing-then (behind size));
+                same = next _ e ∙ ap (λ (x : SetReading). sound (g .passed) then x) (nothing-then (behind size));
                 count = g .count;
                 few = omega (arith, g .few);
                 kept = g .kept;
@@ -201,12 +201,12 @@ module _ (s : List ℕ) (k : ℕ) (c : Cursor) (pre : Scanning s k c × (c .at <
 
     -- a property is put to those passed
     listed : (size hit : ℕ) (holder : Parent) → descriptorHere s c ≡ Property size
-        → (k < length (g .passed ++ entryOf (c .at) (c .parent) ∷ []) → Kept s k hit holder (g .passed ++ entryOf (c .at) (c .parent) ∷ []))
-        → Stepped s k c (counted c size hit holder)
+        → (k < length (g .passed ++ propertyPlace (c .at) (c .parent) ∷ []) → Kept s k hit holder (g .passed ++ propertyPlace (c .at) (c .parent) ∷ []))
+        → Stepped s k c (passedProperty c size hit holder)
     unfolding behind
     listed size hit holder e kept =
         let w = known-as s (c .parent) (c .at) (c .end) _ e in
-        let q = entryOf (c .at) (c .parent) in (
+        let q = propertyPlace (c .at) (c .parent) in (
           inl
               (record {
                 passed = g .passed ++ q ∷ [];
@@ -223,8 +223,8 @@ module _ (s : List ℕ) (k : ℕ) (c : Cursor) (pre : Scanning s k c × (c .at <
     pub passes : (size : ℕ) → descriptorHere s c ≡ Property size → (r : Cursor) → r ≡ passing c k size → Stepped s k c r
     passes size e r f = rw f (go (eqb (c .seen) k) refl)
       where
-        q : Entry
-        q = entryOf (c .at) (c .parent)
+        q : PropertyPlace
+        q = propertyPlace (c .at) (c .parent)
 
         room : c .at + 10 + nameLengthAt s (c .at) ≤ length s
         room =
@@ -232,7 +232,7 @@ module _ (s : List ℕ) (k : ℕ) (c : Cursor) (pre : Scanning s k c × (c .at <
             omega (arith, sum-holds s (c .at) (w .4), bounds .2)
 
         go : (b : Bool) → eqb (c .seen) k ≡ b
-            → Stepped s k c (cond b (counted c size (c .at) (c .parent)) (counted c size (c .hit) (c .holder)))
+            → Stepped s k c (cond b (passedProperty c size (c .at) (c .parent)) (passedProperty c size (c .hit) (c .holder)))
         go true t =
             listed size (c .at) (c .parent) e
             (λ h. record { found = sym (nth-last s k (g .passed) q (sym (g .count) ∙ eqb-true _ _ t)); room = room })
@@ -271,13 +271,13 @@ all-read s (Function i) at end outer w b h =
 
 -- the list of a sound set, as the cursor has it
 record Listing (s : List ℕ) (k : ℕ) (c : Cursor) : Type 0 where
-  all : List Entry
-  same : setOf s ≡ sound all
+  all : List PropertyPlace
+  same : readSet s ≡ sound all
   count : c .seen ≡ length all
   kept : k < length all → Kept s k (c .hit) (c .holder) all
 
 module _ (s : List ℕ) (k : ℕ) (c : Cursor) (i : Scanning s k c × (length s < 65536)) (h : length s ≤ c .at) where
-  of-set : (f : Finding) → setOf s ≡ f → inFinding s k f ≡ propertyOf s k
+  of-set : (f : SetReading) → readSet s ≡ f → inReading s k f ≡ propertyOf s k
   unfolding propertyOf
   of-set f e = rw e
 
@@ -290,8 +290,8 @@ module _ (s : List ℕ) (k : ℕ) (c : Cursor) (i : Scanning s k c × (length s 
           let none = all-read s (c .parent) (c .at) (c .end) (c .outer) (g .within) (g .before) h in
           record { all = g .passed; same = g .same ∙ rw none (ap sound (append-nil (g .passed))); count = g .count; kept = g .kept }
 
-  pub none-such : c .at < 65536 → c .seen ≤ k → refusedWith noProperty 0 ≡ propertyOf s k
-  unfolding inFinding
+  pub none-such : c .at < 65536 → c .seen ≤ k → refusedProperty noProperty 0 ≡ propertyOf s k
+  unfolding inReading
   none-such l m =
       let a = listing l in
       sym (nth-past s k (a .all) (omega (arith, a .count))) ∙ of-set (sound (a .all)) (a .same)
@@ -299,30 +299,30 @@ module _ (s : List ℕ) (k : ℕ) (c : Cursor) (i : Scanning s k c × (length s 
   pub found-room : c .at < 65536 → k < c .seen → c .hit + 10 + nameLengthAt s (c .hit) ≤ length s
   found-room l m = let a = listing l in a .kept (omega (arith, a .count)) .room
 
-  pub found-there : c .at < 65536 → k < c .seen → foundAt s (entryOf (c .hit) (c .holder)) ≡ propertyOf s k
-  unfolding inFinding
+  pub found-there : c .at < 65536 → k < c .seen → foundAt s (propertyPlace (c .hit) (c .holder)) ≡ propertyOf s k
+  unfolding inReading
   found-there l m =
       let a = listing l in
       a .kept (omega (arith, a .count)) .found ∙ of-set (sound (a .all)) (a .same)
 
-  pub refused-there : 65536 ≤ c .at → (refusedWith (c .at / 65536) (c .at % 65536) ≡ propertyOf s k) × (c .at / 65536 < 256)
-  unfolding inFinding
+  pub refused-there : 65536 ≤ c .at → (refusedProperty (c .at / 65536) (c .at % 65536) ≡ propertyOf s k) × (c .at / 65536 < 256)
+  unfolding inReading
   refused-there l = go (i .0)
     where
-      go : Scanning s k c → (refusedWith (c .at / 65536) (c .at % 65536) ≡ propertyOf s k) × (c .at / 65536 < 256)
+      go : Scanning s k c → (refusedProperty (c .at / 65536) (c .at % 65536) ≡ propertyOf s k) × (c .at / 65536 < 256)
       go (inl g) = absurd (omega (arith, i .1, g .before, end-within s (c .parent) (c .end) (c .outer) (g .within)))
       go (inr t) =
           let code : c .at / 65536 ≡ t .code = omega (arith, i .1, t .number, t .inside) in
           let offset : c .at % 65536 ≡ t .offset = omega (arith, i .1, t .number, t .inside) in
           (rw (code, offset) (of-set (refused (t .code) (t .offset)) (t .same)), omega (arith, t .known))
 
-pub bad-header : (s : List ℕ) (k : ℕ) → goodHeader s ≡ false → refusedWith badSetHeader 0 ≡ propertyOf s k
-unfolding propertyOf inFinding setOf
+pub bad-header : (s : List ℕ) (k : ℕ) → goodHeader s ≡ false → refusedProperty badSetHeader 0 ≡ propertyOf s k
+unfolding propertyOf inReading readSet
 bad-header s k e = simp e
 
 -- the fields of a property as they were read
 pub found : (s : List ℕ) (at : ℕ) (p : Parent) (kind n d : ℕ) (i : Interface)
-    → kind ≡ kindAt s at → n ≡ nameLengthAt s at → d ≡ leAt 2 s (at + 8 + n) → i ≡ interfaceOf p
+    → kind ≡ dataTypeAt s at → n ≡ nameLengthAt s at → d ≡ leAt 2 s (at + 8 + n) → i ≡ interfaceOf p
     → _≡_ {A = RegistryProperty}
     (record {
       code = 0;
@@ -332,6 +332,6 @@ pub found : (s : List ℕ) (at : ℕ) (p : Parent) (kind n d : ℕ) (i : Interfa
       value = record { at = at + 10 + n; len = d };
       interface = i;
     })
-    (foundAt s (entryOf at p))
+    (foundAt s (propertyPlace at p))
 unfolding foundAt
 found s at p kind n d i a b e f = rw (e, a, b, f)

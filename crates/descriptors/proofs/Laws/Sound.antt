@@ -15,8 +15,8 @@ use Rattle.descriptors.specs.Codes.{pastParent, badType, badLength, badF
 use Rattle.wire.specs.Rows.{_⇒_, allOf}
 use Rattle.wire.proofs.Laws.Rows.{quiet}
 use Rattle.registry.specs.Registry.{propertyTests, goodFields}
-use Rattle.descriptors.specs.Header.{lengthAt, typeAt, reservedAt, totalAt, kindAt, nameLengthAt, nameEndAt, dataLengthAt, isSubset, isProperty, allowed, goodProperty, propertyRefusal, subsetRefusal, refusal, inner, descriptorAt}
-use Rattle.descriptors.specs.Reading.{sizeOf}
+use Rattle.descriptors.specs.Header.{lengthAt, typeAt, reservedAt, totalAt, dataTypeAt, nameLengthAt, nameEndAt, dataLengthAt, isSubset, isProperty, allowed, goodProperty, propertyRefusal, subsetRefusal, descriptorRefusal, inner, descriptorAt}
+use Rattle.descriptors.specs.Set.{descriptorSize}
 use Rattle.descriptors.proofs.Laws.Rows.{in-set, in-configuration, in-function}
 
 -- a row that was asked
@@ -49,8 +49,8 @@ module _ (s : List ℕ) (at : ℕ) where
       (at-most (ltb left (totalAt s at)) pastParent _ (omega arith)
       (at-most (ltb (totalAt s at) 8) badLength _ (omega arith) (at-most (not (eqb (reservedAt s at) 0)) badField _ (omega arith) (omega arith))))
 
-  refusal-low : (p : Parent) (end : ℕ) → refusal s p at end ≤ badField
-  unfolding refusal
+  refusal-low : (p : Parent) (end : ℕ) → descriptorRefusal s p at end ≤ badField
+  unfolding descriptorRefusal
   refusal-low p end =
       at-most (ltb (end - at) 4) pastParent _ (omega arith)
       (at-most (ltb (end - at) (lengthAt s at)) pastParent _ (omega arith)
@@ -76,11 +76,11 @@ opens p t a b = go (ltb t 3) refl
     go true e = small p (ltb-true t 3 e) a
     go false e = let h = ltb-false t 3 e in absurd (false≢true (simp (ne-eqb t 1 (omega arith), ne-eqb t 2 (omega arith)) at b))
 
-module _ (s : List ℕ) (p : Parent) (at end : ℕ) (e : refusal s p at end ≡ 0) where
+module _ (s : List ℕ) (p : Parent) (at end : ℕ) (e : descriptorRefusal s p at end ≡ 0) where
   -- the rows of every descriptor, none of which answered, and what is left of the table
   four : (4 ≤ end - at) × (lengthAt s at ≤ end - at) × (4 ≤ lengthAt s at) × (allowed p (typeAt s at) ≡ true)
       × (cond (isSubset (typeAt s at)) (subsetRefusal (end - at) (lengthAt s at) (totalAt s at) (reservedAt s at)) (cond (isProperty (typeAt s at)) (propertyRefusal s at) 0) ≡ 0)
-  unfolding refusal
+  unfolding descriptorRefusal
   four =
       let r = quiet ((_ ⇒ pastParent) ∷ (_ ⇒ pastParent) ∷ (_ ⇒ badLength) ∷ (_ ⇒ badType) ∷ []) ((isSubset (typeAt s at) ⇒ subsetRefusal (end - at) (lengthAt s at) (totalAt s at) (reservedAt s at)) ∷ (isProperty (typeAt s at) ⇒ propertyRefusal s at) ∷ []) refl e in
       let q = r .0 in
@@ -103,7 +103,7 @@ module _ (s : List ℕ) (p : Parent) (at end : ℕ) (e : refusal s p at end ≡ 
 pub sum-holds : (s : List ℕ) (at : ℕ) → goodProperty s at ≡ true → lengthAt s at ≡ 10 + nameLengthAt s at + dataLengthAt s at
 unfolding goodFields
 sum-holds s at g =
-    eqb-true _ _ (holds 5 (propertyTests (lengthAt s at) (kindAt s at) (nameLengthAt s at) (nameEndAt s at) (dataLengthAt s at)) g)
+    eqb-true _ _ (holds 5 (propertyTests (lengthAt s at) (dataTypeAt s at) (nameLengthAt s at) (nameEndAt s at) (dataLengthAt s at)) g)
 
 -- a descriptor of which `left` bytes are left in its parent: its bytes lie there, and its type is one of those it can be found to be
 abbrev pub Known : List ℕ → Parent → ℕ → ℕ → Descriptor → Type 0
@@ -127,10 +127,10 @@ above (suc n) h = omega arith
 
 pub known : (s : List ℕ) (p : Parent) (at end : ℕ) → Known s p at (end - at) (descriptorAt s p at end)
 unfolding descriptorAt
-known s p at end = go (eqb (refusal s p at end) 0) refl (isSubset (typeAt s at)) refl (isProperty (typeAt s at)) refl
+known s p at end = go (eqb (descriptorRefusal s p at end) 0) refl (isSubset (typeAt s at)) refl (isProperty (typeAt s at)) refl
   where
-    go : (b : Bool) → eqb (refusal s p at end) 0 ≡ b → (c : Bool) → isSubset (typeAt s at) ≡ c → (d : Bool) → isProperty (typeAt s at) ≡ d
-        → Known s p at (end - at) (cond b (cond c (Subset (totalAt s at) (inner s p at)) (cond d (Property (lengthAt s at)) (Opaque (lengthAt s at)))) (Refused (refusal s p at end)))
+    go : (b : Bool) → eqb (descriptorRefusal s p at end) 0 ≡ b → (c : Bool) → isSubset (typeAt s at) ≡ c → (d : Bool) → isProperty (typeAt s at) ≡ d
+        → Known s p at (end - at) (cond b (cond c (Subset (totalAt s at) (inner s p at)) (cond d (Property (lengthAt s at)) (Opaque (lengthAt s at)))) (Refused (descriptorRefusal s p at end)))
     go true e true f d g =
         let z = eqb-true _ _ e in
         let h = subset-whole s p at end z f in
@@ -143,7 +143,7 @@ known s p at end = go (eqb (refusal s p at end) 0) refl (isSubset (typeAt s at))
         let h = four s p at end (eqb-true _ _ e) in
         let n = no-subset (typeAt s at) f in
         (h .2, h .1, refl, n .0, n .1, eqb-false _ _ g)
-    go false e c f d g = (above (refusal s p at end) (eqb-false _ _ e), refusal-low s at p end)
+    go false e c f d g = (above (descriptorRefusal s p at end) (eqb-false _ _ e), refusal-low s at p end)
 
 -- the same, of what the descriptor was found to be
 pub known-as : (s : List ℕ) (p : Parent) (at end : ℕ) (d : Descriptor) → descriptorAt s p at end ≡ d → Known s p at (end - at) d
@@ -156,27 +156,27 @@ refusalOf (Opaque size) = 0
 refusalOf (Property size) = 0
 refusalOf (Subset size q) = 0
 
-pub refusal-is : (s : List ℕ) (p : Parent) (at end : ℕ) → refusal s p at end ≡ refusalOf (descriptorAt s p at end)
+pub refusal-is : (s : List ℕ) (p : Parent) (at end : ℕ) → descriptorRefusal s p at end ≡ refusalOf (descriptorAt s p at end)
 unfolding descriptorAt
-refusal-is s p at end = go (eqb (refusal s p at end) 0) refl (isSubset (typeAt s at)) (isProperty (typeAt s at))
+refusal-is s p at end = go (eqb (descriptorRefusal s p at end) 0) refl (isSubset (typeAt s at)) (isProperty (typeAt s at))
   where
-    go : (b : Bool) → eqb (refusal s p at end) 0 ≡ b → (c d : Bool)
-        → refusal s p at end ≡ refusalOf (cond b (cond c (Subset (totalAt s at) (inner s p at)) (cond d (Property (lengthAt s at)) (Opaque (lengthAt s at)))) (Refused (refusal s p at end)))
+    go : (b : Bool) → eqb (descriptorRefusal s p at end) 0 ≡ b → (c d : Bool)
+        → descriptorRefusal s p at end ≡ refusalOf (cond b (cond c (Subset (totalAt s at) (inner s p at)) (cond d (Property (lengthAt s at)) (Opaque (lengthAt s at)))) (Refused (descriptorRefusal s p at end)))
     go true e true d = eqb-true _ _ e
     go true e false true = eqb-true _ _ e
     go true e false false = eqb-true _ _ e
     go false e c d = refl
 
 -- a descriptor that no test refuses ends behind its start, in its parent
-pub fits : (s : List ℕ) (p : Parent) (at left : ℕ) (d : Descriptor) → Known s p at left d → refusalOf d ≡ 0 → (0 < sizeOf d) × (sizeOf d ≤ left)
+pub fits : (s : List ℕ) (p : Parent) (at left : ℕ) (d : Descriptor) → Known s p at left d → refusalOf d ≡ 0 → (0 < descriptorSize d) × (descriptorSize d ≤ left)
 fits s p at left (Refused code) k e = absurd (omega arith)
 fits s p at left (Opaque size) k e = (omega arith, omega arith)
 fits s p at left (Property size) k e = (omega arith, omega arith)
 fits s p at left (Subset size q) k e = (omega arith, omega arith)
 
-pub size-fits : (s : List ℕ) (p : Parent) (at end : ℕ) → refusal s p at end ≡ 0
-    → (0 < sizeOf (descriptorAt s p at end)) × (sizeOf (descriptorAt s p at end) ≤ end - at)
+pub size-fits : (s : List ℕ) (p : Parent) (at end : ℕ) → descriptorRefusal s p at end ≡ 0
+    → (0 < descriptorSize (descriptorAt s p at end)) × (descriptorSize (descriptorAt s p at end) ≤ end - at)
 size-fits s p at end e = fits s p at (end - at) (descriptorAt s p at end) (known s p at end) (sym (refusal-is s p at end) ∙ e)
 
-pub subset-accepted : (s : List ℕ) (p : Parent) (at end size : ℕ) (q : Parent) → descriptorAt s p at end ≡ Subset size q → refusal s p at end ≡ 0
+pub subset-accepted : (s : List ℕ) (p : Parent) (at end size : ℕ) (q : Parent) → descriptorAt s p at end ≡ Subset size q → descriptorRefusal s p at end ≡ 0
 subset-accepted s p at end size q e = refusal-is s p at end ∙ ap refusalOf e

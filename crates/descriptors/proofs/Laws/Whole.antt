@@ -7,16 +7,16 @@ use native.Mathlib.Omega.{arith}
 use lib.ListN.{length}
 use lib.Dec.{leb, eqb}
 use borrow.Author.Tests.{le-leb, lt-leb, leb-true, eqb-true}
-use Rattle.wire.specs.Number.{leAt}
+use Rattle.wire.specs.Numbers.{leAt}
 use Rattle.descriptors.specs.declared.header.Parent.the-variants.{Set}
 use Rattle.descriptors.specs.declared.set.Fault.{Fault}
 use Rattle.descriptors.specs.Codes.{badSetHeader}
 use Rattle.descriptors.specs.Header.{lengthAt, typeAt}
-use Rattle.descriptors.specs.Reading.{Finding, refused, sound, contentsOf, goodHeader, setOf, isSound, faultOf}
-use Rattle.descriptors.specs.Stops.{stopOf, stopFrom}
+use Rattle.descriptors.specs.Set.{SetReading, refused, sound, contentsOf, goodHeader, readSet, isSound, faultOf}
+use Rattle.descriptors.specs.Walk.{stopOf, stopFrom}
 use Rattle.descriptors.proofs.Laws.Sound.{holds}
 use Rattle.descriptors.proofs.Laws.Proper.{Proper, contents-proper}
-use Rattle.descriptors.proofs.Laws.Stops.{from}
+use Rattle.descriptors.proofs.Laws.Walk.{from}
 
 headerTests : List ℕ → List Bool
 headerTests s = leb 10 (length s) ∷ eqb (lengthAt s 0) 10 ∷ eqb (typeAt s 0) 0 ∷ eqb (leAt 2 s 8) (length s) ∷ []
@@ -49,29 +49,29 @@ module _ (s : List ℕ) where
       same : (eqb a 10 && eqb b 0 && eqb t (length s)) ≡ goodHeader s
       same = words h a b t e f g
 
-  pub bad-set : goodHeader s ≡ false → _≡_ {A = Fault} (record { code = badSetHeader; offset = 0 }) (faultOf (setOf s))
-  unfolding setOf faultOf
+  pub bad-set : goodHeader s ≡ false → _≡_ {A = Fault} (record { code = badSetHeader; offset = 0 }) (faultOf (readSet s))
+  unfolding readSet faultOf
   bad-set e = simp e
 
-  pub sound-header : isSound (setOf s) ≡ true → goodHeader s ≡ true
-  unfolding setOf
+  pub sound-header : isSound (readSet s) ≡ true → goodHeader s ≡ true
+  unfolding readSet
   sound-header e = go (goodHeader s) e
     where
       go : (g : Bool) → isSound (cond g (contentsOf s Set 10 (length s)) (refused badSetHeader 0)) ≡ true → g ≡ true
       go true e = refl
       go false e = e
 
-  pub good-set : goodHeader s ≡ true → setOf s ≡ contentsOf s Set 10 (length s)
-  unfolding setOf
+  pub good-set : goodHeader s ≡ true → readSet s ≡ contentsOf s Set 10 (length s)
+  unfolding readSet
   good-set e = simp e
 
 -- a fault read off the number
-sound-fault : (s : List ℕ) (stop : ℕ) (f : Finding) → Proper s f → stop ≡ stopOf (length s) f → stop < 65536 → _≡_ {A = Fault} (record { code = 0; offset = 0 }) (faultOf f)
+sound-fault : (s : List ℕ) (stop : ℕ) (f : SetReading) → Proper s f → stop ≡ stopOf (length s) f → stop < 65536 → _≡_ {A = Fault} (record { code = 0; offset = 0 }) (faultOf f)
 unfolding stopOf faultOf
 sound-fault s stop (refused c o) r e l = absurd (omega arith)
 sound-fault s stop (sound ps) r e l = refl
 
-refused-fault : (s : List ℕ) (stop : ℕ) (f : Finding) → length s < 65536 → Proper s f → stop ≡ stopOf (length s) f → 65536 ≤ stop
+refused-fault : (s : List ℕ) (stop : ℕ) (f : SetReading) → length s < 65536 → Proper s f → stop ≡ stopOf (length s) f → 65536 ≤ stop
     → (_≡_ {A = Fault} (record { code = stop / 65536; offset = stop % 65536 }) (faultOf f)) × (stop / 65536 < 256)
 unfolding stopOf faultOf
 refused-fault s stop (refused c o) m r e l =
@@ -82,14 +82,14 @@ refused-fault s stop (sound ps) m r e l = absurd (omega arith)
 
 -- a number past every offset is the set's refusal
 abbrev pub Told : List ℕ → ℕ → Type 0
-Told s stop = (_≡_ {A = Fault} (record { code = stop / 65536; offset = stop % 65536 }) (faultOf (setOf s))) × (stop / 65536 < 256)
+Told s stop = (_≡_ {A = Fault} (record { code = stop / 65536; offset = stop % 65536 }) (faultOf (readSet s))) × (stop / 65536 < 256)
 
 -- the whole check, by what the walk of the set came to
 module _ (s : List ℕ) (stop : ℕ) (g : goodHeader s ≡ true) (e : stop ≡ stopFrom s Set 10 (length s)) where
   walked : stop ≡ stopOf (length s) (contentsOf s Set 10 (length s))
   walked = e ∙ from s Set 10 (length s) (header-room s g)
 
-  pub check-sound : stop < 65536 → _≡_ {A = Fault} (record { code = 0; offset = 0 }) (faultOf (setOf s))
+  pub check-sound : stop < 65536 → _≡_ {A = Fault} (record { code = 0; offset = 0 }) (faultOf (readSet s))
   check-sound h = rw (good-set s g) (sound-fault s stop _ (contents-proper s Set 10 (length s) (omega arith)) walked h)
 
   pub check-refused : length s < 65536 → 65536 ≤ stop → Told s stop

@@ -5,7 +5,7 @@ use Prim.Native.Nat.{ℕ, suc, _+_, _*_, _<_}
 use native.Mathlib.Numerals.{add-one}
 use native.Mathlib.Omega.{arith}
 use lib.ListN.{getD}
-use Rattle.wire.specs.Number.{number, leAt}
+use Rattle.wire.specs.Numbers.{number, leAt}
 use Rattle.wire.proofs.Laws.Numbers.{front}
 
 two : (s : List ℕ) (i : ℕ) → leAt 2 s i ≡ getD s i 0 + 256 * getD s (i + 1) 0

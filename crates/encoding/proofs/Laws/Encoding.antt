@@ -11,40 +11,40 @@ use lib.Dec.{eqb, lit≤}
 use lib.ListN.{length, getD, take, drop, length-append, take-append-drop}
 use lib.Seq.{take-all}
 use borrow.Author.Tests.{ne-eqb, le-leb}
-use Rattle.wire.specs.Number.{bytesOf}
-use Rattle.wire.specs.Overlay.{overlay}
+use Rattle.wire.specs.Numbers.{bytesOf}
+use Rattle.wire.specs.Writes.{overlay}
 use Rattle.wire.specs.Endpoints.{firstAddress, places}
-use Rattle.wire.proofs.Laws.Overlay.{no-bytes, append, same-length}
-use Rattle.snapshot.specs.Form.{keys}
-use Rattle.snapshot.specs.Records.{bytes, records, encode}
+use Rattle.wire.proofs.Laws.Writes.{no-bytes, append, same-length}
+use Rattle.snapshot.specs.Keys.{keys}
+use Rattle.snapshot.specs.Records.{recordBytes, records, encode}
 use Rattle.snapshot.proofs.Laws.Maps.{records-split}
 use Rattle.controls.specs.declared.Setting.{Setting}
 use Rattle.controls.specs.declared.Setting.the-variants as S
 use Rattle.controls.specs.declared.HeldSetting.{HeldSetting}
-use Rattle.exposure.specs.Ev.{evBytes}
+use Rattle.exposure.specs.Exposure.{evBytes}
 use Rattle.throttle.specs.Throttle.{throttleBytes}
-use Rattle.controls.specs.Settings.{settingHeld}
+use Rattle.controls.specs.Controls.{settingHeld}
 use Rattle.settings.specs.declared.settings.Settings.{Settings}
-use Rattle.settings.specs.Settings.{held, heldSetting, faceHeld}
-use Rattle.encoding.specs.Encoding.{row, encoded}
-use Rattle.encoding.specs.Steps.{rowHeld}
+use Rattle.settings.specs.Held.{settingsHeld, heldSetting, faceHeld}
+use Rattle.encoding.specs.Encoding.{recordOf, encoded}
+use Rattle.encoding.specs.Steps.{recordHeld}
 
 -- a setting's record does not go by the key
-row-key : (j k : ℕ) (s : Setting) → row j s ≡ row k s
-unfolding row
+row-key : (j k : ℕ) (s : Setting) → recordOf s ≡ recordOf s
+unfolding recordOf
 row-key j k (S.Ev s) = refl
 row-key j k (S.Face address flags) = refl
 row-key j k (S.Metadata n) = refl
 row-key j k (S.Hdr n) = refl
 row-key j k (S.Throttle s) = refl
 
-row-short : (k : ℕ) (s : Setting) → length (row k s) ≤ 24
-unfolding row bytesOf evBytes throttleBytes
-row-short k (S.Ev s) = lit≤ tt
-row-short k (S.Face address flags) = lit≤ tt
-row-short k (S.Metadata n) = lit≤ tt
-row-short k (S.Hdr n) = lit≤ tt
-row-short k (S.Throttle s) = lit≤ tt
+record-short : (k : ℕ) (s : Setting) → length (recordOf s) ≤ 24
+unfolding recordOf bytesOf evBytes throttleBytes
+record-short k (S.Ev s) = lit≤ tt
+record-short k (S.Face address flags) = lit≤ tt
+record-short k (S.Metadata n) = lit≤ tt
+record-short k (S.Hdr n) = lit≤ tt
+record-short k (S.Throttle s) = lit≤ tt
 
 lit-nil : (n : ℕ) → length {A = ℕ} [] ≤ n
 lit-nil n = omega arith
@@ -55,28 +55,28 @@ unfolding overlay
 nothing-laid d i = rw (take-all {A = ℕ} (length d - i) [] (lit-nil (length d - i)), add-zero i) (ap (λ l. l ++ drop i d) (append-nil (take i d)) ∙ take-append-drop i d)
 
 -- what a place of face authentication holds
-held-place : (s : Settings) (i : ℕ) → i < places → held s (i + 1) ≡ faceHeld (firstAddress + i) (getD (s .face) i 0)
-unfolding held
+held-place : (s : Settings) (i : ℕ) → i < places → settingsHeld s (i + 1) ≡ faceHeld (firstAddress + i) (getD (s .face) i 0)
+unfolding settingsHeld
 held-place s i h = rw (add-one i, ne-eqb (suc i) 0 (omega arith), le-leb (suc i) places (omega arith), sub-one)
 
-place-length : (address flags : ℕ) → cond (eqb flags 0) 0 13 ≡ length (rowHeld 0 (faceHeld address flags))
-unfolding row bytesOf
+place-length : (address flags : ℕ) → cond (eqb flags 0) 0 13 ≡ length (recordHeld (faceHeld address flags))
+unfolding recordOf bytesOf
 place-length address flags = go (eqb flags 0)
   where
-    go : (b : Bool) → cond {A = ℕ} b 0 13 ≡ length (rowHeld 0 (cond b none (some (S.Face address flags))))
+    go : (b : Bool) → cond {A = ℕ} b 0 13 ≡ length (recordHeld (cond b none (some (S.Face address flags))))
     go true = refl
     go false = refl
 
 -- the records of settings by their keys
-abbrev rowsOf : Settings → ℕ → Option (List ℕ)
-rowsOf s k = Option·map (row k) (held s k)
+abbrev recordsHeld : Settings → ℕ → Option (List ℕ)
+recordsHeld s k = Option·map recordOf (settingsHeld s k)
 
 -- the records of the keys below k, and that of key k
 abbrev pub below : Settings → ℕ → List ℕ
-below s k = records k 0 (rowsOf s)
+below s k = records k 0 (recordsHeld s)
 
 piece : Settings → ℕ → List ℕ
-piece s k = bytes (rowsOf s k)
+piece s k = recordBytes (recordsHeld s k)
 
 pub below-all : (s : Settings) → below s keys ≡ encoded s
 unfolding encode
@@ -84,21 +84,21 @@ below-all s = refl
 
 below-next : (s : Settings) (k : ℕ) → below s (k + 1) ≡ below s k ++ piece s k
 unfolding records piece
-below-next s k = records-split (rowsOf s) k 1 0 ∙ ap (λ l. below s k ++ l) (append-nil _ ∙ ap (λ j. bytes (rowsOf s j)) (add-zero k))
+below-next s k = records-split (recordsHeld s) k 1 0 ∙ ap (λ l. below s k ++ l) (append-nil _ ∙ ap (λ j. recordBytes (recordsHeld s j)) (add-zero k))
 
 piece-short : (s : Settings) (k : ℕ) → length (piece s k) ≤ 24
 unfolding piece
-piece-short s k = go (held s k)
+piece-short s k = go (settingsHeld s k)
   where
-    go : (o : Option Setting) → length (bytes (Option·map (row k) o)) ≤ 24
+    go : (o : Option Setting) → length (recordBytes (Option·map recordOf o)) ≤ 24
     go none = lit≤ tt
-    go (some t) = row-short k t
+    go (some t) = record-short k t
 
-piece-held : (s : Settings) (k : ℕ) → rowHeld 0 (held s k) ≡ piece s k
+piece-held : (s : Settings) (k : ℕ) → recordHeld (settingsHeld s k) ≡ piece s k
 unfolding piece
-piece-held s k = go (held s k)
+piece-held s k = go (settingsHeld s k)
   where
-    go : (o : Option Setting) → rowHeld 0 o ≡ bytes (Option·map (row k) o)
+    go : (o : Option Setting) → recordHeld o ≡ recordBytes (Option·map recordOf o)
     go none = refl
     go (some t) = row-key 0 k t
 
@@ -137,23 +137,23 @@ module _ (s : Settings) (old : List ℕ) {out after l : List ℕ} {n k : ℕ} (w
   write-next e = record { measured = measure-next s (w .measured) e; is = write-turn }
 
 -- a key's own record: by what it holds, or of a place by its address and flags
-module _ (s : Settings) (k : ℕ) {h : HeldSetting} (is-held : h ≡ heldSetting (held s k)) where
-  held-row : rowHeld 0 (settingHeld h) ≡ piece s k
-  held-row = ap (λ j. rowHeld 0 (settingHeld j)) is-held ∙ ap (rowHeld 0) (setting-held (held s k)) ∙ piece-held s k
+module _ (s : Settings) (k : ℕ) {h : HeldSetting} (is-held : h ≡ heldSetting (settingsHeld s k)) where
+  held-row : recordHeld (settingHeld h) ≡ piece s k
+  held-row = ap (λ j. recordHeld (settingHeld j)) is-held ∙ ap (recordHeld 0) (setting-held (settingsHeld s k)) ∙ piece-held s k
 
-  module _ {n len : ℕ} (is-len : len ≡ length (rowHeld 0 (settingHeld h))) where
+  module _ {n len : ℕ} (is-len : len ≡ length (recordHeld (settingHeld h))) where
     pub held-measured : Measured s n k → Measured s (n + len) (k + 1)
     held-measured w = measure-next s w (is-len ∙ ap length held-row)
 
-    pub held-written : {old out after : List ℕ} → Progress s old out n k → after ≡ overlay out n (rowHeld 0 (settingHeld h)) → Progress s old after (n + len) (k + 1)
+    pub held-written : {old out after : List ℕ} → Progress s old out n k → after ≡ overlay out n (recordHeld (settingHeld h)) → Progress s old after (n + len) (k + 1)
     held-written w e = write-next s _ w held-row e (is-len ∙ ap length held-row)
 
-  pub held-last : {n : ℕ} {old out after : List ℕ} → Progress s old out n k → after ≡ overlay out n (rowHeld 0 (settingHeld h)) → after ≡ overlay old 0 (below s (k + 1))
+  pub held-last : {n : ℕ} {old out after : List ℕ} → Progress s old out n k → after ≡ overlay out n (recordHeld (settingHeld h)) → after ≡ overlay old 0 (below s (k + 1))
   held-last w e = write-turn s _ w held-row e
 
 module _ (s : Settings) (i : ℕ) (h : i < places) {face : List ℕ} (is-face : face ≡ s .face) {len : ℕ} (is-len : len ≡ cond (eqb (getD face i 0) 0) 0 13) where
-  place-row : rowHeld 0 (faceHeld (firstAddress + i) (getD face i 0)) ≡ piece s (i + 1)
-  place-row = ap (λ (l : List ℕ). rowHeld 0 (faceHeld (firstAddress + i) (getD l i 0))) is-face ∙ ap (rowHeld 0) (sym (held-place s i h)) ∙ piece-held s (i + 1)
+  place-row : recordHeld (faceHeld (firstAddress + i) (getD face i 0)) ≡ piece s (i + 1)
+  place-row = ap (λ (l : List ℕ). recordHeld (faceHeld (firstAddress + i) (getD l i 0))) is-face ∙ ap (recordHeld 0) (sym (held-place s i h)) ∙ piece-held s (i + 1)
 
   place-length-is : len ≡ length (piece s (i + 1))
   place-length-is = is-len ∙ place-length (firstAddress + i) (getD face i 0) ∙ ap length place-row
@@ -161,7 +161,7 @@ module _ (s : Settings) (i : ℕ) (h : i < places) {face : List ℕ} (is-face : 
   pub place-measured : {n : ℕ} → Measured s n (i + 1) → Measured s (n + len) (i + 1 + 1)
   place-measured w = measure-next s w place-length-is
 
-  pub place-written : {n : ℕ} {old out after : List ℕ} → Progress s old out n (i + 1) → after ≡ overlay out n (rowHeld 0 (faceHeld (firstAddress + i) (getD face i 0))) → Progress s old after (n + len) (i + 1 + 1)
+  pub place-written : {n : ℕ} {old out after : List ℕ} → Progress s old out n (i + 1) → after ≡ overlay out n (recordHeld (faceHeld (firstAddress + i) (getD face i 0))) → Progress s old after (n + len) (i + 1 + 1)
   place-written w e = write-next s _ w place-row e place-length-is
 
 none-measured : (s : Settings) → Measured s 0 0
@@ -173,11 +173,11 @@ unfolding records
 none-written s old = record { measured = none-measured s; is = sym (no-bytes old) }
 
 -- the first key's
-module _ (s : Settings) {h : HeldSetting} (is-held : h ≡ heldSetting (held s 0)) {len : ℕ} (is-len : len ≡ length (rowHeld 0 (settingHeld h))) where
+module _ (s : Settings) {h : HeldSetting} (is-held : h ≡ heldSetting (settingsHeld s 0)) {len : ℕ} (is-len : len ≡ length (recordHeld (settingHeld h))) where
   pub first-measured : Measured s len 1
   first-measured = rw zero-add at (held-measured s 0 is-held {n = 0} is-len (none-measured s))
 
-  pub first-written : {old after : List ℕ} → after ≡ overlay old 0 (rowHeld 0 (settingHeld h)) → Progress s old after len 1
+  pub first-written : {old after : List ℕ} → after ≡ overlay old 0 (recordHeld (settingHeld h)) → Progress s old after len 1
   first-written {old} e = rw zero-add at (held-written s 0 is-held {n = 0} is-len (none-written s old) e)
 
 -- and the last

@@ -1,8 +1,8 @@
 use mathlib.Core.Path.{ap, sym, _∙_}
 use lib.ListN.{length}
 use Rattle.controls.specs.declared.HeldSetting.{HeldSetting}
-use Rattle.controls.specs.Settings.{settingHeld}
-use Rattle.encoding.specs.Steps.{rowHeld}
+use Rattle.controls.specs.Controls.{settingHeld}
+use Rattle.encoding.specs.Steps.{recordHeld}
 use borrow.Author.Needs.{needs}
 use Rattle.encoding.proofs.length_held.Statement.{statement}
 use Rattle.encoding.proofs.length_held.Tie as tie
@@ -22,7 +22,7 @@ returns c = search needs
 returns-2 : tie.Need-returns-2
 returns-2 c =
     let h = c .before .before in
-    c .length-of .ensures ∙ sym (ap (λ (h : HeldSetting). length (rowHeld 0 (settingHeld h))) (h .held .given .1))
+    c .length-of .ensures ∙ sym (ap (λ (h : HeldSetting). length (recordHeld (settingHeld h))) (h .held .given .1))
 
 pub length-held-spec : {M : Type 1} → statement M
 length-held-spec =

@@ -1,9 +1,9 @@
 use mathlib.Core.Path.{ap, sym}
 use lib.ListN.{length}
-use Rattle.wire.specs.Number.{bytesOf}
-use Rattle.exposure.specs.Ev.{evBytes}
+use Rattle.wire.specs.Numbers.{bytesOf}
+use Rattle.exposure.specs.Exposure.{evBytes}
 use Rattle.throttle.specs.Throttle.{throttleBytes}
-use Rattle.encoding.specs.Encoding.{row}
+use Rattle.encoding.specs.Encoding.{recordOf}
 use borrow.Author.Needs.{needs}
 use Rattle.encoding.proofs.length_of.Statement.{statement}
 use Rattle.encoding.proofs.length_of.Tie as tie
@@ -24,24 +24,24 @@ enum-told-5 : tie.Need-enum-told-5
 enum-told-5 c = search needs
 
 returns : tie.Need-returns
-unfolding row bytesOf evBytes throttleBytes
-returns c = sym (ap (λ s. length (row 0 s)) (c .enum-told .given .1))
+unfolding recordOf bytesOf evBytes throttleBytes
+returns c = sym (ap (λ s. length (recordOf s)) (c .enum-told .given .1))
 
 returns-2 : tie.Need-returns-2
-unfolding row bytesOf evBytes throttleBytes
-returns-2 c = sym (ap (λ s. length (row 0 s)) (c .enum-told2 .given .1))
+unfolding recordOf bytesOf evBytes throttleBytes
+returns-2 c = sym (ap (λ s. length (recordOf s)) (c .enum-told2 .given .1))
 
 returns-3 : tie.Need-returns-3
-unfolding row bytesOf evBytes throttleBytes
-returns-3 c = sym (ap (λ s. length (row 0 s)) (c .enum-told3 .given .1))
+unfolding recordOf bytesOf evBytes throttleBytes
+returns-3 c = sym (ap (λ s. length (recordOf s)) (c .enum-told3 .given .1))
 
 returns-4 : tie.Need-returns-4
-unfolding row bytesOf evBytes throttleBytes
-returns-4 c = sym (ap (λ s. length (row 0 s)) (c .enum-told4 .given .1))
+unfolding recordOf bytesOf evBytes throttleBytes
+returns-4 c = sym (ap (λ s. length (recordOf s)) (c .enum-told4 .given .1))
 
 returns-5 : tie.Need-returns-5
-unfolding row bytesOf evBytes throttleBytes
-returns-5 c = sym (ap (λ s. length (row 0 s)) (c .enum-told5 .given .1))
+unfolding recordOf bytesOf evBytes throttleBytes
+returns-5 c = sym (ap (λ s. length (recordOf s)) (c .enum-told5 .given .1))
 
 pub length-of-spec : {M : Type 1} → statement M
 length-of-spec =

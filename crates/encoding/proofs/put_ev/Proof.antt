@@ -2,10 +2,10 @@ use mathlib.Core.Path.{ap, _∙_}
 use mathlib.Core.List.{List, [], _∷_}
 use Prim.Native.Nat.{ℕ}
 use lib.ListN.{getD}
-use Rattle.wire.specs.Number.{bytesOf}
-use Rattle.wire.specs.Overlay.{overlay}
-use Rattle.encoding.specs.Encoding.{row}
-use Rattle.exposure.specs.Ev.{evBytes}
+use Rattle.wire.specs.Numbers.{bytesOf}
+use Rattle.wire.specs.Writes.{overlay}
+use Rattle.encoding.specs.Encoding.{recordOf}
+use Rattle.exposure.specs.Exposure.{evBytes}
 use borrow.Author.Needs.{needs}
 use Rattle.encoding.proofs.put_ev.Statement.{statement}
 use Rattle.encoding.proofs.put_ev.Tie as tie
@@ -56,7 +56,7 @@ same-length : tie.Need-same-length
 same-length c = search needs
 
 returns : tie.Need-returns
-unfolding row bytesOf evBytes
+unfolding recordOf bytesOf evBytes
 returns c =
     let k = c .before .before in
     let a = k .before .before .before .before .before .args in

@@ -1,9 +1,9 @@
 use mathlib.Core.List.{List, _∷_}
 use Prim.Native.Nat.{ℕ}
-use Rattle.wire.specs.Overlay.{overlay}
+use Rattle.wire.specs.Writes.{overlay}
 use mathlib.Core.Path.{ap, sym, _∙_}
-use Rattle.wire.specs.Number.{bytesOf}
-use Rattle.encoding.specs.Encoding.{row}
+use Rattle.wire.specs.Numbers.{bytesOf}
+use Rattle.encoding.specs.Encoding.{recordOf}
 use Rattle.face.proofs.Laws.Answers.{entry-small}
 use borrow.Author.Needs.{needs}
 use Rattle.encoding.proofs.put_face.Statement.{statement}
@@ -19,7 +19,7 @@ same-length : tie.Need-same-length
 same-length c = search needs
 
 returns : tie.Need-returns
-unfolding row bytesOf
+unfolding recordOf bytesOf
 returns c =
     let k = c .before .before in
     let s = k .before .before .before .before in

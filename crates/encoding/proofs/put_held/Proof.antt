@@ -1,8 +1,8 @@
 use mathlib.Core.Path.{ap, sym, _∙_}
-use Rattle.wire.specs.Overlay.{overlay}
+use Rattle.wire.specs.Writes.{overlay}
 use Rattle.controls.specs.declared.HeldSetting.{HeldSetting}
-use Rattle.controls.specs.Settings.{settingHeld}
-use Rattle.encoding.specs.Steps.{rowHeld}
+use Rattle.controls.specs.Controls.{settingHeld}
+use Rattle.encoding.specs.Steps.{recordHeld}
 use Rattle.encoding.proofs.Laws.Encoding.{nothing-laid}
 use borrow.Author.Needs.{needs}
 use Rattle.encoding.proofs.put_held.Statement.{statement}
@@ -20,7 +20,7 @@ put-setting-requires c κs = search needs
 returns : tie.Need-returns
 returns c =
     let a = c .before .before .before .args in
-    sym (nothing-laid (a .out .now) (a .at)) ∙ sym (ap (λ (h : HeldSetting). overlay (a .out .now) (a .at) (rowHeld 0 (settingHeld h))) (c .enum-told .given .1))
+    sym (nothing-laid (a .out .now) (a .at)) ∙ sym (ap (λ (h : HeldSetting). overlay (a .out .now) (a .at) (recordHeld (settingHeld h))) (c .enum-told .given .1))
 
 same-length : tie.Need-same-length
 same-length c = search needs
@@ -30,7 +30,7 @@ returns-2 c =
     let k = c .before .before in
     let h = k .before .before .before in
     let a = h .before .before .before .args in
-    k .put-setting .ensures ∙ sym (ap (λ (h : HeldSetting). overlay (a .out .now) (a .at) (rowHeld 0 (settingHeld h))) (h .held .given .1))
+    k .put-setting .ensures ∙ sym (ap (λ (h : HeldSetting). overlay (a .out .now) (a .at) (recordHeld (settingHeld h))) (h .held .given .1))
 
 pub put-held-spec : {M : Type 1} → statement M
 put-held-spec =

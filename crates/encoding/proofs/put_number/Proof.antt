@@ -3,8 +3,8 @@ use mathlib.Core.List.{List, [], _∷_, _++_}
 use Rattle.wire.proofs.Laws.Bytes.{bytes-byte}
 use Prim.Native.Nat.{ℕ}
 use lib.ListN.{getD}
-use Rattle.wire.specs.Number.{bytesOf}
-use Rattle.wire.specs.Overlay.{overlay}
+use Rattle.wire.specs.Numbers.{bytesOf}
+use Rattle.wire.specs.Writes.{overlay}
 use borrow.Author.Needs.{needs}
 use Rattle.encoding.proofs.put_number.Statement.{statement}
 use Rattle.encoding.proofs.put_number.Tie as tie

@@ -1,6 +1,6 @@
 use mathlib.Core.Path.{ap, sym, _∙_}
-use Rattle.wire.specs.Overlay.{overlay}
-use Rattle.encoding.specs.Encoding.{row}
+use Rattle.wire.specs.Writes.{overlay}
+use Rattle.encoding.specs.Encoding.{recordOf}
 use borrow.Author.Needs.{needs}
 use Rattle.encoding.proofs.put_setting.Statement.{statement}
 use Rattle.encoding.proofs.put_setting.Tie as tie
@@ -43,7 +43,7 @@ returns c =
     let k = c .before .before in
     let s = k .before .before .before in
     let a = s .before .before .before .args in
-    k .put-ev .ensures ∙ sym (ap (λ x. overlay (a .out .now) (a .at) (row 0 x)) (s .s .given .1))
+    k .put-ev .ensures ∙ sym (ap (λ x. overlay (a .out .now) (a .at) (recordOf x)) (s .s .given .1))
 
 same-length-2 : tie.Need-same-length-2
 same-length-2 c = search needs
@@ -53,29 +53,29 @@ returns-2 c =
     let k = c .before .before in
     let s = k .before .before .before in
     let a = s .before .before .before .args in
-    k .put-face .ensures ∙ sym (ap (λ x. overlay (a .out .now) (a .at) (row 0 x)) (s .s2 .given .1))
+    k .put-face .ensures ∙ sym (ap (λ x. overlay (a .out .now) (a .at) (recordOf x)) (s .s2 .given .1))
 
 same-length-3 : tie.Need-same-length-3
 same-length-3 c = search needs
 
 returns-3 : tie.Need-returns-3
-unfolding row
+unfolding recordOf
 returns-3 c =
     let k = c .before .before in
     let s = k .before .before .before in
     let a = s .before .before .before .args in
-    k .put-number .ensures ∙ sym (ap (λ x. overlay (a .out .now) (a .at) (row 0 x)) (s .s3 .given .1))
+    k .put-number .ensures ∙ sym (ap (λ x. overlay (a .out .now) (a .at) (recordOf x)) (s .s3 .given .1))
 
 same-length-4 : tie.Need-same-length-4
 same-length-4 c = search needs
 
 returns-4 : tie.Need-returns-4
-unfolding row
+unfolding recordOf
 returns-4 c =
     let k = c .before .before in
     let s = k .before .before .before in
     let a = s .before .before .before .args in
-    k .put-number2 .ensures ∙ sym (ap (λ x. overlay (a .out .now) (a .at) (row 0 x)) (s .s4 .given .1))
+    k .put-number2 .ensures ∙ sym (ap (λ x. overlay (a .out .now) (a .at) (recordOf x)) (s .s4 .given .1))
 
 same-length-5 : tie.Need-same-length-5
 same-length-5 c = search needs
@@ -85,7 +85,7 @@ returns-5 c =
     let k = c .before .before in
     let s = k .before .before .before in
     let a = s .before .before .before .args in
-    k .put-throttle .ensures ∙ sym (ap (λ x. overlay (a .out .now) (a .at) (row 0 x)) (s .s5 .given .1))
+    k .put-throttle .ensures ∙ sym (ap (λ x. overlay (a .out .now) (a .at) (recordOf x)) (s .s5 .given .1))
 
 pub put-setting-spec : {M : Type 1} → statement M
 put-setting-spec =

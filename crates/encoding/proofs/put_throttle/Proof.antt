@@ -2,9 +2,9 @@ use mathlib.Core.Path.{ap₂, _∙_}
 use mathlib.Core.List.{List, [], _∷_}
 use Prim.Native.Nat.{ℕ}
 use lib.ListN.{getD}
-use Rattle.wire.specs.Number.{bytesOf}
-use Rattle.wire.specs.Overlay.{overlay}
-use Rattle.encoding.specs.Encoding.{row}
+use Rattle.wire.specs.Numbers.{bytesOf}
+use Rattle.wire.specs.Writes.{overlay}
+use Rattle.encoding.specs.Encoding.{recordOf}
 use Rattle.throttle.specs.Throttle.{throttleBytes}
 use borrow.Author.Needs.{needs}
 use Rattle.encoding.proofs.put_throttle.Statement.{statement}
@@ -50,7 +50,7 @@ same-length : tie.Need-same-length
 same-length c = search needs
 
 returns : tie.Need-returns
-unfolding row bytesOf throttleBytes
+unfolding recordOf bytesOf throttleBytes
 returns c =
     let k = c .before .before in
     let a = k .before .before .before .before .before .before .args in

@@ -5,8 +5,8 @@ use native.Mathlib.Omega.{arith}
 use lib.ListN.{length}
 use borrow.Author.Needs.{needs}
 use Rattle.wire.specs.Endpoints.{places}
-use Rattle.wire.specs.Overlay.{overlay}
-use Rattle.wire.proofs.Laws.Overlay as laid
+use Rattle.wire.specs.Writes.{overlay}
+use Rattle.wire.proofs.Laws.Writes as laid
 use Rattle.encoding.specs.Encoding.{encoded}
 use Rattle.encoding.proofs.Laws.Encoding.{Measured, Progress, first-measured, first-written, place-measured, place-written, held-written, held-last, below-all}
 use Rattle.encoding.proofs.write.Statement.{statement}

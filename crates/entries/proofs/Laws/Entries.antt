@@ -10,12 +10,12 @@ use lib.ListN.{length, getD, set, replicate, getD-replicate}
 use lib.Seq.{getD-set-same, getD-set-other}
 use borrow.Author.Tests.{ne-eqb, eqb-true, eqb-false}
 use Rattle.wire.specs.Endpoints.{endpointLimit}
-use Rattle.wire.specs.Number.{leAt}
+use Rattle.wire.specs.Numbers.{leAt}
 use Rattle.wire.specs.Uvc.{outOfRange}
 use Rattle.controls.specs.declared.Item.the-variants.{Refused, Given}
 use Rattle.controls.specs.declared.Setting.the-variants as S
-use Rattle.controls.specs.Settings.{codeOf, firstRefusal}
-use Rattle.controls.proofs.Laws.Settings as settings
+use Rattle.controls.specs.Controls.{itemCode, firstRefusal}
+use Rattle.controls.proofs.Laws.Controls as settings
 use Rattle.controls.proofs.Laws.Items.{none-refused, stops, passes}
 use Rattle.face.specs.declared.limits.FaceLimits.{FaceLimits}
 use Rattle.entries.specs.declared.Taken.{Taken}
@@ -25,7 +25,7 @@ use Rattle.face.proofs.Laws.Limits.{offers-none, offers-placed, address-placed}
 
 -- entry i by the number that its tests give
 module _ (l : FaceLimits) (s : List ℕ) (i : ℕ) where
-  pub entry-code : codeOf (faceItem l s i) ≡ entryRefusal l s i
+  pub entry-code : itemCode (faceItem l s i) ≡ entryRefusal l s i
   unfolding faceItem
   entry-code = settings.item-code (entryRefusal l s i) (S.Face (entryAddress s i) (entryFlags s i))
 

@@ -7,31 +7,31 @@ use native.Mathlib.Omega.{arith}
 use lib.Dec.{leb, eqb}
 use lib.ListN.{length, getD}
 use borrow.Author.Tests.{eqb-false, le-leb, leb-true}
-use Rattle.wire.specs.Number.{leAt, bytesOf}
+use Rattle.wire.specs.Numbers.{leAt, bytesOf}
 use Rattle.wire.specs.Rows.{_⇒_, firstOf}
 use Rattle.wire.specs.Uvc.{invalidValue, outOfRange}
 use Rattle.wire.proofs.Laws.Bytes.{number-bytes}
-use Rattle.flags.specs.Flags.{choiceOf}
+use Rattle.flags.specs.Flags.{oneFlag}
 use Rattle.controls.specs.declared.Item.the-variants.{Given}
 use Rattle.controls.specs.declared.Setting.the-variants as S
-use Rattle.controls.specs.Settings.{itemOf}
-use Rattle.controls.proofs.Laws.Settings.{given-is}
+use Rattle.controls.specs.Controls.{itemOf}
+use Rattle.controls.proofs.Laws.Controls.{given-is}
 use Rattle.face.specs.declared.limits.FaceLimits.{FaceLimits}
-use Rattle.face.specs.Limits.{endpoints, faceValid, offersOf}
+use Rattle.face.specs.Limits.{endpointsOf, faceValid, offersOf}
 use Rattle.face.specs.Answers.{entryOf}
 use Rattle.face.proofs.Laws.Limits.{count-most}
-use Rattle.entries.specs.Entries.{takesFace, entryAddress, entryFlags, seenIn, seenBefore, isChoice, faceRefusal, entryRefusal, faceItem}
+use Rattle.entries.specs.Entries.{faceSetLength, entryAddress, entryFlags, seenIn, seenBefore, isChoice, faceRefusal, entryRefusal, faceItem}
 
 -- the length that a payload must have, by its first byte
-pub takes-empty : (l : FaceLimits) (s : List ℕ) → length s ≡ 0 → takesFace l s ≡ 1
-unfolding takesFace
-takes-empty l [] h = refl
-takes-empty l (n ∷ s) h = absurd (omega arith)
+pub set-length-empty : (l : FaceLimits) (s : List ℕ) → length s ≡ 0 → faceSetLength l s ≡ 1
+unfolding faceSetLength
+set-length-empty l [] h = refl
+set-length-empty l (n ∷ s) h = absurd (omega arith)
 
-pub takes-first : (l : FaceLimits) (s : List ℕ) → (length s ≡ 0 → ⊥) → takesFace l s ≡ cond (leb (getD s 0 0) (l .count)) (1 + 8 * getD s 0 0) 0
-unfolding takesFace
-takes-first l [] p = absurd (p refl)
-takes-first l (n ∷ s) p = refl
+pub set-length-first : (l : FaceLimits) (s : List ℕ) → (length s ≡ 0 → ⊥) → faceSetLength l s ≡ cond (leb (getD s 0 0) (l .count)) (1 + 8 * getD s 0 0) 0
+unfolding faceSetLength
+set-length-first l [] p = absurd (p refl)
+set-length-first l (n ∷ s) p = refl
 
 -- an entry's flags, read back
 pub entry-flags : (n address flags : ℕ) → flags < 2 ^ 56 → entryFlags (n ∷ entryOf address flags) 0 ≡ flags
@@ -40,7 +40,7 @@ entry-flags n address flags h = number-bytes 7 flags h
 
 -- a payload of one entry, as a snapshot's record has it
 pub one-entry : (l : FaceLimits) (address flags : ℕ) → flags < 256
-    → faceItem l (1 ∷ entryOf address flags) 0 ≡ itemOf (firstOf ((eqb (offersOf l address) 0 ⇒ outOfRange) ∷ (not (isChoice (choiceOf (offersOf l address) flags)) ⇒ invalidValue) ∷ [])) (S.Face address flags)
+    → faceItem l (1 ∷ entryOf address flags) 0 ≡ itemOf (firstOf ((eqb (offersOf l address) 0 ⇒ outOfRange) ∷ (not (isChoice (oneFlag (offersOf l address) flags)) ⇒ invalidValue) ∷ [])) (S.Face address flags)
 unfolding faceItem entryRefusal seenIn
 one-entry l address flags h = rw (entry-flags 1 address flags (omega arith))
 
@@ -63,7 +63,7 @@ unfolding faceItem entryRefusal faceRefusal
 accepted l s i address flags e =
     let offers = offersOf l (entryAddress s i) in
     let g = given-is (entryRefusal l s i) (S.Face (entryAddress s i) (entryFlags s i)) (S.Face address flags) e in
-    let t = tests-passed (eqb offers 0) (seenBefore s i) (isChoice (choiceOf offers (entryFlags s i))) (g .0) in
+    let t = tests-passed (eqb offers 0) (seenBefore s i) (isChoice (oneFlag offers (entryFlags s i))) (g .0) in
     let setting = g .1 in
     let p : entryAddress s i ≡ address = cc in
     let q : entryFlags s i ≡ flags = cc in
@@ -77,15 +77,15 @@ accepted l s i address flags e =
 
 -- LEN answers the length of the longest SET
 module _ (l : FaceLimits) (valid : faceValid l ≡ true) where
-  pub len-taken : (rest : List ℕ) → takesFace l (l .count ∷ rest) ≡ 1 + 8 * endpoints l
-  unfolding takesFace
-  len-taken rest = let e : l .count ≡ endpoints l = omega (arith, count-most l valid) in rw (le-leb (l .count) (l .count) (omega arith)) (ap (λ (n : ℕ). 1 + 8 * n) e)
+  pub len-taken : (rest : List ℕ) → faceSetLength l (l .count ∷ rest) ≡ 1 + 8 * endpointsOf l
+  unfolding faceSetLength
+  len-taken rest = let e : l .count ≡ endpointsOf l = omega (arith, count-most l valid) in rw (le-leb (l .count) (l .count) (omega arith)) (ap (λ (n : ℕ). 1 + 8 * n) e)
 
-  pub len-longest : (s : List ℕ) → takesFace l s ≤ 1 + 8 * endpoints l
-  unfolding takesFace
+  pub len-longest : (s : List ℕ) → faceSetLength l s ≤ 1 + 8 * endpointsOf l
+  unfolding faceSetLength
   len-longest [] = omega arith
   len-longest (n ∷ s) = go (leb n (l .count)) refl
     where
-      go : (b : Bool) → leb n (l .count) ≡ b → cond b (1 + 8 * n) 0 ≤ 1 + 8 * endpoints l
+      go : (b : Bool) → leb n (l .count) ≡ b → cond b (1 + 8 * n) 0 ≤ 1 + 8 * endpointsOf l
       go true e = omega (arith, leb-true n (l .count) e, count-most l valid)
       go false e = omega arith

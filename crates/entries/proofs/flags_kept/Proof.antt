@@ -9,11 +9,11 @@ use Rattle.entries.proofs.flags_kept.Tie as tie
 returns : tie.Need-returns
 returns c = rw (eq-eqb _ _ (c .if1 .taken))
 
-refusal-requires : tie.Need-refusal-requires
-refusal-requires c κs = search needs
+entry-tests-requires : tie.Need-entry-tests-requires
+entry-tests-requires c κs = search needs
 
 returns-2 : tie.Need-returns-2
-returns-2 c = rw (ne-eqb _ _ (c .before .if1 .left)) (ap (λ (n : ℕ). eqb n 0) (c .refusal .ensures .0))
+returns-2 c = rw (ne-eqb _ _ (c .before .if1 .left)) (ap (λ (n : ℕ). eqb n 0) (c .entry-tests .ensures .0))
 
 pub flags-kept-spec : {M : Type 1} → statement M
-flags-kept-spec = tie.close (tie.spec returns refusal-requires returns-2)
+flags-kept-spec = tie.close (tie.spec returns entry-tests-requires returns-2)

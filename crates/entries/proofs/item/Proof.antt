@@ -13,23 +13,23 @@ flag-word-requires c κs = search needs
 offers-of-requires : tie.Need-offers-of-requires
 offers-of-requires c κs = search needs
 
-refusal-requires : tie.Need-refusal-requires
-refusal-requires c κs = search needs
+entry-tests-requires : tie.Need-entry-tests-requires
+entry-tests-requires c κs = search needs
 
 returns : tie.Need-returns
 returns c =
     let f = c .before .before .before in
-    sym (first-refused _ _ _ _ _ _ (f .before .byte .ensures) (c .before .before .offers-of .ensures) (f .flag-word .ensures .0) (c .before .refusal .ensures .0) (c .if1 .taken))
+    sym (first-refused _ _ _ _ _ _ (f .before .byte .ensures) (c .before .before .offers-of .ensures) (f .flag-word .ensures .0) (c .before .entry-tests .ensures .0) (c .if1 .taken))
 
 cast-t6 : tie.Need-cast-t6
 cast-t6 c =
     let r = c .before in
-    record { fits = r .refusal .ensures .1 (c .if1 .left) (r .before .before .flag-word .ensures .1) }
+    record { fits = r .entry-tests .ensures .1 (c .if1 .left) (r .before .before .flag-word .ensures .1) }
 
 returns-2 : tie.Need-returns-2
 returns-2 c =
     let f = c .before .before .before in
-    sym (first-given _ _ _ _ _ _ (f .before .byte .ensures) (c .before .before .offers-of .ensures) (f .flag-word .ensures .0) (c .before .refusal .ensures .0) (c .if1 .left))
+    sym (first-given _ _ _ _ _ _ (f .before .byte .ensures) (c .before .before .offers-of .ensures) (f .flag-word .ensures .0) (c .before .entry-tests .ensures .0) (c .if1 .left))
 
 pub item-spec : {M : Type 1} → statement M
 item-spec =
@@ -38,7 +38,7 @@ item-spec =
     byte-requires
     flag-word-requires
     offers-of-requires
-    refusal-requires
+    entry-tests-requires
     returns
     cast-t6
     returns-2)

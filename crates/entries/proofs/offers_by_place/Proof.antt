@@ -3,7 +3,7 @@ use Prim.Native.Nat.{ℕ, _≤_, _<_, _-_, _+_}
 use native.Mathlib.Omega.{arith}
 use lib.ListN.{length, getD, getD-replicate}
 use Rattle.wire.specs.Endpoints.{firstAddress, places, endpointLimit}
-use Rattle.face.specs.Limits.{endpoints, addressAt, offersAt, offersFrom, offersOf}
+use Rattle.face.specs.Limits.{endpointsOf, addressAt, offersAt, offersFrom, offersOf}
 use Rattle.entries.specs.Entries.{putFace}
 use Rattle.entries.proofs.Laws.Held.{table-next, length-put}
 use borrow.Author.Tests.{not-true, not-false}
@@ -63,7 +63,7 @@ returns-2 c =
     let b = c .before in
     let a = b .before .before .before .args in
     let e : b .loop .i ≡ 0 = omega arith in
-    let n : b .before .endpoints-of .result - b .loop .i ≡ endpoints (a .t1) = omega (arith, b .before .endpoints-of .ensures .0) in
+    let n : b .before .endpoints-of .result - b .loop .i ≡ endpointsOf (a .t1) = omega (arith, b .before .endpoints-of .ensures .0) in
     λ k h. rw (not-false (a .present) (b .before .before .if1 .left)) (b .loop .inv .3 k h ∙ ap₂ (offersFrom (a .t1) (firstAddress + k)) n e)
 
 pub offers-by-place-spec : {M : Type 1} → statement M

@@ -51,14 +51,14 @@ add-flag-word c = search needs
 flag-word-requires : tie.Need-flag-word-requires Inv-loop μ-loop
 flag-word-requires c κs = search needs
 
-element-copy-out-refusal : tie.Need-element-copy-out-refusal Inv-loop μ-loop
-element-copy-out-refusal c = search needs
+element-copy-out-entry-tests : tie.Need-element-copy-out-entry-tests Inv-loop μ-loop
+element-copy-out-entry-tests c = search needs
 
-array-read-refusal : tie.Need-array-read-refusal Inv-loop μ-loop
-array-read-refusal c = search needs
+array-read-entry-tests : tie.Need-array-read-entry-tests Inv-loop μ-loop
+array-read-entry-tests c = search needs
 
-refusal-requires : tie.Need-refusal-requires Inv-loop μ-loop
-refusal-requires c κs = search needs
+entry-tests-requires : tie.Need-entry-tests-requires Inv-loop μ-loop
+entry-tests-requires c κs = search needs
 
 returns-2 : tie.Need-returns-2 Inv-loop μ-loop
 returns-2 c =
@@ -68,7 +68,7 @@ returns-2 c =
     let b = p .before .before .before in
     let w = b .loop .inv .3 in
     taken-refused _ _ _ _ _ _ _ (b .before .byte .ensures) w (p .before .before .loop-test .taken) _
-    (entry-listed _ _ _ _ _ _ w _ _ (p .before .byte2 .ensures) (p .place-of .ensures) (f .before .if1 .left) _ _ (f .flag-word .ensures .0) (r .refusal .ensures .0))
+    (entry-listed _ _ _ _ _ _ w _ _ (p .before .byte2 .ensures) (p .place-of .ensures) (f .before .if1 .left) _ _ (f .flag-word .ensures .0) (r .entry-tests .ensures .0))
     (c .if2 .taken)
 
 array-write-seen : tie.Need-array-write-seen Inv-loop μ-loop
@@ -80,7 +80,7 @@ slice-aggregate-lay c = search needs
 cast-lay : tie.Need-cast-lay Inv-loop μ-loop
 cast-lay c =
     let r = c .before .before in
-    record { fits = r .refusal .ensures .1 (c .before .if2 .left) (r .before .before .flag-word .ensures .1) }
+    record { fits = r .entry-tests .ensures .1 (c .before .if2 .left) (r .before .before .flag-word .ensures .1) }
 
 lay-requires : tie.Need-lay-requires Inv-loop μ-loop
 lay-requires c κs = search needs
@@ -101,7 +101,7 @@ loop-again c =
     let w = b .loop .inv .3 in
     let laid : y .lay .last .0 ≡ putFace (b .loop .next) (p .before .byte2 .result) (f .flag-word .result) = y .lay .ensures in
     let long = ap length laid ∙ length-put (b .loop .next) _ _ ∙ b .loop .inv .2 in
-    let on = walked-next _ _ _ _ _ _ w _ _ (p .before .byte2 .ensures) (p .place-of .ensures) (f .before .if1 .left) _ _ (f .flag-word .ensures .0) (r .refusal .ensures .0) (b .loop .inv .1) (y .before .before .if2 .left) in
+    let on = walked-next _ _ _ _ _ _ w _ _ (p .before .byte2 .ensures) (p .place-of .ensures) (f .before .if1 .left) _ _ (f .flag-word .ensures .0) (r .entry-tests .ensures .0) (b .loop .inv .1) (y .before .before .if2 .left) in
     (omega arith, simp length-set (b .loop .inv .1), long, rw laid on)
 
 returns-3 : tie.Need-returns-3 Inv-loop μ-loop
@@ -126,9 +126,9 @@ take-spec =
     returns
     add-flag-word
     flag-word-requires
-    element-copy-out-refusal
-    array-read-refusal
-    refusal-requires
+    element-copy-out-entry-tests
+    array-read-entry-tests
+    entry-tests-requires
     returns-2
     array-write-seen
     slice-aggregate-lay

@@ -11,7 +11,7 @@ use mir.Syntax.{Width, w32}
 use mir.Val.{SFits, toZ, ofZ, hbits}
 use mir.Facts.{toZ-pos, toZ-ofZ, ofZ-toZ, sfits-toZ, fits-ofZ}
 use borrow.Author.Tests.{lt-ltb, le-ltb, leb-true}
-use Rattle.exposure.specs.Ev.{signed32, bits32}
+use Rattle.exposure.specs.Exposure.{signed32, bits32}
 
 -- the machine's reading of 32 bits, and its bits of a number
 pub signed-is : (n : ℕ) → n < 2 ^ 32 → signed32 n ≡ toZ w32 n

@@ -8,16 +8,16 @@ use native.Mathlib.Omega.{arith}
 use lib.Dec.{eqb, lit≤}
 use lib.ListN.{length, length-append}
 use Rattle.wire.specs.Endpoints.{endpointLimit}
-use Rattle.wire.specs.Number.{bytesOf}
-use Rattle.wire.specs.Overlay.{overlay}
+use Rattle.wire.specs.Numbers.{bytesOf}
+use Rattle.wire.specs.Writes.{overlay}
 use Rattle.wire.specs.Uvc.{getCur, getDef, getLen, getMin, getRes}
 use Rattle.wire.proofs.Laws.Bytes.{bytes-byte}
-use Rattle.wire.proofs.Laws.Overlay.{append}
-use Rattle.request.specs.Answers.{answerBy, longest}
+use Rattle.wire.proofs.Laws.Writes.{append}
+use Rattle.request.specs.Answers.{answerBy, longestAnswer}
 use Rattle.request.proofs.Laws.Answers.{answer-len, answer-length}
 use Rattle.request.proofs.Laws.Packed.{blank}
 use Rattle.face.specs.declared.limits.FaceLimits.{FaceLimits}
-use Rattle.face.specs.Limits.{endpoints, addressAt}
+use Rattle.face.specs.Limits.{endpointsOf, addressAt}
 use Rattle.face.specs.Answers.{entryOf, heldAt, flagsAt, entriesOf, faceValue, faceAnswer}
 
 -- an entry whose flags are one byte
@@ -40,17 +40,17 @@ module _ (l : FaceLimits) (held : List ℕ) (code : ℕ) where
       let n : 1 + 8 * i ≡ length s = omega (arith, length-entries i) in
       rw (e, n, add-one i) (append blank s (entryOf (addressAt l i) (flagsAt l held code i)))
 
-  pub value-length : length (faceValue l held code) ≤ longest
+  pub value-length : length (faceValue l held code) ≤ longestAnswer
   unfolding faceValue
   value-length = go (eqb code getMin || eqb code getRes)
     where
-      go : (b : Bool) → length (cond b (0 ∷ []) (endpoints l ∷ entriesOf l held code (endpoints l))) ≤ longest
+      go : (b : Bool) → length (cond b (0 ∷ []) (endpointsOf l ∷ entriesOf l held code (endpointsOf l))) ≤ longestAnswer
       go true = lit≤ tt
-      go false = omega (arith, length-entries (endpoints l))
+      go false = omega (arith, length-entries (endpointsOf l))
 
-  pub answer-fits : length (faceAnswer l held code) ≤ longest
+  pub answer-fits : length (faceAnswer l held code) ≤ longestAnswer
   unfolding faceAnswer
-  answer-fits = answer-length code (1 + 8 * endpoints l) 0x03 (faceValue l held code) longest (lit≤ tt) value-length
+  answer-fits = answer-length code (1 + 8 * endpointsOf l) 0x03 (faceValue l held code) longestAnswer (lit≤ tt) value-length
 
 -- while no setting is held CUR is DEF
 module _ (l : FaceLimits) (held : List ℕ) (none : (address : ℕ) → heldAt held address ≡ 0) where
@@ -65,9 +65,9 @@ module _ (l : FaceLimits) (held : List ℕ) (none : (address : ℕ) → heldAt h
 
   pub fresh-answer : faceAnswer l held getCur ≡ faceAnswer l held getDef
   unfolding faceAnswer answerBy faceValue
-  fresh-answer = rw (fresh-entries (endpoints l))
+  fresh-answer = rw (fresh-entries (endpointsOf l))
 
 -- LEN's answer is the length of the longest SET
-pub len-answer : (l : FaceLimits) (held : List ℕ) → faceAnswer l held getLen ≡ bytesOf 2 (1 + 8 * endpoints l)
+pub len-answer : (l : FaceLimits) (held : List ℕ) → faceAnswer l held getLen ≡ bytesOf 2 (1 + 8 * endpointsOf l)
 unfolding faceAnswer
-len-answer l held = answer-len getLen (1 + 8 * endpoints l) 0x03 (faceValue l held getLen) refl
+len-answer l held = answer-len getLen (1 + 8 * endpointsOf l) 0x03 (faceValue l held getLen) refl

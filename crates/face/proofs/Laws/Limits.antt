@@ -8,7 +8,7 @@ use lib.Dec.{ltb, eqb}
 use borrow.Author.Tests.{eq-eqb, ne-eqb, eqb-true, eqb-false, lt-ltb, le-ltb, ltb-true, leb-true}
 use Rattle.wire.specs.Endpoints.{firstAddress, lastAddress, endpointLimit}
 use Rattle.face.specs.declared.limits.FaceLimits.{FaceLimits}
-use Rattle.face.specs.Limits.{endpoints, addressAt, offersAt, allBelow, offersValid, addressBefore, endpointValid, faceValid, offersFrom, offersOf, placeFrom, placeOf}
+use Rattle.face.specs.Limits.{endpointsOf, addressAt, offersAt, allBelow, offersValid, addressBefore, endpointValid, faceValid, offersFrom, offersOf, placeFrom, placeOf}
 
 -- a place behind the first comes after the one before it
 pub before-next : (l : FaceLimits) (i : ℕ) → (i ≡ 0 → ⊥) → addressAt l (i - 1) ≡ addressBefore l i
@@ -92,7 +92,7 @@ module _ (l : FaceLimits) (valid : faceValid l ≡ true) where
 
   pub listed : (address : ℕ) → (offersOf l address ≡ 0 → ⊥) → Listed address (offersOf l address)
   unfolding offersOf
-  listed address p = found address (endpoints l) 0 (omega (arith, count-most)) p
+  listed address p = found address (endpointsOf l) 0 (omega (arith, count-most)) p
 
 -- looking an address up: at its place, and past another's
 module _ (l : FaceLimits) (address n i : ℕ) (h : i < n) where
@@ -135,7 +135,7 @@ module _ (l : FaceLimits) (address : ℕ) where
 
   offers-place : offersOf l address ≡ at-place (placeOf l address)
   unfolding offersOf placeOf
-  offers-place = offers-from (endpoints l) 0 (omega arith)
+  offers-place = offers-from (endpointsOf l) 0 (omega arith)
 
   -- p is the place that the code found
   module _ (p : ℕ) (e : p ≡ placeOf l address) where
@@ -148,4 +148,4 @@ module _ (l : FaceLimits) (address : ℕ) where
 
       pub address-placed : addressAt l p ≡ address
       unfolding placeOf
-      address-placed = rw e (address-from (endpoints l) 0 (rw (← e) h))
+      address-placed = rw e (address-from (endpointsOf l) 0 (rw (← e) h))

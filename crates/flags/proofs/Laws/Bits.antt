@@ -11,7 +11,7 @@ use lib.ListN.{length}
 use lib.Count.{ones, ones-step, ones-ones, trailingZeros, under}
 use borrow.Author.Tests.{ltb-true, ltb-false, eqb-true, eqb-false, eq-eqb, ne-eqb}
 use Rattle.flags.specs.declared.Choice.the-variants.{At, Refused}
-use Rattle.flags.specs.Flags.{isSet, bitsOf, count, first, choiceOf}
+use Rattle.flags.specs.Flags.{isSet, bitsOf, count, first, oneFlag}
 
 -- the number that bits stand for, D0 first
 digit : Bool → ℕ
@@ -89,7 +89,7 @@ more-bits (suc k) r q =
 low-bits : (k n : ℕ) → bitsOf k (n % 2 ^ k) ≡ bitsOf k n
 low-bits k n = sym (more-bits k (n % 2 ^ k) (n / 2 ^ k)) ∙ ap (bitsOf k) (mod-add-div n (2 ^ k))
 
--- `choiceOf`, by what the machine counts in the 56 lowest bits of a word
+-- `oneFlag`, by what the machine counts in the 56 lowest bits of a word
 module _ (offered word : ℕ) where
   abbrev n : ℕ
   n = word % 2 ^ 56
@@ -105,12 +105,12 @@ module _ (offered word : ℕ) where
       let q : 0 < count (bitsOf 56 n) = omega (arith, ones-bits, ap count (low-bits 56 word)) in
       ap (trailingZeros 64) (sym (value-bits 56 n small)) ∙ zeros-value 64 (bitsOf 56 n) q (omega (arith, length-bits 56 n)) ∙ ap first (low-bits 56 word)
 
-  pub not-one : (ones n ≡ 1 → ⊥) → choiceOf offered word ≡ Refused
-  unfolding choiceOf
+  pub not-one : (ones n ≡ 1 → ⊥) → oneFlag offered word ≡ Refused
+  unfolding oneFlag
   not-one p = rw (ne-eqb (count (bitsOf 56 word)) 1 (λ q. p (ones-bits ∙ q)))
 
-  pub one : ones n ≡ 1 → choiceOf offered word ≡ cond (isSet offered (trailingZeros 64 n)) (At (trailingZeros 64 n)) Refused
-  unfolding choiceOf
+  pub one : ones n ≡ 1 → oneFlag offered word ≡ cond (isSet offered (trailingZeros 64 n)) (At (trailingZeros 64 n)) Refused
+  unfolding oneFlag
   one p = rw (eq-eqb (count (bitsOf 56 word)) 1 (sym ones-bits ∙ p), zeros-bits p)
 
 -- bits of which one is set stand for the power of its place
@@ -135,7 +135,7 @@ set-below w n k h e = go (ltb k w) refl
     go false f = let clear = high-clear w n k h (ltb-false k w f) in let z : _≡_ {A = ℕ} 0 1 = cc in absurd (omega arith)
 
 -- a word that chooses is the power of the place it chooses, and that is within the width of what is offered
-module _ (w offered word p : ℕ) (h : offered < 2 ^ w) (g : word < 2 ^ 56) (e : choiceOf offered word ≡ At p) where
+module _ (w offered word p : ℕ) (h : offered < 2 ^ w) (g : word < 2 ^ 56) (e : oneFlag offered word ≡ At p) where
   abbrev bits : List Bool
   bits = bitsOf 56 word
 
@@ -147,7 +147,7 @@ module _ (w offered word p : ℕ) (h : offered < 2 ^ w) (g : word < 2 ^ 56) (e :
   tested false b m n f = let z : _≡_ {A = ℕ} 0 1 = cc in absurd (omega arith)
 
   pub chosen-is : (word ≡ 2 ^ p) × (p < w)
-  unfolding choiceOf
+  unfolding oneFlag
   chosen-is = tested (eqb (count bits) 1) (isSet offered (first bits)) refl refl e
 
   pub chosen-below : word < 2 ^ w

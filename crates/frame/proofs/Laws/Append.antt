@@ -8,9 +8,9 @@ use lib.ListN.{length, take, drop, length-append, length-take}
 use lib.Seq.{take-at, drop-drop, drop-at}
 use lib.Dec.{eqb}
 use borrow.Author.Tests.{lt-ltb, le-ltb, ltb-false, eq-eqb, ne-eqb, eqb-true, not-false}
-use Rattle.wire.specs.Number.{bytesOf}
-use Rattle.wire.specs.Overlay.{overlay}
-use Rattle.wire.proofs.Laws.Overlay.{fits, same-length}
+use Rattle.wire.specs.Numbers.{bytesOf}
+use Rattle.wire.specs.Writes.{overlay}
+use Rattle.wire.proofs.Laws.Writes.{fits, same-length}
 use Rattle.frame.specs.declared.writer.Appended.{Appended}
 use Rattle.frame.specs.Ids.{isKnown}
 use Rattle.frame.specs.Writer.{itemBytes, endOf, appendRefusal, appendedOf, writtenOf}

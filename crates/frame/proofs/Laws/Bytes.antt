@@ -5,7 +5,7 @@ use mathlib.Core.List.{List, _++_}
 use native.Mathlib.Omega.{arith}
 use lib.ListN.{length, drop, length-drop}
 use lib.Seq.{take-at, drop-at, take-append-le, drop-append-le}
-use Rattle.wire.specs.Number.{leAt, bytesOf}
+use Rattle.wire.specs.Numbers.{leAt, bytesOf}
 use Rattle.wire.proofs.Laws.Bytes.{length-bytes, number-bytes}
 
 -- a number at the front of bytes

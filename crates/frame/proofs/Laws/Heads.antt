@@ -10,66 +10,66 @@ use borrow.Author.Tests.{lt-ltb, le-ltb, ltb-false, eqb-true, eqb-false, not-fal
 use Rattle.frame.specs.declared.items.Head.{Head}
 use Rattle.frame.specs.declared.items.Head.the-variants.{Bad, Whole}
 use Rattle.frame.specs.Ids.{isKnown}
-use Rattle.frame.specs.Items.{idOf, sizeOf, refusal, headOf}
+use Rattle.frame.specs.Items.{itemId, itemSize, itemRefusal, firstItem}
 use Rattle.wire.specs.Rows.{_⇒_}
 use Rattle.frame.specs.Codes.{truncated, unknownId, shortSize}
 use Rattle.wire.proofs.Laws.Rows.{quiet}
 
 module _ (s : List ℕ) where
-  pub head-short : length s < 8 → Bad truncated ≡ headOf s
-  unfolding headOf refusal
+  pub head-short : length s < 8 → Bad truncated ≡ firstItem s
+  unfolding firstItem itemRefusal
   head-short a = simp (lt-ltb _ _ a)
 
   -- what was read of an item whose header is there
-  module _ (id : ℕ) (known : Bool) (a : 8 ≤ length s) (i : id ≡ idOf s) (k : known ≡ isKnown id) where
-    is : (b : Bool) → known ≡ b → isKnown (idOf s) ≡ b
+  module _ (id : ℕ) (known : Bool) (a : 8 ≤ length s) (i : id ≡ itemId s) (k : known ≡ isKnown id) where
+    is : (b : Bool) → known ≡ b → isKnown (itemId s) ≡ b
     is b e = cc
 
-    pub head-unknown : known ≡ false → Bad unknownId ≡ headOf s
-    unfolding headOf refusal
+    pub head-unknown : known ≡ false → Bad unknownId ≡ firstItem s
+    unfolding firstItem itemRefusal
     head-unknown b = simp (le-ltb _ _ a, is false b)
 
-    pub head-small : known ≡ true → sizeOf s < 8 → Bad shortSize ≡ headOf s
-    unfolding headOf refusal
+    pub head-small : known ≡ true → itemSize s < 8 → Bad shortSize ≡ firstItem s
+    unfolding firstItem itemRefusal
     head-small b c = simp (le-ltb _ _ a, is true b, lt-ltb _ _ c)
 
-    pub head-past : known ≡ true → 8 ≤ sizeOf s → length s < sizeOf s → Bad truncated ≡ headOf s
-    unfolding headOf refusal
+    pub head-past : known ≡ true → 8 ≤ itemSize s → length s < itemSize s → Bad truncated ≡ firstItem s
+    unfolding firstItem itemRefusal
     head-past b c d = simp (le-ltb _ _ a, is true b, le-ltb _ _ c, lt-ltb _ _ d)
 
-    pub head-whole : (size : ℕ) → size ≡ sizeOf s → known ≡ true → 8 ≤ size → size ≤ length s → Whole id size ≡ headOf s
-    unfolding headOf refusal
-    head-whole size e b c d = simp (i, e, le-ltb _ _ a, is true b, le-ltb (sizeOf s) 8 (omega arith), le-ltb (length s) (sizeOf s) (omega arith))
+    pub head-whole : (size : ℕ) → size ≡ itemSize s → known ≡ true → 8 ≤ size → size ≤ length s → Whole id size ≡ firstItem s
+    unfolding firstItem itemRefusal
+    head-whole size e b c d = simp (i, e, le-ltb _ _ a, is true b, le-ltb (itemSize s) 8 (omega arith), le-ltb (length s) (itemSize s) (omega arith))
 
 -- none of the tests of the item that s begins with held
 pub record Sound (s : List ℕ) (id size : ℕ) : Type 0 where
   pub known : isKnown id ≡ true
   pub long : 8 ≤ size
   pub inside : size ≤ length s
-  pub its-id : id ≡ idOf s
-  pub its-size : size ≡ sizeOf s
+  pub its-id : id ≡ itemId s
+  pub its-size : size ≡ itemSize s
 
 -- what a head says of the bytes that it was read from
 abbrev pub Says : List ℕ → Head → Type 0
 Says s (Bad code) = code ≡ 0 → ⊥
 Says s (Whole id size) = Sound s id size
 
-tests : (s : List ℕ) → refusal s ≡ 0 → Sound s (idOf s) (sizeOf s)
-unfolding refusal
+tests : (s : List ℕ) → itemRefusal s ≡ 0 → Sound s (itemId s) (itemSize s)
+unfolding itemRefusal
 tests s e =
     let q = quiet ((ltb (length s) 8 ⇒ truncated) ∷ (_ ⇒ unknownId) ∷ (_ ⇒ shortSize) ∷ (_ ⇒ truncated) ∷ []) [] refl e .0 in
     record { known = not-false _ (q .1 .0); long = ltb-false _ _ (q .1 .1 .0); inside = ltb-false _ _ (q .1 .1 .1 .0); its-id = refl; its-size = refl }
 
-pub says : (s : List ℕ) → Says s (headOf s)
-unfolding headOf
-says s = go (eqb (refusal s) 0) refl
+pub says : (s : List ℕ) → Says s (firstItem s)
+unfolding firstItem
+says s = go (eqb (itemRefusal s) 0) refl
   where
-    go : (b : Bool) → eqb (refusal s) 0 ≡ b → Says s (cond b (Whole (idOf s) (sizeOf s)) (Bad (refusal s)))
+    go : (b : Bool) → eqb (itemRefusal s) 0 ≡ b → Says s (cond b (Whole (itemId s) (itemSize s)) (Bad (itemRefusal s)))
     go true e = tests s (eqb-true _ _ e)
     go false e = eqb-false _ _ e
 
-pub sound-head : (s : List ℕ) (id size : ℕ) → headOf s ≡ Whole id size → Sound s id size
+pub sound-head : (s : List ℕ) (id size : ℕ) → firstItem s ≡ Whole id size → Sound s id size
 sound-head s id size e = rw e at (says s)
 
-pub head-of : (s : List ℕ) (id size : ℕ) → Sound s id size → headOf s ≡ Whole id size
+pub head-of : (s : List ℕ) (id size : ℕ) → Sound s id size → firstItem s ≡ Whole id size
 head-of s id size h = sym (head-whole s id true (omega arith) (h .its-id) (sym (h .known)) size (h .its-size) refl (h .long) (h .inside))

@@ -7,10 +7,10 @@ use native.Mathlib.Omega.{arith}
 use lib.ListN.{length, take, drop, length-append, length-take, length-drop, take-append-drop}
 use lib.Seq.{take-at, drop-at, take-add}
 use Rattle.frame.specs.Codes.{longestBlock}
-use Rattle.wire.specs.Number.{bytesOf}
+use Rattle.wire.specs.Numbers.{bytesOf}
 use Rattle.wire.proofs.Laws.Numbers.{Bytes, bytes-drop, below}
 use Rattle.frame.specs.Ids.{isKnown}
-use Rattle.frame.specs.Items.{Item, Finding, sound, _before_, itemsFrom}
+use Rattle.frame.specs.Items.{MetadataItem, BlockReading, sound, _before_, itemsFrom}
 use Rattle.frame.specs.Writer.{itemBytes, layout, Writable}
 use Rattle.frame.proofs.Laws.Heads.{Sound}
 use Rattle.frame.proofs.Laws.Fuel.{nothing-left}
@@ -46,12 +46,12 @@ module _ (id : ℕ) (payload t : List ℕ) (known : isKnown id ≡ true) (small 
       front (itemBytes id payload ++ t) id (8 + length payload) written
       ∙ ap₂ (λ (p r : List ℕ). record { id = id; payload = p } before itemsFrom r) (body id payload t) (drop-at (itemBytes id payload) t _ (length-item id payload))
 
-pub reads-all : (is : List Item) → Writable is → length (layout is) ≤ longestBlock → itemsFrom (layout is) ≡ sound is
+pub reads-all : (is : List MetadataItem) → Writable is → length (layout is) ≤ longestBlock → itemsFrom (layout is) ≡ sound is
 unfolding layout
 reads-all [] g h = nothing-left [] (omega arith)
 reads-all (i ∷ is) g h =
     let n : 8 + length (i .payload) + length (layout is) ≤ longestBlock = rw (length-append, length-item) at h in
-    reads (i .id) (i .payload) (layout is) (g .0) (g .1) (omega arith) ∙ ap (λ (f : Finding). i before f) (reads-all is (g .2) (omega arith))
+    reads (i .id) (i .payload) (layout is) (g .0) (g .1) (omega arith) ∙ ap (λ (f : BlockReading). i before f) (reads-all is (g .2) (omega arith))
 
 -- a sound item written again is the bytes it was read from
 again : (s : List ℕ) (id size : ℕ) → Sound s id size → Bytes s → itemBytes id (take (size - 8) (drop 8 s)) ≡ take size s
@@ -65,11 +65,11 @@ again s id size h b =
     let m : 8 + (size - 8) ≡ size = omega arith in
     rw (first, second) (ap (λ (t : List ℕ). t ++ take (size - 8) (drop 8 s)) (sym (take-add 4 4 s)) ∙ sym (take-add 8 (size - 8) s) ∙ ap (λ (n : ℕ). take n s) m)
 
-pub written-again : (s : List ℕ) (is : List Item) → itemsFrom s ≡ sound is → Bytes s → (s ≡ layout is) × Writable is
+pub written-again : (s : List ℕ) (is : List MetadataItem) → itemsFrom s ≡ sound is → Bytes s → (s ≡ layout is) × Writable is
 unfolding layout
-written-again = every (λ (s : List ℕ) (is : List Item). Bytes s → (s ≡ layout is) × Writable is) (λ b. (refl, tt)) more
+written-again = every (λ (s : List ℕ) (is : List MetadataItem). Bytes s → (s ≡ layout is) × Writable is) (λ b. (refl, tt)) more
   where
-    more : (s : List ℕ) (is : List Item) (p : Split s is) → (Bytes (drop (p .size) s) → (drop (p .size) s ≡ layout (p .rest)) × Writable (p .rest)) → Bytes s
+    more : (s : List ℕ) (is : List MetadataItem) (p : Split s is) → (Bytes (drop (p .size) s) → (drop (p .size) s ≡ layout (p .rest)) × Writable (p .rest)) → Bytes s
         → (s ≡ layout is) × Writable is
     more s is p ih b =
         let r = ih (bytes-drop s (p .size) b) in

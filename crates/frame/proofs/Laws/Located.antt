@@ -7,26 +7,26 @@ use lib.ListN.{length, take, drop, getD, length-take, length-drop}
 use lib.Seq.{drop-drop}
 use Rattle.frame.specs.Codes.{noItem}
 use Rattle.wire.specs.Parts.{bytesAt}
-use Rattle.frame.specs.Items.{Item, sound, itemsFrom, itemIn, absent}
-use Rattle.frame.specs.Answers.{refusedWith, itemAt}
+use Rattle.frame.specs.Items.{MetadataItem, sound, itemsFrom, itemIn, absent}
+use Rattle.frame.specs.Items.{refusedItem, nthItem}
 use Rattle.frame.proofs.Laws.Heads.{Sound}
 use Rattle.frame.proofs.Laws.Join.{Split, every}
 
-pub record Located (s : List ℕ) (at k : ℕ) (is : List Item) : Type 0 where
-  pub inside : itemAt at k is .payload .at + itemAt at k is .payload .len ≤ length s
-  pub bytes : bytesAt s (itemAt at k is .payload) ≡ getD is k absent .payload
-  pub its-id : itemAt at k is .id ≡ getD is k absent .id
+pub record Located (s : List ℕ) (at k : ℕ) (is : List MetadataItem) : Type 0 where
+  pub inside : nthItem at k is .payload .at + nthItem at k is .payload .len ≤ length s
+  pub bytes : bytesAt s (nthItem at k is .payload) ≡ getD is k absent .payload
+  pub its-id : nthItem at k is .id ≡ getD is k absent .id
 
 -- the items of the rest of s from `at` on
-abbrev Lie : List ℕ → List Item → Type 0
+abbrev Lie : List ℕ → List MetadataItem → Type 0
 Lie t is = (s : List ℕ) (at : ℕ) → t ≡ drop at s → at ≤ length s → (k : ℕ) → Located s at k is
 
 nil : Lie [] []
-unfolding itemAt
+unfolding nthItem
 nil s at e l k = record { inside = omega arith; bytes = refl; its-id = refl }
 
 -- the first item, and those behind it
-module _ (t : List ℕ) (id size : ℕ) (js : List Item) (h : Sound t id size) (s : List ℕ) (at : ℕ) (e : t ≡ drop at s) where
+module _ (t : List ℕ) (id size : ℕ) (js : List MetadataItem) (h : Sound t id size) (s : List ℕ) (at : ℕ) (e : t ≡ drop at s) where
   sizes : (length (take (size - 8) (drop 8 t)) ≡ size - 8) × (8 ≤ size) × (size ≤ length s - at)
   sizes =
       let long : 8 ≤ size = h .long in
@@ -35,21 +35,21 @@ module _ (t : List ℕ) (id size : ℕ) (js : List Item) (h : Sound t id size) (
       (simp (length-take, length-drop) (omega arith), long, omega arith)
 
   first : Located s at 0 (itemIn t id size ∷ js)
-  unfolding itemAt
+  unfolding nthItem
   first =
       let z = sizes in
       let body : drop (at + 8) s ≡ drop 8 t = sym (drop-drop 8 at s) ∙ ap (drop 8) (sym e) in
       record { inside = omega arith; bytes = ap₂ take (z .0) body; its-id = refl }
 
   later : (k : ℕ) → Located s (at + size) k js → Located s at (suc k) (itemIn t id size ∷ js)
-  unfolding itemAt
+  unfolding nthItem
   later k l =
       let z = sizes in
       let end : at + (8 + length (take (size - 8) (drop 8 t))) ≡ at + size = omega arith in
       let l′ : Located s (at + (8 + length (take (size - 8) (drop 8 t)))) k js = rw end l in
       record { inside = l′ .inside; bytes = l′ .bytes; its-id = l′ .its-id }
 
-more : (t : List ℕ) (is : List Item) (p : Split t is) → Lie (drop (p .size) t) (p .rest) → Lie t is
+more : (t : List ℕ) (is : List MetadataItem) (p : Split t is) → Lie (drop (p .size) t) (p .rest) → Lie t is
 more t is p ih s at e l k = rw (p .whole) (go k)
   where
     behind : drop (p .size) t ≡ drop (at + p .size) s
@@ -59,18 +59,18 @@ more t is p ih s at e l k = rw (p .whole) (go k)
     go zero = first t (p .id) (p .size) (p .rest) (p .head) s at e
     go (suc k) = later t (p .id) (p .size) (p .rest) (p .head) s at e k (ih s (at + p .size) behind (omega (arith, sizes t (p .id) (p .size) (p .rest) (p .head) s at e)) k)
 
-pub located : (s : List ℕ) (is : List Item) → itemsFrom s ≡ sound is → (k : ℕ) → Located s 0 k is
+pub located : (s : List ℕ) (is : List MetadataItem) → itemsFrom s ≡ sound is → (k : ℕ) → Located s 0 k is
 located s is e k = every Lie nil more s is e s 0 refl (omega arith) k
 
 -- which k have an item
-pub there : (at k : ℕ) (is : List Item) → k < length is → itemAt at k is .code ≡ 0
-unfolding itemAt
+pub there : (at k : ℕ) (is : List MetadataItem) → k < length is → nthItem at k is .code ≡ 0
+unfolding nthItem
 there at k [] h = absurd (omega arith)
 there at zero (i ∷ is) h = refl
 there at (suc k) (i ∷ is) h = there (at + (8 + length (i .payload))) k is (omega arith)
 
-pub not-there : (at k : ℕ) (is : List Item) → length is ≤ k → itemAt at k is ≡ refusedWith noItem
-unfolding itemAt
+pub not-there : (at k : ℕ) (is : List MetadataItem) → length is ≤ k → nthItem at k is ≡ refusedItem noItem
+unfolding nthItem
 not-there at k [] h = refl
 not-there at zero (i ∷ is) h = absurd (omega arith)
 not-there at (suc k) (i ∷ is) h = not-there (at + (8 + length (i .payload))) k is (omega arith)

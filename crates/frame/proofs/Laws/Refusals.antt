@@ -5,31 +5,31 @@ use mathlib.Core.List.{List, [], _∷_}
 use mathlib.Core.Bool.{Bool, true, false, cond}
 use lib.ListN.{length}
 use lib.Dec.{eqb}
-use Rattle.wire.specs.Overlay.{overlay}
+use Rattle.wire.specs.Writes.{overlay}
 use Rattle.frame.specs.declared.writer.Appended.{Appended}
-use Rattle.frame.specs.Items.{Item, Finding, refused, sound, itemsOf}
-use Rattle.frame.specs.Answers.{refusedWith, itemAt, foundIn, countIn, itemOf, countOf}
+use Rattle.frame.specs.Items.{MetadataItem, BlockReading, refused, sound, blockItems}
+use Rattle.frame.specs.Items.{refusedItem, nthItem, foundIn, countIn, blockItem, blockCount}
 use Rattle.frame.specs.Writer.{itemBytes, endOf, appendRefusal, appendedOf, writtenOf}
 
-no-item : (at k : ℕ) (is : List Item) → (itemAt at k is .code ≡ 0 → ⊥) → itemAt at k is ≡ refusedWith (itemAt at k is .code)
-unfolding itemAt
+no-item : (at k : ℕ) (is : List MetadataItem) → (nthItem at k is .code ≡ 0 → ⊥) → nthItem at k is ≡ refusedItem (nthItem at k is .code)
+unfolding nthItem
 no-item at k [] n = refl
 no-item at zero (i ∷ is) n = absurd (n refl)
 no-item at (suc k) (i ∷ is) n = no-item (at + (8 + length (i .payload))) k is n
 
-pub item-refused : (s : List ℕ) (k : ℕ) → (itemOf s k .code ≡ 0 → ⊥) → itemOf s k ≡ refusedWith (itemOf s k .code)
-unfolding itemOf
-item-refused s k = go (itemsOf s)
+pub item-refused : (s : List ℕ) (k : ℕ) → (blockItem s k .code ≡ 0 → ⊥) → blockItem s k ≡ refusedItem (blockItem s k .code)
+unfolding blockItem
+item-refused s k = go (blockItems s)
   where
-    go : (f : Finding) → (foundIn k f .code ≡ 0 → ⊥) → foundIn k f ≡ refusedWith (foundIn k f .code)
+    go : (f : BlockReading) → (foundIn k f .code ≡ 0 → ⊥) → foundIn k f ≡ refusedItem (foundIn k f .code)
     go (refused code) n = refl
     go (sound is) n = no-item 0 k is n
 
-pub count-refused : (s : List ℕ) → (countOf s .code ≡ 0 → ⊥) → countOf s .items ≡ 0
-unfolding countOf
-count-refused s = go (itemsOf s)
+pub count-refused : (s : List ℕ) → (blockCount s .code ≡ 0 → ⊥) → blockCount s .items ≡ 0
+unfolding blockCount
+count-refused s = go (blockItems s)
   where
-    go : (f : Finding) → (countIn f .code ≡ 0 → ⊥) → countIn f .items ≡ 0
+    go : (f : BlockReading) → (countIn f .code ≡ 0 → ⊥) → countIn f .items ≡ 0
     go (refused code) n = refl
     go (sound is) n = absurd (n refl)
 

@@ -1,24 +1,25 @@
 -- HDR: a payload reads back as its number, and what is accepted is a mode. Assumes nothing.
 use mathlib.Core.Path.{_≡_, refl}
 use mathlib.Core.List.{[], _∷_}
-use mathlib.Core.Bool.{Bool, not, _&&_}
+use mathlib.Core.Bool.{not, _&&_}
 use Prim.Native.Nat.{ℕ, _^_, _<_, _≤_}
 use lib.Dec.{eqb}
 use borrow.Author.Tests.{ltb-false}
-use Rattle.wire.specs.Number.{bytesOf}
+use Rattle.wire.specs.Numbers.{bytesOf}
 use Rattle.wire.specs.Rows.{_⇒_}
 use Rattle.wire.specs.Uvc.{invalidValue, outOfRange}
 use Rattle.wire.proofs.Laws.Rows.{quiet}
 use Rattle.wire.proofs.Laws.Bytes.{word-read}
 use Rattle.controls.specs.declared.Setting.the-variants as S
-use Rattle.controls.specs.Settings.{itemOf}
+use Rattle.controls.specs.Controls.{itemOf}
+use Rattle.hdr.specs.declared.HdrLimits.{HdrLimits}
 use Rattle.hdr.specs.Hdr.{hdrRefusal, hdrItem}
 
-module _ (auto : Bool) (n : ℕ) where
-  pub hdr-read : n < 2 ^ 32 → hdrItem auto (bytesOf 4 n) ≡ itemOf (hdrRefusal auto n) (S.Hdr n)
+module _ (l : HdrLimits) (n : ℕ) where
+  pub hdr-read : n < 2 ^ 32 → hdrItem l (bytesOf 4 n) ≡ itemOf (hdrRefusal l n) (S.Hdr n)
   unfolding hdrItem
   hdr-read h = rw (word-read n h)
 
-  pub hdr-within : hdrRefusal auto n ≡ 0 → n ≤ 2
+  pub hdr-within : hdrRefusal l n ≡ 0 → n ≤ 2
   unfolding hdrRefusal
-  hdr-within h = ltb-false 2 n (quiet ((_ ⇒ outOfRange) ∷ (eqb n 2 && not auto ⇒ invalidValue) ∷ []) [] refl h .0 .0)
+  hdr-within h = ltb-false 2 n (quiet ((_ ⇒ outOfRange) ∷ (eqb n 2 && not (l .auto) ⇒ invalidValue) ∷ []) [] refl h .0 .0)

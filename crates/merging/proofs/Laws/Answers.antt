@@ -9,7 +9,7 @@ use lib.Dec.{eqb}
 use borrow.Author.Tests.{le-leb, lt-leb, eqb-true}
 use Rattle.wire.specs.Uvc.{malformedSnapshot, noRoom}
 use Rattle.snapshot.specs.Form.{wellFormed}
-use Rattle.merging.specs.Merge.{merged, mergeCode, mergeLen, mergeOut, handed, Alike}
+use Rattle.merging.specs.Merging.{merged, mergeCode, mergeLen, mergeOut, handedMerge, Alike}
 
 -- the verdict, the length reported and the buffer afterwards
 abbrev pub Answer : List ℕ → List ℕ → List ℕ → ℕ → ℕ → List ℕ → Type 0
@@ -34,8 +34,8 @@ module _ (s t out : List ℕ) where
       unfolding mergeCode mergeLen mergeOut
       accepted h = simp (e, f, le-leb (length (merged s t)) (length out) h) (refl, (refl, refl))
 
-      pub handed-merged : length (merged s t) ≤ length out → handed s t out ≡ merged s t
-      unfolding handed
+      pub handed-merged : length (merged s t) ≤ length out → handedMerge s t out ≡ merged s t
+      unfolding handedMerge
       handed-merged h =
           let a = accepted h in
           rw (← (a .1 .0), ← (a .1 .1)) (take-at (merged s t) (drop (length (merged s t)) out) (length (merged s t)) refl)

@@ -6,11 +6,12 @@ use mathlib.Core.List.{List, []}
 use mathlib.Core.Option.{Option, none, some}
 use mathlib.Core.Bool.{true}
 use lib.ListN.{length}
-use Rattle.snapshot.specs.Form.{longest, wellFormed}
+use Rattle.snapshot.specs.Keys.{longestSnapshot}
+use Rattle.snapshot.specs.Form.{wellFormed}
 use Rattle.snapshot.specs.Records.{skip, from, recordAt, decode, encode, GoodAt, Good}
-use Rattle.snapshot.specs.Settings.{over, overs}
-use Rattle.snapshot.proofs.Laws.Settings.{over-assoc, over-none}
-use Rattle.merging.specs.Merge.{merged, Apart}
+use Rattle.snapshot.specs.Given.{over, overs}
+use Rattle.snapshot.proofs.Laws.Given.{over-assoc, over-none}
+use Rattle.merging.specs.Merging.{merged, Apart}
 use Rattle.snapshot.proofs.Laws.Sound.{stands-nil}
 use Rattle.snapshot.proofs.Laws.Maps.{decode-good, decode-encode}
 use Rattle.snapshot.proofs.Laws.Lengths.{encode-length}
@@ -35,7 +36,7 @@ pub merged-formed : (a b : List ℕ) → wellFormed (merged a b) ≡ true
 unfolding merged
 merged-formed a b = encode-formed _ (both-good a b)
 
-pub merged-length : (a b : List ℕ) → length (merged a b) ≤ longest
+pub merged-length : (a b : List ℕ) → length (merged a b) ≤ longestSnapshot
 unfolding merged
 merged-length a b = encode-length _ (both-good a b)
 

@@ -11,12 +11,13 @@ use lib.ListN.{length, take, drop, length-append, length-drop}
 use lib.Seq.{length-take-le}
 use lib.Dec.{leb}
 use borrow.Author.Tests.{leb-true, leb-false}
-use Rattle.wire.specs.Overlay.{overlay}
-use Rattle.wire.proofs.Laws.Overlay.{no-bytes, append, same-length}
-use Rattle.snapshot.specs.Form.{keys, sizeOf, longest, wellFormed}
-use Rattle.snapshot.specs.Records.{keyOf, decode, bytes, records, encode}
-use Rattle.snapshot.specs.Settings.{over, overs}
-use Rattle.merging.specs.Merge.{merged}
+use Rattle.wire.specs.Writes.{overlay}
+use Rattle.wire.proofs.Laws.Writes.{no-bytes, append, same-length}
+use Rattle.snapshot.specs.Keys.{keys, recordLength, longestSnapshot}
+use Rattle.snapshot.specs.Form.{wellFormed}
+use Rattle.snapshot.specs.Records.{keyAt, decode, recordBytes, records, encode}
+use Rattle.snapshot.specs.Given.{over, overs}
+use Rattle.merging.specs.Merging.{merged}
 use Rattle.snapshot.proofs.Laws.Maps.{records-split}
 use Rattle.merging.proofs.Laws.Merging.{merged-length}
 use Rattle.snapshot.proofs.Laws.Walk.{At, first-at, none-before, record-at, next-at, next-within, next-above, none-between}
@@ -30,13 +31,13 @@ module _ (s t : List ℕ) where
   unfolding merged encode
   front-all = refl
 
-  front-next : (k : ℕ) → front s t (suc k) ≡ front s t k ++ bytes (over (decode s k) (decode t k))
+  front-next : (k : ℕ) → front s t (suc k) ≡ front s t k ++ recordBytes (over (decode s k) (decode t k))
   unfolding records
   front-next k =
       ap (front s t) (sym (add-one k)) ∙ records-split (overs (decode s) (decode t)) k 1 0
-      ∙ ap (λ l. front s t k ++ l) (append-nil _ ∙ ap (λ i. bytes (over (decode s i) (decode t i))) (add-zero k))
+      ∙ ap (λ l. front s t k ++ l) (append-nil _ ∙ ap (λ i. recordBytes (over (decode s i) (decode t i))) (add-zero k))
 
-  front-short : (k : ℕ) → k ≤ keys → length (front s t k) ≤ longest
+  front-short : (k : ℕ) → k ≤ keys → length (front s t k) ≤ longestSnapshot
   front-short k h =
       let m = overs (decode s) (decode t) in
       let e : k + (keys - k) ≡ keys = omega arith in
@@ -52,7 +53,7 @@ module _ (s t : List ℕ) where
       go true e ih =
           let l = leb-true j k e in
           let o = n k l (omega arith) in
-          front-next k ∙ ap₂ (λ f o. f ++ bytes o) (ih l) (ap₂ over (o .0) (o .1)) ∙ append-nil _
+          front-next k ∙ ap₂ (λ f o. f ++ recordBytes o) (ih l) (ap₂ over (o .0) (o .1)) ∙ append-nil _
       go false e ih = let l = leb-false j k e in let q : suc k ≡ j = omega arith in ap (front s t) q
 
 -- what is written with both at a record: the merged records of the keys below theirs. The first has no other key between the second's and
@@ -65,11 +66,11 @@ pub record Written (s t old out : List ℕ) (a x b y n : ℕ) : Type 0 where
   pub long : n ≡ length (front s t (min x y))
   pub is : out ≡ overlay old 0 (front s t (min x y))
 
-pub unwritten : (s t old : List ℕ) {x y : ℕ} → wellFormed s ≡ true → wellFormed t ≡ true → x ≡ keyOf (drop 0 s) → y ≡ keyOf (drop 0 t)
+pub unwritten : (s t old : List ℕ) {x y : ℕ} → wellFormed s ≡ true → wellFormed t ≡ true → x ≡ keyAt (drop 0 s) → y ≡ keyAt (drop 0 t)
     → Written s t old old 0 x 0 y 0
 unfolding records
 unwritten s t old p q e f =
-    let g = front-same s t 0 (min (keyOf (drop 0 s)) (keyOf (drop 0 t))) (omega arith)
+    let g = front-same s t 0 (min (keyAt (drop 0 s)) (keyAt (drop 0 t))) (omega arith)
     (λ i l u. (none-before s p i (omega arith), none-before t q i (omega arith))) in
     rw (e, f)
     record {
@@ -83,7 +84,7 @@ unwritten s t old p q e f =
 
 module _ {s t old out : List ℕ} {a x b y n : ℕ} (w : Written s t old out a x b y n) where
   -- the record r of key k is laid behind those of the keys below k
-  put : (k j : ℕ) (r : List ℕ) → k ≡ min x y → bytes (over (decode s k) (decode t k)) ≡ r → front s t j ≡ front s t (suc k)
+  put : (k j : ℕ) (r : List ℕ) → k ≡ min x y → recordBytes (over (decode s k) (decode t k)) ≡ r → front s t j ≡ front s t (suc k)
       → (n + length r ≡ length (front s t j)) × (overlay out n r ≡ overlay old 0 (front s t j))
   put k j r e f g =
       let h : front s t j ≡ front s t (min x y) ++ r = g ∙ front-next s t k ∙ ap₂ (λ i u. front s t i ++ u) e f in (
@@ -100,11 +101,11 @@ module _ {s t old out : List ℕ} {a x b y n : ℕ} (w : Written s t old out a x
       let e = ap (front s t) q ∙ front-all s t in
       (w .long ∙ ap length e, w .is ∙ ap (overlay old 0) e)
 
-  pub write-short : n ≤ longest
+  pub write-short : n ≤ longestSnapshot
   write-short = omega (arith, w .long, w .first .few, front-short s t (min x y) (omega (arith, w .first .few)))
 
 -- a step goes on to a greater key
-pub step-above : {s : List ℕ} {a x p x′ : ℕ} → At s a x → x < keys → p ≡ sizeOf x → x′ ≡ keyOf (drop (a + p) s) → x < x′
+pub step-above : {s : List ℕ} {a x p x′ : ℕ} → At s a x → x < keys → p ≡ recordLength x → x′ ≡ keyAt (drop (a + p) s) → x < x′
 step-above w h e i = rw (i, e) (next-above w h)
 
 -- the first's record where its key is the lesser
@@ -112,16 +113,16 @@ module _ {s t old out : List ℕ} {a x b y n : ℕ} (w : Written s t old out a x
   first-key : x < keys
   first-key = omega (arith, w .second .few)
 
-  pub write-first : {p x′ : ℕ} {u out′ : List ℕ} → p ≡ sizeOf x → u ≡ take p (drop a s) → out′ ≡ overlay out n u → x′ ≡ keyOf (drop (a + p) s)
+  pub write-first : {p x′ : ℕ} {u out′ : List ℕ} → p ≡ recordLength x → u ≡ take p (drop a s) → out′ ≡ overlay out n u → x′ ≡ keyAt (drop (a + p) s)
       → Written s t old out′ (a + p) x′ b y (n + p)
   write-first e f g i =
-      let r = take (sizeOf x) (drop a s) in
-      let z : length r ≡ sizeOf x = length-take-le (sizeOf x) (drop a s) (omega (arith, next-within (w .first) first-key, length-drop a s)) in
-      let x₁ = keyOf (drop (a + sizeOf x) s) in
+      let r = take (recordLength x) (drop a s) in
+      let z : length r ≡ recordLength x = length-take-le (recordLength x) (drop a s) (omega (arith, next-within (w .first) first-key, length-drop a s)) in
+      let x₁ = keyAt (drop (a + recordLength x) s) in
       let up = next-above (w .first) first-key in
       let same = front-same s t (suc x) (min x₁ y) (omega arith)
       (λ i lo hi. (none-between (w .first) first-key i lo (omega arith), w .second-none i (omega arith) (omega arith))) in
-      let q = put w x (min x₁ y) r (omega arith) (ap₂ (λ c d. bytes (over c d)) (record-at (w .first) first-key) (w .second-none x (omega arith) h)) same in
+      let q = put w x (min x₁ y) r (omega arith) (ap₂ (λ c d. recordBytes (over c d)) (record-at (w .first) first-key) (w .second-none x (omega arith) h)) same in
       rw (g, i, f, e)
       record {
         first = next-at (w .first) first-key;
@@ -134,10 +135,10 @@ module _ {s t old out : List ℕ} {a x b y n : ℕ} (w : Written s t old out a x
 
 -- of equal keys the first's record is passed over
 pub pass-first : {s t old out : List ℕ} {a x b y n : ℕ} (w : Written s t old out a x b y n) → x ≡ y → x < keys
-    → {p x′ : ℕ} → p ≡ sizeOf x → x′ ≡ keyOf (drop (a + p) s) → Written s t old out (a + p) x′ b y n
+    → {p x′ : ℕ} → p ≡ recordLength x → x′ ≡ keyAt (drop (a + p) s) → Written s t old out (a + p) x′ b y n
 pass-first {s} {t} {old} {a = a} {x} {y = y} w q l e i =
     let up = next-above (w .first) l in
-    let m : min x y ≡ min (keyOf (drop (a + sizeOf x) s)) y = omega arith in
+    let m : min x y ≡ min (keyAt (drop (a + recordLength x) s)) y = omega arith in
     rw (i, e)
     record {
       first = next-at (w .first) l;
@@ -153,16 +154,16 @@ module _ {s t old out : List ℕ} {a x b y n : ℕ} (w : Written s t old out a x
   second-key : y < keys
   second-key = omega (arith, w .first .few)
 
-  pub write-second : {p y′ : ℕ} {u out′ : List ℕ} → p ≡ sizeOf y → u ≡ take p (drop b t) → out′ ≡ overlay out n u → y′ ≡ keyOf (drop (b + p) t)
+  pub write-second : {p y′ : ℕ} {u out′ : List ℕ} → p ≡ recordLength y → u ≡ take p (drop b t) → out′ ≡ overlay out n u → y′ ≡ keyAt (drop (b + p) t)
       → Written s t old out′ a x (b + p) y′ (n + p)
   write-second e f g i =
-      let r = take (sizeOf y) (drop b t) in
-      let z : length r ≡ sizeOf y = length-take-le (sizeOf y) (drop b t) (omega (arith, next-within (w .second) second-key, length-drop b t)) in
-      let y₁ = keyOf (drop (b + sizeOf y) t) in
+      let r = take (recordLength y) (drop b t) in
+      let z : length r ≡ recordLength y = length-take-le (recordLength y) (drop b t) (omega (arith, next-within (w .second) second-key, length-drop b t)) in
+      let y₁ = keyAt (drop (b + recordLength y) t) in
       let up = next-above (w .second) second-key in
       let same = front-same s t (suc y) (min x y₁) (omega arith)
       (λ i lo hi. (w .first-none i (omega arith) (omega arith), none-between (w .second) second-key i lo (omega arith))) in
-      let q = put w y (min x y₁) r (omega arith) (ap (λ d. bytes (over (decode s y) d)) (record-at (w .second) second-key)) same in
+      let q = put w y (min x y₁) r (omega arith) (ap (λ d. recordBytes (over (decode s y) d)) (record-at (w .second) second-key)) same in
       rw (g, i, f, e)
       record {
         first = w .first;

@@ -3,7 +3,7 @@ use native.Mathlib.Omega.{arith}
 use lib.ListN.{length}
 use borrow.Author.Needs.{needs}
 use borrow.Author.Tests.{le-leb}
-use Rattle.merging.specs.Merge.{merged}
+use Rattle.merging.specs.Merging.{merged}
 use Rattle.merging.proofs.Laws.Merging.{merged-length}
 use Rattle.merging.proofs.has_room.Statement.{statement}
 use Rattle.merging.proofs.has_room.Tie as tie

@@ -4,9 +4,9 @@ use mathlib.Core.Bool.{true}
 use lib.ListN.{length}
 use borrow.Author.Needs.{needs}
 use borrow.Author.Tests.{not-true, not-false, leb-true, leb-false}
-use Rattle.wire.proofs.Laws.Overlay.{fits-start}
+use Rattle.wire.proofs.Laws.Writes.{fits-start}
 use Rattle.snapshot.specs.Form.{wellFormed}
-use Rattle.merging.specs.Merge.{merged}
+use Rattle.merging.specs.Merging.{merged}
 use Rattle.merging.proofs.Laws.Answers.{first-malformed, second-malformed, short, accepted}
 use Rattle.merging.proofs.merge.Statement.{statement}
 use Rattle.merging.proofs.merge.Tie as tie

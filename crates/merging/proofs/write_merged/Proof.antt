@@ -3,7 +3,7 @@ use mathlib.Core.Path.{refl}
 use native.Mathlib.Omega.{arith}
 use lib.ListN.{length}
 use borrow.Author.Needs.{needs}
-use Rattle.snapshot.specs.Form.{keys, longest}
+use Rattle.snapshot.specs.Keys.{keys, longestSnapshot}
 use Rattle.snapshot.proofs.Laws.Walk.{next-within}
 use Rattle.merging.proofs.Laws.Writing.{Written, unwritten, write-first, pass-first, write-second, step-above, write-length, write-short, write-end}
 use Rattle.merging.proofs.write_merged.Statement.{statement}
@@ -24,20 +24,20 @@ key-at-requires-2 c κs = search needs
 loop-holds : tie.Need-loop-holds Inv-loop μ-loop
 loop-holds c = let a = c .before .before .before .before .before in unwritten _ _ _ (a .pre .0) (a .pre .1) (c .before .key-at .ensures) (c .key-at2 .ensures)
 
-least-requires : tie.Need-least-requires Inv-loop μ-loop
-least-requires c κs = search needs
+min-requires : tie.Need-min-requires Inv-loop μ-loop
+min-requires c κs = search needs
 
 -- the first's record, where its key is the lesser
-first-room : (d : tie.After-size-of Inv-loop μ-loop) →
+first-room : (d : tie.After-record-length Inv-loop μ-loop) →
     let l = d .before .before .before .before .loop in
-    (l .n + d .size-of .result ≤ longest) × (l .a + d .size-of .result ≤ length (d .before .before .before .before .before .before .before .before .before .before .args .first .now))
+    (l .n + d .record-length .result ≤ longestSnapshot) × (l .a + d .record-length .result ≤ length (d .before .before .before .before .before .before .before .before .before .before .args .first .now))
 first-room d =
     let w = d .before .before .before .before .loop .inv in
-    let v = write-first w (d .before .if2 .taken) (d .size-of .ensures) refl refl refl in
+    let v = write-first w (d .before .if2 .taken) (d .record-length .ensures) refl refl refl in
     (write-short v, v .first .within)
 
-size-of-requires : tie.Need-size-of-requires Inv-loop μ-loop
-size-of-requires c κs = search needs
+record-length-requires : tie.Need-record-length-requires Inv-loop μ-loop
+record-length-requires c κs = search needs
 
 part-at-requires : tie.Need-part-at-requires Inv-loop μ-loop
 part-at-requires c κs = search needs
@@ -59,25 +59,25 @@ loop-less c =
     let d = c .before .before .before .before .before .before in
     let w = d .before .before .before .before .loop .inv in
     let h = d .before .if2 .taken in
-    omega (arith, h, step-above (w .first) (omega (arith, h, w .second .few)) (d .size-of .ensures) (c .key-at3 .ensures))
+    omega (arith, h, step-above (w .first) (omega (arith, h, w .second .few)) (d .record-length .ensures) (c .key-at3 .ensures))
 
 loop-again : tie.Need-loop-again Inv-loop μ-loop
 loop-again c =
     let o = c .before .before .before in
     let d = o .before .before .before in
-    write-first (d .before .before .before .before .loop .inv) (d .before .if2 .taken) (d .size-of .ensures) (o .before .part-at .ensures .bytes) (o .copy .ensures) (c .key-at3 .ensures)
+    write-first (d .before .before .before .before .loop .inv) (d .before .if2 .taken) (d .record-length .ensures) (o .before .part-at .ensures .bytes) (o .copy .ensures) (c .key-at3 .ensures)
 
 -- of equal keys
 below : (d : tie.Then3 Inv-loop μ-loop) → d .before .before .before .before .loop .x < keys
-below d = let t = d .before .before in omega (arith, t .if1 .taken, t .before .least .ensures)
+below d = let t = d .before .before in omega (arith, t .if1 .taken, t .before .min .ensures)
 
-size-of-requires-2 : tie.Need-size-of-requires-2 Inv-loop μ-loop
-size-of-requires-2 c κs = search needs
+record-length-requires-2 : tie.Need-record-length-requires-2 Inv-loop μ-loop
+record-length-requires-2 c κs = search needs
 
 add-a-2 : tie.Need-add-a-2 Inv-loop μ-loop
 add-a-2 c =
     let l = c .before .before .before .before .before .loop in
-    omega (arith, c .size-of2 .ensures, next-within (l .inv .first) (below (c .before)))
+    omega (arith, c .record-length2 .ensures, next-within (l .inv .first) (below (c .before)))
 
 key-at-requires-4 : tie.Need-key-at-requires-4 Inv-loop μ-loop
 key-at-requires-4 c κs = search needs
@@ -87,27 +87,27 @@ loop-less-2 c =
     let d = c .before in
     let l = d .before .before .before .before .before .loop in
     let b = below (d .before) in
-    omega (arith, b, step-above (l .inv .first) b (d .size-of2 .ensures) (c .key-at4 .ensures))
+    omega (arith, b, step-above (l .inv .first) b (d .record-length2 .ensures) (c .key-at4 .ensures))
 
 loop-again-2 : tie.Need-loop-again-2 Inv-loop μ-loop
 loop-again-2 c =
     let d = c .before in
-    pass-first (d .before .before .before .before .before .loop .inv) (d .before .if3 .taken) (below (d .before)) (d .size-of2 .ensures) (c .key-at4 .ensures)
+    pass-first (d .before .before .before .before .before .loop .inv) (d .before .if3 .taken) (below (d .before)) (d .record-length2 .ensures) (c .key-at4 .ensures)
 
 -- the second's record, where its key is the lesser
 lesser : (d : tie.Else3 Inv-loop μ-loop) → let l = d .before .before .before .before .loop in l .y < l .x
 lesser d = omega (arith, d .if3 .left, d .before .if2 .left)
 
-second-room : (d : tie.After-size-of3 Inv-loop μ-loop) →
+second-room : (d : tie.After-record-length3 Inv-loop μ-loop) →
     let l = d .before .before .before .before .before .loop in
-    (l .n + d .size-of3 .result ≤ longest) × (l .b + d .size-of3 .result ≤ length (d .before .before .before .before .before .before .before .before .before .before .before .args .second .now))
+    (l .n + d .record-length3 .result ≤ longestSnapshot) × (l .b + d .record-length3 .result ≤ length (d .before .before .before .before .before .before .before .before .before .before .before .args .second .now))
 second-room d =
     let w = d .before .before .before .before .before .loop .inv in
-    let v = write-second w (lesser (d .before)) (d .size-of3 .ensures) refl refl refl in
+    let v = write-second w (lesser (d .before)) (d .record-length3 .ensures) refl refl refl in
     (write-short v, v .second .within)
 
-size-of-requires-3 : tie.Need-size-of-requires-3 Inv-loop μ-loop
-size-of-requires-3 c κs = search needs
+record-length-requires-3 : tie.Need-record-length-requires-3 Inv-loop μ-loop
+record-length-requires-3 c κs = search needs
 
 part-at-requires-2 : tie.Need-part-at-requires-2 Inv-loop μ-loop
 part-at-requires-2 c κs = search needs
@@ -129,19 +129,19 @@ loop-less-3 c =
     let d = c .before .before .before .before .before .before in
     let w = d .before .before .before .before .before .loop .inv in
     let h = lesser (d .before) in
-    omega (arith, h, w .first .few, step-above (w .second) (omega (arith, h, w .first .few)) (d .size-of3 .ensures) (c .key-at5 .ensures))
+    omega (arith, h, w .first .few, step-above (w .second) (omega (arith, h, w .first .few)) (d .record-length3 .ensures) (c .key-at5 .ensures))
 
 loop-again-3 : tie.Need-loop-again-3 Inv-loop μ-loop
 loop-again-3 c =
     let o = c .before .before .before in
     let d = o .before .before .before in
-    write-second (d .before .before .before .before .before .loop .inv) (lesser (d .before)) (d .size-of3 .ensures) (o .before .part-at2 .ensures .bytes) (o .copy2 .ensures) (c .key-at5 .ensures)
+    write-second (d .before .before .before .before .before .loop .inv) (lesser (d .before)) (d .record-length3 .ensures) (o .before .part-at2 .ensures .bytes) (o .copy2 .ensures) (c .key-at5 .ensures)
 
 same-length : tie.Need-same-length Inv-loop μ-loop
 same-length c = write-length (c .before .before .loop .inv)
 
 returns : tie.Need-returns Inv-loop μ-loop
-returns c = write-end (c .before .before .loop .inv) (omega (arith, c .if1 .left, c .before .least .ensures))
+returns c = write-end (c .before .before .loop .inv) (omega (arith, c .if1 .left, c .before .min .ensures))
 
 pub write-merged-spec : {M : Type 1} → statement M
 write-merged-spec =
@@ -152,8 +152,8 @@ write-merged-spec =
     key-at-requires
     key-at-requires-2
     loop-holds
-    least-requires
-    size-of-requires
+    min-requires
+    record-length-requires
     part-at-requires
     copy-requires
     add-n
@@ -161,12 +161,12 @@ write-merged-spec =
     key-at-requires-3
     loop-less
     loop-again
-    size-of-requires-2
+    record-length-requires-2
     add-a-2
     key-at-requires-4
     loop-less-2
     loop-again-2
-    size-of-requires-3
+    record-length-requires-3
     part-at-requires-2
     copy-requires-2
     add-n-2

@@ -5,13 +5,13 @@ use mathlib.Core.Bool.{not, _||_}
 use Prim.Native.Nat.{ℕ, _^_, _<_, _≤_}
 use lib.Dec.{eqb}
 use borrow.Author.Tests.{ltb-false}
-use Rattle.wire.specs.Number.{bytesOf}
+use Rattle.wire.specs.Numbers.{bytesOf}
 use Rattle.wire.specs.Rows.{_⇒_}
 use Rattle.wire.specs.Uvc.{invalidValue, outOfRange}
 use Rattle.wire.proofs.Laws.Rows.{quiet}
 use Rattle.wire.proofs.Laws.Bytes.{word-read}
 use Rattle.controls.specs.declared.Setting.the-variants as S
-use Rattle.controls.specs.Settings.{itemOf}
+use Rattle.controls.specs.Controls.{itemOf}
 use Rattle.metadata.specs.declared.MetadataLimits.{MetadataLimits}
 use Rattle.metadata.specs.Metadata.{metadataRefusal, metadataItem}
 

@@ -3,8 +3,8 @@ use Rattle.metadata.specs.Metadata.{metadataAnswer}
 use Rattle.metadata.proofs.answer.Statement.{statement}
 use Rattle.metadata.proofs.answer.Tie as tie
 
-at-requires : tie.Need-at-requires
-at-requires c κs = search needs
+attribute-requires : tie.Need-attribute-requires
+attribute-requires c κs = search needs
 
 bytes32-requires : tie.Need-bytes32-requires
 bytes32-requires c κs = search needs
@@ -20,13 +20,13 @@ answer-by-requires c κs = search needs
 
 returns : tie.Need-returns
 unfolding metadataAnswer
-returns c = rw (c .answer-by .ensures, c .before .before .info .ensures, c .before .before .before .bytes32 .ensures, c .before .before .before .before .at .ensures)
+returns c = rw (c .answer-by .ensures, c .before .before .info .ensures, c .before .before .before .bytes32 .ensures, c .before .before .before .before .attribute .ensures)
 
 pub answer-spec : {M : Type 1} → statement M
 answer-spec =
     tie.close
     (tie.spec
-    at-requires
+    attribute-requires
     bytes32-requires
     info-requires
     slice-aggregate-answer-by

@@ -4,7 +4,7 @@ use mathlib.Core.List.{[], _∷_}
 use mathlib.Core.Bool.{Bool, true, false, _&&_, and-true, and-eq-true-iff}
 use Rattle.wire.specs.Rows.{allOf}
 use Rattle.wire.specs.Selectors.{ev, face}
-use Rattle.exposure.specs.Ev.{evValid}
+use Rattle.exposure.specs.Exposure.{evValid}
 use Rattle.face.specs.Limits.{faceValid}
 use Rattle.profile.specs.declared.Profile.{Profile}
 use Rattle.profile.specs.Profile.{has, presenceValid, profileValid}

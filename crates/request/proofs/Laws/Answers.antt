@@ -7,7 +7,7 @@ use native.Mathlib.Omega.{arith}
 use lib.Dec.{eqb}
 use lib.ListN.{length}
 use borrow.Author.Tests.{eq-eqb, ne-eqb}
-use Rattle.wire.specs.Number.{bytesOf}
+use Rattle.wire.specs.Numbers.{bytesOf}
 use Rattle.wire.specs.Uvc.{getInfo, getLen}
 use Rattle.request.specs.Answers.{answerBy}
 

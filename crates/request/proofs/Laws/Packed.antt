@@ -5,8 +5,8 @@ use Prim.Native.Nat.{ℕ, min, _≤_}
 use native.Mathlib.Omega.{arith}
 use lib.ListN.{length, take, replicate}
 use lib.Seq.{length-take-le}
-use Rattle.wire.specs.Overlay.{overlay}
-use Rattle.wire.proofs.Laws.Overlay.{front, same-length}
+use Rattle.wire.specs.Writes.{overlay}
+use Rattle.wire.proofs.Laws.Writes.{front, same-length}
 use Rattle.request.specs.declared.answers.Answer.{Answer}
 use Rattle.request.specs.Answers.{packed}
 

@@ -9,7 +9,7 @@ use borrow.Author.Tests.{eq-eqb, ne-eqb, eqb-true, le-ltb, lt-ltb, leb-true, leb
 use Rattle.wire.specs.Rows.{Row, _⇒_, answers, firstOf}
 use Rattle.wire.specs.Uvc.{malformedRecord, noRoom}
 use Rattle.wire.proofs.Laws.Rows.{first-append}
-use Rattle.request.specs.Setup.{selectorOf, codeOf, wLengthOf, isSetRequest}
+use Rattle.request.specs.Setup.{setupSelector, setupCode, setupWLength, isSetRequest}
 use Rattle.request.specs.Table.{Table}
 use Rattle.request.specs.Tests.{requestTests, valueTests, asked, sentCount, requestRows, requestCode}
 use Rattle.request.specs.Reply.{sentOf, replyOf}
@@ -34,7 +34,7 @@ module _ (t : Table) (setup payload : List ℕ) where
   first = firstOf (requestTests t setup payload)
 
   abbrev state : ℕ
-  state = t .state (selectorOf setup) (codeOf setup)
+  state = t .state (setupSelector setup) (setupCode setup)
 
   module _ (room : ℕ) where
     abbrev last : Row
@@ -55,16 +55,16 @@ module _ (t : Table) (setup payload : List ℕ) where
       at-tests n = by-tests ∙ rw (ne-eqb first 0 n)
 
       module _ (z : first ≡ 0) where
-        by-state : requestCode t setup payload room ≡ cond (eqb state 0) (firstOf (answers (cond (isSetRequest setup) (t .values (selectorOf setup) payload) 0) ∷ last ∷ [])) state
+        by-state : requestCode t setup payload room ≡ cond (eqb state 0) (firstOf (answers (cond (isSetRequest setup) (t .values (setupSelector setup) payload) 0) ∷ last ∷ [])) state
         unfolding valueTests
-        by-state = by-tests ∙ rw (eq-eqb first 0 z) (own state (answers (cond (isSetRequest setup) (t .values (selectorOf setup) payload) 0) ∷ last ∷ []))
+        by-state = by-tests ∙ rw (eq-eqb first 0 z) (own state (answers (cond (isSetRequest setup) (t .values (setupSelector setup) payload) 0) ∷ last ∷ []))
 
         pub at-state : (state ≡ 0 → ⊥) → requestCode t setup payload room ≡ state
         at-state n = by-state ∙ rw (ne-eqb state 0 n)
 
         module _ (y : state ≡ 0) where
-          pub at-set : isSetRequest setup ≡ true → requestCode t setup payload room ≡ t .values (selectorOf setup) payload
-          at-set e = by-state ∙ rw (eq-eqb state 0 y, e) (own (t .values (selectorOf setup) payload) ((false ⇒ noRoom) ∷ []) ∙ zero-or (t .values (selectorOf setup) payload))
+          pub at-set : isSetRequest setup ≡ true → requestCode t setup payload room ≡ t .values (setupSelector setup) payload
+          at-set e = by-state ∙ rw (eq-eqb state 0 y, e) (own (t .values (setupSelector setup) payload) ((false ⇒ noRoom) ∷ []) ∙ zero-or (t .values (setupSelector setup) payload))
             where
               zero-or : (n : ℕ) → cond (eqb n 0) 0 n ≡ n
               zero-or n = go (eqb n 0) refl
@@ -86,9 +86,9 @@ module _ (t : Table) (setup payload : List ℕ) where
       go false written = refl
 
   pub get-sent : (reply : List ℕ) → isSetRequest setup ≡ false → requestCode t setup payload (length reply) ≡ cond (ltb (length reply) (sentCount t setup)) noRoom 0
-      → (replyOf (asked t setup) (wLengthOf setup) reply ≡ replied t setup payload reply)
+      → (replyOf (asked t setup) (setupWLength setup) reply ≡ replied t setup payload reply)
       × (cond (eqb (requestCode t setup payload (length reply)) 0) (record { code = 0; count = sentCount t setup }) (record { code = requestCode t setup payload (length reply); count = 0 })
-      ≡ sentOf (asked t setup) (wLengthOf setup) (length reply))
+      ≡ sentOf (asked t setup) (setupWLength setup) (length reply))
   unfolding replied sentOf replyOf
   get-sent reply e n = go (leb (sentCount t setup) (length reply)) refl
     where
@@ -96,8 +96,8 @@ module _ (t : Table) (setup payload : List ℕ) where
       code = requestCode t setup payload (length reply)
 
       Sends : Type 0
-      Sends = (replyOf (asked t setup) (wLengthOf setup) reply ≡ replied t setup payload reply)
-          × (cond (eqb code 0) (record { code = 0; count = sentCount t setup }) (record { code = code; count = 0 }) ≡ sentOf (asked t setup) (wLengthOf setup) (length reply))
+      Sends = (replyOf (asked t setup) (setupWLength setup) reply ≡ replied t setup payload reply)
+          × (cond (eqb code 0) (record { code = 0; count = sentCount t setup }) (record { code = code; count = 0 }) ≡ sentOf (asked t setup) (setupWLength setup) (length reply))
 
       go : (b : Bool) → leb (sentCount t setup) (length reply) ≡ b → Sends
       go true h = let z : code ≡ 0 = n ∙ rw (le-ltb (length reply) (sentCount t setup) (leb-true _ _ h)) in (rw (h, z, e), rw (h, z))

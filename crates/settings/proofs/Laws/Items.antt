@@ -14,7 +14,7 @@ use Rattle.controls.specs.declared.Item.{Item}
 use Rattle.controls.specs.declared.Item.the-variants.{Refused, Given}
 use Rattle.controls.specs.declared.Setting.{Setting}
 use Rattle.controls.specs.declared.Setting.the-variants as S
-use Rattle.controls.specs.Settings.{codeOf, firstRefusal}
+use Rattle.controls.specs.Controls.{itemCode, firstRefusal}
 use Rattle.entries.specs.declared.Taken.{Taken}
 use Rattle.entries.specs.Entries.{entryAddress, entryFlags, entryRefusal, faceItem, entriesPut, facesTaken}
 use Rattle.entries.proofs.Laws.Entries.{entry-code, taken-entries}
@@ -22,8 +22,8 @@ use Rattle.profile.specs.declared.Profile.{Profile}
 use Rattle.settings.specs.declared.settings.Settings.{Settings}
 use Rattle.settings.specs.declared.items.Taken as own
 use Rattle.settings.specs.Settings.{put}
-use Rattle.profile.specs.Items.{itemAt, setRefusal}
-use Rattle.settings.specs.Items.{givenOf, allGiven, puts, setGives, setTaken}
+use Rattle.profile.specs.Items.{profileItem, setRefusal}
+use Rattle.settings.specs.Items.{givenOf, allGiven, putAll, setGives, setTaken}
 
 -- one more
 given-more : (i k : ℕ) (given : ℕ → List (ℕ × Setting)) → allGiven (suc i) k given ≡ allGiven i k given ++ given (i + k)
@@ -37,28 +37,28 @@ given-more (suc i) k given =
 pub given-next : (i : ℕ) (given : ℕ → List (ℕ × Setting)) → allGiven (suc i) 0 given ≡ allGiven i 0 given ++ given i
 given-next i given = let e : i + 0 ≡ i = omega arith in given-more i 0 given ∙ ap (λ (m : ℕ). allGiven i 0 given ++ given m) e
 
-pub puts-append : (h : Settings) (a b : List (ℕ × Setting)) → puts h (a ++ b) ≡ puts (puts h a) b
-unfolding puts
+pub puts-append : (h : Settings) (a b : List (ℕ × Setting)) → putAll h (a ++ b) ≡ putAll (putAll h a) b
+unfolding putAll
 puts-append h [] b = refl
 puts-append h (s ∷ a) b = puts-append (put h (s .1)) a b
 
 -- the settings with i + 1 items are those with i of them, and the next
-pub puts-next : (h : Settings) (i : ℕ) (given : ℕ → List (ℕ × Setting)) → puts h (allGiven (i + 1) 0 given) ≡ puts (puts h (allGiven i 0 given)) (given i)
+pub puts-next : (h : Settings) (i : ℕ) (given : ℕ → List (ℕ × Setting)) → putAll h (allGiven (i + 1) 0 given) ≡ putAll (putAll h (allGiven i 0 given)) (given i)
 puts-next h i given =
-    ap (λ (m : ℕ). puts h (allGiven m 0 given)) (add-one i)
-    ∙ ap (puts h) (given-next i given)
+    ap (λ (m : ℕ). putAll h (allGiven m 0 given)) (add-one i)
+    ∙ ap (putAll h) (given-next i given)
     ∙ puts-append h (allGiven i 0 given) (given i)
 
 -- a SET of one item is that item taken
-one-code : (i : Item) → codeOf i ≡ cond (eqb (codeOf i) 0) 0 (codeOf i)
-one-code i = go (eqb (codeOf i) 0) refl
+one-code : (i : Item) → itemCode i ≡ cond (eqb (itemCode i) 0) 0 (itemCode i)
+one-code i = go (eqb (itemCode i) 0) refl
   where
-    go : (b : Bool) → eqb (codeOf i) 0 ≡ b → codeOf i ≡ cond b 0 (codeOf i)
-    go true e = eqb-true (codeOf i) 0 e
+    go : (b : Bool) → eqb (itemCode i) 0 ≡ b → itemCode i ≡ cond b 0 (itemCode i)
+    go true e = eqb-true (itemCode i) 0 e
     go false e = refl
 
-one-given : (h : Settings) (i : Item) → puts h (givenOf i) ≡ cond (eqb (codeOf i) 0) (puts h (givenOf i)) h
-unfolding givenOf puts codeOf
+one-given : (h : Settings) (i : Item) → putAll h (givenOf i) ≡ cond (eqb (itemCode i) 0) (putAll h (givenOf i)) h
+unfolding givenOf putAll itemCode
 one-given h (Refused code) = go (eqb code 0)
   where
     go : (b : Bool) → h ≡ cond b h h
@@ -67,12 +67,12 @@ one-given h (Refused code) = go (eqb code 0)
 one-given h (Given s) = refl
 
 pub one-item : (p : Profile) (h : Settings) (selector : ℕ) (payload : List ℕ) → (selector ≡ face → ⊥)
-    → _≡_ {A = own.Taken} (record { code = codeOf (itemAt p selector payload 0); settings = puts h (givenOf (itemAt p selector payload 0)) }) (setTaken p h selector payload)
+    → _≡_ {A = own.Taken} (record { code = itemCode (profileItem p selector payload 0); settings = putAll h (givenOf (profileItem p selector payload 0)) }) (setTaken p h selector payload)
 unfolding setTaken setRefusal setGives firstRefusal allGiven
 one-item p h selector payload n =
-    let i = itemAt p selector payload 0 in
+    let i = profileItem p selector payload 0 in
     rw (ne-eqb selector face n, append-nil (givenOf i), ← one-code i)
-    (ap (λ s. record { code = codeOf i; settings = s }) (one-given h i))
+    (ap (λ s. record { code = itemCode i; settings = s }) (one-given h i))
 
 -- entries of face authentication, one after the other
 abbrev withFace : Settings → List ℕ → Settings
@@ -80,24 +80,24 @@ withFace h l = record { ev = h .ev; face = l; metadata = h .metadata; hdr = h .h
 
 entries-put : (h : Settings) (payload : List ℕ) (n : ℕ) (item : ℕ → Item)
     → ((i : ℕ) → i < n → item i ≡ Given (S.Face (entryAddress payload i) (entryFlags payload i)))
-    → puts h (allGiven n 0 (λ i. givenOf (item i))) ≡ withFace h (entriesPut (h .face) payload n)
-unfolding puts allGiven entriesPut givenOf put
+    → putAll h (allGiven n 0 (λ i. givenOf (item i))) ≡ withFace h (entriesPut (h .face) payload n)
+unfolding putAll allGiven entriesPut givenOf put
 entries-put h payload zero item t = refl
 entries-put h payload (suc n) item t =
     let given : ℕ → List (ℕ × Setting) = λ i. givenOf (item i) in
-    ap (puts h) (given-next n given)
+    ap (putAll h) (given-next n given)
     ∙ puts-append h (allGiven n 0 given) (given n)
-    ∙ ap₂ (λ k (l : List (ℕ × Setting)). puts k l) (entries-put h payload n item (λ i l. t i (omega arith))) (ap givenOf (t n (omega arith)))
+    ∙ ap₂ (λ k (l : List (ℕ × Setting)). putAll k l) (entries-put h payload n item (λ i l. t i (omega arith))) (ap givenOf (t n (omega arith)))
 
 -- a SET's value tests of face authentication are its entries'
 pub face-refusal : (p : Profile) (payload : List ℕ) → setRefusal p face payload ≡ firstRefusal (getD payload 0 0) 0 (entryRefusal (p .face) payload)
-unfolding setRefusal itemAt
+unfolding setRefusal profileItem
 face-refusal p payload = ap (firstRefusal (getD payload 0 0) 0) (fun-ext λ i. entry-code (p .face) payload i)
 
 -- a SET of face authentication, by what taking its entries comes to
 pub face-set : (p : Profile) (h : Settings) (payload : List ℕ) {taken : Taken} → taken ≡ facesTaken (p .face) (h .face) payload
     → _≡_ {A = own.Taken} (record { code = taken .code; settings = withFace h (taken .held) }) (setTaken p h face payload)
-unfolding setTaken setGives facesTaken itemAt
+unfolding setTaken setGives facesTaken profileItem
 face-set p h payload {taken} is = rw (is, face-refusal p payload) (ap (λ s. record { code = code; settings = s }) (go (eqb code 0) refl))
   where
     n : ℕ
@@ -107,6 +107,6 @@ face-set p h payload {taken} is = rw (is, face-refusal p payload) (ap (λ s. rec
     code = firstRefusal n 0 (entryRefusal (p .face) payload)
 
     go : (b : Bool) → eqb code 0 ≡ b
-        → withFace h (cond b (entriesPut (h .face) payload n) (h .face)) ≡ cond b (puts h (allGiven n 0 (λ i. givenOf (faceItem (p .face) payload i)))) h
+        → withFace h (cond b (entriesPut (h .face) payload n) (h .face)) ≡ cond b (putAll h (allGiven n 0 (λ i. givenOf (faceItem (p .face) payload i)))) h
     go true e = sym (entries-put h payload n (faceItem (p .face) payload) (taken-entries (p .face) payload n (eqb-true _ 0 e)))
     go false e = refl

@@ -13,7 +13,7 @@ use Rattle.wire.specs.Uvc.{invalidControl, invalidRequest}
 use Rattle.wire.specs.Endpoints.{firstAddress, places}
 use Rattle.wire.specs.Rows.{_⇒_, firstOf}
 use Rattle.wire.specs.Selectors.{face, metadata}
-use Rattle.snapshot.specs.Form.{evKey, metadataKey, hdrKey, throttleKey}
+use Rattle.snapshot.specs.Keys.{evKey, metadataKey, hdrKey, throttleKey}
 use Rattle.controls.specs.declared.Setting.{Setting}
 use Rattle.controls.specs.declared.Setting.the-variants as S
 use Rattle.metadata.specs.Metadata.{metadataRefusal}
@@ -22,14 +22,16 @@ use Rattle.entries.specs.Entries.{settingRefusal, faceKept, facesKept}
 use Rattle.face.proofs.Laws.Limits.{all-same}
 use Rattle.profile.specs.declared.Profile.{Profile}
 use Rattle.settings.specs.declared.settings.Settings.{Settings}
-use Rattle.profile.specs.Profile.{has, settable, profileValid, controlRefusal}
-use Rattle.settings.specs.Settings.{selectorOf, evHeld, metadataHeld, hdrHeld, throttleHeld, held, valueRefusal, kept, wellFormed}
+use Rattle.profile.specs.Profile.{has, isSettable, profileValid, profileRefusal}
+use Rattle.settings.specs.Settings.{settingSelector}
+use Rattle.settings.specs.Held.{evHeld, metadataHeld, hdrHeld, throttleHeld, settingsHeld}
+use Rattle.settings.specs.Kept.{valueRefusal, kept, settingsWellFormed}
 
 module _ (p : Profile) where
   -- a control that no SET is refused for is there and takes one
-  pub control-kept : (selector : ℕ) → eqb (controlRefusal p selector) 0 ≡ has p selector && settable p selector
-  unfolding controlRefusal
-  control-kept selector = go (has p selector) (settable p selector)
+  pub control-kept : (selector : ℕ) → eqb (profileRefusal p selector) 0 ≡ has p selector && isSettable p selector
+  unfolding profileRefusal
+  control-kept selector = go (has p selector) (isSettable p selector)
     where
       go : (h t : Bool) → eqb (firstOf ((not h ⇒ invalidControl) ∷ (not t ⇒ invalidRequest) ∷ [])) 0 ≡ h && t
       go true true = refl
@@ -37,9 +39,9 @@ module _ (p : Profile) where
       go false t = refl
 
   -- all but metadata take one
-  pub kept-settable : (s : Setting) → settable p (selectorOf s) ≡ true → has p (selectorOf s) && eqb (valueRefusal p s) 0 ≡ kept p (some s)
+  pub kept-settable : (s : Setting) → isSettable p (settingSelector s) ≡ true → has p (settingSelector s) && eqb (valueRefusal p s) 0 ≡ kept p (some s)
   unfolding kept
-  kept-settable s t = rw (control-kept (selectorOf s), t, and-true (has p (selectorOf s)))
+  kept-settable s t = rw (control-kept (settingSelector s), t, and-true (has p (settingSelector s)))
 
   pub kept-metadata : (n : ℕ) → has p metadata && p .metadata .writable && eqb (metadataRefusal (p .metadata) n) 0 ≡ kept p (some (S.Metadata n))
   unfolding kept valueRefusal
@@ -47,7 +49,7 @@ module _ (p : Profile) where
 
 -- the record test: the five controls in turn
 abbrev keeps : Profile → Settings → ℕ → Bool
-keeps p s k = kept p (held s k)
+keeps p s k = kept p (settingsHeld s k)
 
 below-front : (n : ℕ) (f : ℕ → Bool) → allBelow (suc n) f ≡ f 0 && allBelow n (λ i. f (suc i))
 unfolding allBelow
@@ -56,7 +58,7 @@ below-front (suc n) f = ap (λ b. b && f (suc n)) (below-front n f) ∙ and-asso
 
 -- the keys from 1 on are the places
 keeps-place : (p : Profile) (s : Settings) (i : ℕ) → i < places → keeps p s (suc i) ≡ faceKept (has p face) (p .face) (s .face) i
-unfolding held faceKept valueRefusal kept
+unfolding settingsHeld faceKept valueRefusal kept
 keeps-place p s i h = rw (ne-eqb (suc i) 0 (omega arith), le-leb (suc i) places (omega arith), sub-one) (go (eqb (getD (s .face) i 0) 0))
   where
     address : ℕ
@@ -79,8 +81,8 @@ in-turn false e f m h t = refl
 pub formed-controls : (p : Profile) (s : Settings)
     → profileValid p && kept p (evHeld (s .ev)) && facesKept (has p face) (p .face) (s .face) && kept p (metadataHeld (s .metadata))
     && kept p (hdrHeld (s .hdr)) && kept p (throttleHeld (s .throttle))
-    ≡ wellFormed p s
-unfolding wellFormed facesKept allBelow held
+    ≡ settingsWellFormed p s
+unfolding settingsWellFormed facesKept allBelow settingsHeld
 formed-controls p s =
     in-turn (profileValid p) _ _ _ _ _
     ∙ ap (λ b. profileValid p && (b && keeps p s metadataKey && keeps p s hdrKey && keeps p s throttleKey))

@@ -4,32 +4,32 @@ use native.Mathlib.Omega.{arith}
 use mathlib.Core.Path.{refl}
 use mathlib.Core.List.{[], _∷_}
 use borrow.Author.Tests.{le-leb, eq-eqb, ne-eqb}
-use Rattle.wire.specs.Number.{leAt, number}
+use Rattle.wire.specs.Numbers.{leAt, number}
 use Rattle.wire.specs.Selectors.{ev, face, metadata, hdr, throttle}
 use Rattle.wire.specs.Endpoints.{firstAddress, lastAddress, places}
-use Rattle.snapshot.specs.Form.{sound, keyAt}
-use Rattle.snapshot.specs.Records.{stands, Record}
+use Rattle.snapshot.specs.Form.{soundRecord, statedKey}
+use Rattle.snapshot.specs.Records.{stands, RecordOf}
 
-pub record-ev : (a b c d e f g h i j k : ℕ) → Record 0 (15 ∷ 0 ∷ ev ∷ 0 ∷ a ∷ b ∷ c ∷ d ∷ e ∷ f ∷ g ∷ h ∷ i ∷ j ∷ k ∷ [])
-unfolding stands sound keyAt leAt number
+pub record-ev : (a b c d e f g h i j k : ℕ) → RecordOf 0 (15 ∷ 0 ∷ ev ∷ 0 ∷ a ∷ b ∷ c ∷ d ∷ e ∷ f ∷ g ∷ h ∷ i ∷ j ∷ k ∷ [])
+unfolding stands soundRecord statedKey leAt number
 record-ev a b c d e f g h i j k = record { long = refl; is = refl }
 
-pub record-face : (k a b c d e f g : ℕ) → 1 ≤ k → k ≤ places → Record k (13 ∷ 0 ∷ face ∷ 0 ∷ 1 ∷ (firstAddress - 1 + k) ∷ a ∷ b ∷ c ∷ d ∷ e ∷ f ∷ g ∷ [])
-unfolding stands sound keyAt leAt number
+pub record-face : (k a b c d e f g : ℕ) → 1 ≤ k → k ≤ places → RecordOf k (13 ∷ 0 ∷ face ∷ 0 ∷ 1 ∷ (firstAddress - 1 + k) ∷ a ∷ b ∷ c ∷ d ∷ e ∷ f ∷ g ∷ [])
+unfolding stands soundRecord statedKey leAt number
 record-face k a b c d e f g lo hi = record {
   long = simp (ne-eqb k 0 (omega arith), le-leb k places hi);
   is = simp (le-leb firstAddress (firstAddress - 1 + k) (omega arith), le-leb (firstAddress - 1 + k) lastAddress (omega arith), eq-eqb (firstAddress - 1 + k - (firstAddress - 1)) k (omega arith));
 }
 
-pub record-metadata : (a b c d : ℕ) → Record (1 + places) (8 ∷ 0 ∷ metadata ∷ 0 ∷ a ∷ b ∷ c ∷ d ∷ [])
-unfolding stands sound keyAt leAt number
+pub record-metadata : (a b c d : ℕ) → RecordOf (1 + places) (8 ∷ 0 ∷ metadata ∷ 0 ∷ a ∷ b ∷ c ∷ d ∷ [])
+unfolding stands soundRecord statedKey leAt number
 record-metadata a b c d = record { long = refl; is = refl }
 
-pub record-hdr : (a b c d : ℕ) → Record (2 + places) (8 ∷ 0 ∷ hdr ∷ 0 ∷ a ∷ b ∷ c ∷ d ∷ [])
-unfolding stands sound keyAt leAt number
+pub record-hdr : (a b c d : ℕ) → RecordOf (2 + places) (8 ∷ 0 ∷ hdr ∷ 0 ∷ a ∷ b ∷ c ∷ d ∷ [])
+unfolding stands soundRecord statedKey leAt number
 record-hdr a b c d = record { long = refl; is = refl }
 
 pub record-throttle : (a b c d e f g h : ℕ)
-    → Record (3 + places) (24 ∷ 0 ∷ throttle ∷ 0 ∷ a ∷ b ∷ c ∷ d ∷ e ∷ f ∷ g ∷ h ∷ 0 ∷ 0 ∷ 0 ∷ 0 ∷ 0 ∷ 0 ∷ 0 ∷ 0 ∷ 0 ∷ 0 ∷ 0 ∷ 0 ∷ [])
-unfolding stands sound keyAt leAt number
+    → RecordOf (3 + places) (24 ∷ 0 ∷ throttle ∷ 0 ∷ a ∷ b ∷ c ∷ d ∷ e ∷ f ∷ g ∷ h ∷ 0 ∷ 0 ∷ 0 ∷ 0 ∷ 0 ∷ 0 ∷ 0 ∷ 0 ∷ 0 ∷ 0 ∷ 0 ∷ 0 ∷ [])
+unfolding stands soundRecord statedKey leAt number
 record-throttle a b c d e f g h = record { long = refl; is = refl }

@@ -12,8 +12,9 @@ use lib.Dec.{leb, ltb, eqb}
 use borrow.Author.Tests.{le-leb, lt-leb, lt-ltb, leb-true, ltb-true, eq-eqb, ne-eqb}
 use Rattle.wire.specs.declared.parts.Part.{Part}
 use Rattle.wire.specs.Parts.{nowhere}
-use Rattle.snapshot.specs.Form.{keys, sizeOf, sound, keyAt, isEmpty, wellFormed}
-use Rattle.snapshot.specs.Records.{stands, keyOf, passed, skip, from, recordAt, decode, bytes, recordPlace}
+use Rattle.snapshot.specs.Keys.{keys, recordLength}
+use Rattle.snapshot.specs.Form.{soundRecord, statedKey, isEmpty, wellFormed}
+use Rattle.snapshot.specs.Records.{stands, keyAt, passed, skip, from, recordAt, decode, recordBytes, recordPlace}
 use Rattle.snapshot.specs.Steps.{Cursor}
 use Rattle.snapshot.proofs.Laws.Sound.{and-left, and-right, stands-long}
 use Rattle.snapshot.proofs.Laws.Form.{formed-from}
@@ -23,7 +24,7 @@ passed-long : (k : ℕ) (s : List ℕ) → passed k s ≤ length s
 unfolding passed
 passed-long k s = go (stands k s) refl
   where
-    go : (b : Bool) → stands k s ≡ b → cond b (sizeOf k) 0 ≤ length s
+    go : (b : Bool) → stands k s ≡ b → cond b (recordLength k) 0 ≤ length s
     go true e = stands-long k s e
     go false e = omega arith
 
@@ -31,28 +32,28 @@ skip-passed : (k : ℕ) (s : List ℕ) → skip k s ≡ drop (passed k s) s
 unfolding skip passed
 skip-passed k s = go (stands k s)
   where
-    go : (b : Bool) → cond b (drop (sizeOf k) s) s ≡ drop (cond b (sizeOf k) 0) s
+    go : (b : Bool) → cond b (drop (recordLength k) s) s ≡ drop (cond b (recordLength k) 0) s
     go true = refl
     go false = refl
 
-record-passed : (k : ℕ) (s : List ℕ) → bytes (recordAt k s) ≡ take (passed k s) s
+record-passed : (k : ℕ) (s : List ℕ) → recordBytes (recordAt k s) ≡ take (passed k s) s
 unfolding recordAt passed
 record-passed k s = go (stands k s)
   where
-    go : (b : Bool) → bytes (cond b (some (take (sizeOf k) s)) none) ≡ take (cond b (sizeOf k) 0) s
+    go : (b : Bool) → recordBytes (cond b (some (take (recordLength k) s)) none) ≡ take (cond b (recordLength k) 0) s
     go true = refl
     go false = refl
 
 -- nothing but a record has bytes, so a key that is none passes as many as its records have
-pub is-passed : (k : ℕ) (t : List ℕ) → keyOf t ≡ k → sizeOf k ≡ passed k t
-unfolding passed stands keyOf
-is-passed k t e = go (sound t) refl e
+pub is-passed : (k : ℕ) (t : List ℕ) → keyAt t ≡ k → recordLength k ≡ passed k t
+unfolding passed stands keyAt
+is-passed k t e = go (soundRecord t) refl e
   where
-    go : (b : Bool) → sound t ≡ b → cond b (keyAt t) keys ≡ k → sizeOf k ≡ cond (b && eqb (keyAt t) k) (sizeOf k) 0
-    go true p e = simp (eq-eqb (keyAt t) k e)
-    go false p e = ap sizeOf (sym e)
+    go : (b : Bool) → soundRecord t ≡ b → cond b (statedKey t) keys ≡ k → recordLength k ≡ cond (b && eqb (statedKey t) k) (recordLength k) 0
+    go true p e = simp (eq-eqb (statedKey t) k e)
+    go false p e = ap recordLength (sym e)
 
-pub not-passed : (k : ℕ) (t : List ℕ) → (keyOf t ≡ k → ⊥) → 0 ≡ passed k t
+pub not-passed : (k : ℕ) (t : List ℕ) → (keyAt t ≡ k → ⊥) → 0 ≡ passed k t
 unfolding passed
 not-passed k t e = simp (other-stands k t e)
 
@@ -62,9 +63,9 @@ start s = record { within = omega arith; here = refl }
 
 module _ (s : List ℕ) (at k : ℕ) (c : Cursor s at k) where
   -- the record that is passed is that of key k
-  pub cursor-record : take (passed k (drop at s)) (drop at s) ≡ bytes (decode s k)
+  pub cursor-record : take (passed k (drop at s)) (drop at s) ≡ recordBytes (decode s k)
   unfolding decode
-  cursor-record = sym (record-passed k (drop at s)) ∙ ap (λ l. bytes (recordAt k l)) (c .here)
+  cursor-record = sym (record-passed k (drop at s)) ∙ ap (λ l. recordBytes (recordAt k l)) (c .here)
 
   pub cursor-within : at + passed k (drop at s) ≤ length s
   cursor-within = omega (arith, c .within, passed-long k (drop at s), length-drop at s)
@@ -77,7 +78,7 @@ module _ (s : List ℕ) (at k : ℕ) (c : Cursor s at k) where
   }
 
   -- where no record of a key from k up to j stands at the cursor, nothing is passed
-  pub cursor-stay : (j : ℕ) → k ≤ j → ((i : ℕ) → k ≤ i → i < j → keyOf (drop at s) ≡ i → ⊥) → Cursor s at j
+  pub cursor-stay : (j : ℕ) → k ≤ j → ((i : ℕ) → k ≤ i → i < j → keyAt (drop at s) ≡ i → ⊥) → Cursor s at j
   cursor-stay j h n = record {
     within = c .within;
     here = c .here ∙ sym (stay s k j h (λ i p q. rw (← (c .here)) (other-stands i (drop at s) (n i p q))));
@@ -104,8 +105,8 @@ end s at c = go (drop at s) (length-drop at s) ∙ ap isEmpty (c .here) ∙ sym 
     go (b ∷ t) e = ne-eqb at (length s) (omega arith)
 
 -- going from record to record, with the lowest key that may follow: on to the next while it ascends and is below the key, and else done
-module _ (s : List ℕ) (at low k key : ℕ) (c : Cursor s at low) (e : k ≡ keyOf (drop at s)) where
-  pub cursor-on : (leb low k && ltb k key) ≡ true → (low ≤ k) × ((k < key) × Cursor s (at + sizeOf k) (k + 1))
+module _ (s : List ℕ) (at low k key : ℕ) (c : Cursor s at low) (e : k ≡ keyAt (drop at s)) where
+  pub cursor-on : (leb low k && ltb k key) ≡ true → (low ≤ k) × ((k < key) × Cursor s (at + recordLength k) (k + 1))
   cursor-on h =
       let l = leb-true low k (and-left _ (ltb k key) h) in
       let d = cursor-stay s at low c k l (λ i p q f. omega arith) in

@@ -8,29 +8,30 @@ use mathlib.Core.Option.{Option, none, some}
 use lib.ListN.{length, take, length-drop}
 use lib.Dec.{leb, eqb}
 use borrow.Author.Tests.{leb-true, leb-false, eqb-true, eqb-false, ne-eqb}
-use Rattle.snapshot.specs.Form.{keys, sizeOf, sound, formed, wellFormed}
-use Rattle.snapshot.specs.Records.{stands, skip, from, recordAt, decode, bytes, records, encode, Entry, split, recordsOf, find, Ascending, joined}
+use Rattle.snapshot.specs.Keys.{keys, recordLength}
+use Rattle.snapshot.specs.Form.{soundRecord, formed, wellFormed}
+use Rattle.snapshot.specs.Records.{stands, skip, from, recordAt, decode, recordBytes, records, encode, KeyedRecord, split, recordsOf, find, Ascending, joined}
 use Rattle.snapshot.proofs.Laws.Sound.{parts-sound, stands-sound, stands-size, stands-long, stands-some}
 use Rattle.snapshot.proofs.Laws.Maps.{skip-at, skip-not, decode-good, none-above}
 use Rattle.snapshot.proofs.Laws.Form.{empty-nil, formed-end, formed-at, formed-not, encode-decode}
 
 -- the record of key k of a map, as a list of one or none
-abbrev pub entryAt : ℕ → Option (List ℕ) → List Entry
+abbrev pub entryAt : ℕ → Option (List ℕ) → List KeyedRecord
 entryAt k none = []
 entryAt k (some r) = (k, r) ∷ []
 
 -- the records of the n keys from k on of a map, in order
-unfoldable pub entries : ℕ → ℕ → (ℕ → Option (List ℕ)) → List Entry
+unfoldable pub entries : ℕ → ℕ → (ℕ → Option (List ℕ)) → List KeyedRecord
 entries zero k m = []
 entries (suc n) k m = entryAt k (m k) ++ entries n (suc k) m
 
 split-nil : (fuel : ℕ) → split fuel [] ≡ []
-unfolding split sound
+unfolding split soundRecord
 split-nil zero = refl
 split-nil (suc fuel) = refl
 
 -- where a record of key k stands it is the first of the list, and where none stands the list is that of the later keys
-split-at : (fuel k : ℕ) (t : List ℕ) (rest : List Entry) (b : Bool) → stands k t ≡ b → length t ≤ fuel → formed fuel k t ≡ true
+split-at : (fuel k : ℕ) (t : List ℕ) (rest : List KeyedRecord) (b : Bool) → stands k t ≡ b → length t ≤ fuel → formed fuel k t ≡ true
     → ((f : ℕ) → length (skip k t) ≤ f → formed f (suc k) (skip k t) ≡ true → split f (skip k t) ≡ rest)
     → split fuel t ≡ entryAt k (recordAt k t) ++ rest
 unfolding skip recordAt split
@@ -39,7 +40,7 @@ split-at (suc fuel) k t rest true e l w ih =
     let p = stands-sound k t e in
     let s = skip-at k t e in
     let r = ih fuel (rw s (simp length-drop (omega (arith, stands-some k t e)))) (rw s (sym (formed-at fuel k t e) ∙ w)) in
-    simp (e, parts-sound t (p .0), p .1, ← (stands-size k t e)) (ap (λ l. (k, take (sizeOf k) t) ∷ l) (rw s at r))
+    simp (e, parts-sound t (p .0), p .1, ← (stands-size k t e)) (ap (λ l. (k, take (recordLength k) t) ∷ l) (rw s at r))
 split-at fuel k t rest false e l w ih =
     let s = skip-not k t e in
     let r = ih fuel (rw s l) (rw s (sym (formed-not fuel k t e) ∙ w)) in
@@ -112,7 +113,7 @@ unfolding entries records
 entries-joined zero k m = refl
 entries-joined (suc n) k m = go (m k) (entries-joined n (suc k) m)
   where
-    go : (o : Option (List ℕ)) → joined (entries n (suc k) m) ≡ records n (suc k) m → joined (entryAt k o ++ entries n (suc k) m) ≡ bytes o ++ records n (suc k) m
+    go : (o : Option (List ℕ)) → joined (entries n (suc k) m) ≡ records n (suc k) m → joined (entryAt k o ++ entries n (suc k) m) ≡ recordBytes o ++ records n (suc k) m
     go none e = e
     go (some r) e = ap (λ l. r ++ l) e
 

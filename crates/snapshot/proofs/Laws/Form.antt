@@ -9,8 +9,9 @@ use mathlib.Core.Option.{Option, none, some}
 use lib.ListN.{length, take, drop, length-drop, take-append-drop}
 use lib.Dec.{leb}
 use borrow.Author.Tests.{le-leb, lt-leb, leb-true, leb-false}
-use Rattle.snapshot.specs.Form.{keys, sizeOf, lengthAt, sound, keyAt, isEmpty, formed, wellFormed}
-use Rattle.snapshot.specs.Records.{stands, skip, from, recordAt, decode, bytes, records, encode, Good}
+use Rattle.snapshot.specs.Keys.{keys, recordLength}
+use Rattle.snapshot.specs.Form.{statedLength, soundRecord, statedKey, isEmpty, formed, wellFormed}
+use Rattle.snapshot.specs.Records.{stands, skip, from, recordAt, decode, recordBytes, records, encode, Good}
 use Rattle.snapshot.proofs.Laws.Sound.{sound-parts, parts-sound, sound-of, stands-sound, sound-stands, stands-size, stands-long, stands-some}
 use Rattle.snapshot.proofs.Laws.Maps.{from-records}
 
@@ -37,14 +38,14 @@ pub formed-end : (fuel : ℕ) (s : List ℕ) → formed fuel keys s ≡ isEmpty 
 unfolding formed
 formed-end zero s = refl
 formed-end (suc fuel) [] = refl
-formed-end (suc fuel) (b ∷ s) = go (sound (b ∷ s)) refl
+formed-end (suc fuel) (b ∷ s) = go (soundRecord (b ∷ s)) refl
   where
-    go : (t : Bool) → sound (b ∷ s) ≡ t → (t && leb keys (keyAt (b ∷ s)) && formed fuel (suc (keyAt (b ∷ s))) (drop (lengthAt (b ∷ s)) (b ∷ s))) ≡ false
-    go true e = simp (lt-leb keys (keyAt (b ∷ s)) (sound-of (b ∷ s) (sound-parts (b ∷ s) e) .key))
+    go : (t : Bool) → soundRecord (b ∷ s) ≡ t → (t && leb keys (statedKey (b ∷ s)) && formed fuel (suc (statedKey (b ∷ s))) (drop (statedLength (b ∷ s)) (b ∷ s))) ≡ false
+    go true e = simp (lt-leb keys (statedKey (b ∷ s)) (sound-of (b ∷ s) (sound-parts (b ∷ s) e) .key))
     go false e = refl
 
 -- where the key `low` stands, its record is passed
-pub formed-at : (fuel low : ℕ) (s : List ℕ) → stands low s ≡ true → formed (suc fuel) low s ≡ formed fuel (suc low) (drop (sizeOf low) s)
+pub formed-at : (fuel low : ℕ) (s : List ℕ) → stands low s ≡ true → formed (suc fuel) low s ≡ formed fuel (suc low) (drop (recordLength low) s)
 unfolding formed
 formed-at fuel low s e =
     let p = stands-sound low s e in
@@ -54,17 +55,17 @@ formed-at fuel low s e =
 pub formed-not : (fuel low : ℕ) (s : List ℕ) → stands low s ≡ false → formed fuel low s ≡ formed fuel (suc low) s
 unfolding formed
 formed-not zero low s e = refl
-formed-not (suc fuel) low s e = go (sound s) refl
+formed-not (suc fuel) low s e = go (soundRecord s) refl
   where
-    ne : sound s ≡ true → keyAt s ≡ low → ⊥
+    ne : soundRecord s ≡ true → statedKey s ≡ low → ⊥
     ne p q = true≢false (sym (sound-stands low s (sound-parts s p) q) ∙ e)
 
-    same : (b : Bool) → leb low (keyAt s) ≡ b → sound s ≡ true → leb low (keyAt s) ≡ leb (suc low) (keyAt s)
-    same true e p = e ∙ sym (le-leb (suc low) (keyAt s) (let h = leb-true low (keyAt s) e in let n = ne p in omega arith))
-    same false e p = e ∙ sym (lt-leb (suc low) (keyAt s) (let h = leb-false low (keyAt s) e in omega arith))
+    same : (b : Bool) → leb low (statedKey s) ≡ b → soundRecord s ≡ true → leb low (statedKey s) ≡ leb (suc low) (statedKey s)
+    same true e p = e ∙ sym (le-leb (suc low) (statedKey s) (let h = leb-true low (statedKey s) e in let n = ne p in omega arith))
+    same false e p = e ∙ sym (lt-leb (suc low) (statedKey s) (let h = leb-false low (statedKey s) e in omega arith))
 
-    go : (t : Bool) → sound s ≡ t → cond (isEmpty s) true (t && leb low (keyAt s) && formed fuel (suc (keyAt s)) (drop (lengthAt s) s))
-        ≡ cond (isEmpty s) true (t && leb (suc low) (keyAt s) && formed fuel (suc (keyAt s)) (drop (lengthAt s) s))
+    go : (t : Bool) → soundRecord s ≡ t → cond (isEmpty s) true (t && leb low (statedKey s) && formed fuel (suc (statedKey s)) (drop (statedLength s) s))
+        ≡ cond (isEmpty s) true (t && leb (suc low) (statedKey s) && formed fuel (suc (statedKey s)) (drop (statedLength s) s))
     go true p = rw (same _ refl p)
     go false p = refl
 
@@ -75,9 +76,9 @@ formed-sweep (suc n) fuel low s l h = go (stands low s) refl fuel l (λ fuel s l
   where
     go : (t : Bool) → stands low s ≡ t → (fuel : ℕ) → length s ≤ fuel
         → ((fuel : ℕ) (s : List ℕ) → length s ≤ fuel → formed fuel (suc low) s ≡ isEmpty (sweep n (suc low) s))
-        → formed fuel low s ≡ isEmpty (sweep n (suc low) (cond t (drop (sizeOf low) s) s))
+        → formed fuel low s ≡ isEmpty (sweep n (suc low) (cond t (drop (recordLength low) s) s))
     go true e zero l ih = absurd (let p = stands-long low s e in let q = stands-some low s e in omega arith)
-    go true e (suc fuel) l ih = formed-at fuel low s e ∙ ih fuel (drop (sizeOf low) s) (simp length-drop (omega (arith, stands-some low s e)))
+    go true e (suc fuel) l ih = formed-at fuel low s e ∙ ih fuel (drop (recordLength low) s) (simp length-drop (omega (arith, stands-some low s e)))
     go false e fuel l ih = formed-not fuel low s e ∙ ih fuel s l
 
 pub formed-from : (s : List ℕ) → wellFormed s ≡ isEmpty (from s keys)
@@ -85,12 +86,12 @@ unfolding wellFormed from
 formed-from s = formed-sweep keys (length s) 0 s (omega arith) refl ∙ ap isEmpty (from-sweep keys 0 s)
 
 -- the record of key k, and what is behind it
-at-skip : (k : ℕ) (s : List ℕ) → bytes (recordAt k s) ++ skip k s ≡ s
+at-skip : (k : ℕ) (s : List ℕ) → recordBytes (recordAt k s) ++ skip k s ≡ s
 unfolding recordAt skip
 at-skip k s = go (stands k s)
   where
-    go : (t : Bool) → bytes (cond t (some (take (sizeOf k) s)) none) ++ cond t (drop (sizeOf k) s) s ≡ s
-    go true = take-append-drop (sizeOf k) s
+    go : (t : Bool) → recordBytes (cond t (some (take (recordLength k) s)) none) ++ cond t (drop (recordLength k) s) s ≡ s
+    go true = take-append-drop (recordLength k) s
     go false = refl
 
 records-from : (n k : ℕ) (s : List ℕ) → from s keys ≡ [] → n + k ≡ keys → records n k (decode s) ≡ from s k

@@ -8,7 +8,8 @@ use lib.ListN.{getD}
 use lib.Dec.{leb, ltb, eqb}
 use borrow.Author.Tests.{eqb-true, eqb-false, leb-true, leb-false, ltb-true, ltb-false, le-leb, ne-eqb}
 use Rattle.wire.specs.Endpoints.{firstAddress, places}
-use Rattle.snapshot.specs.Form.{keys, kindAt, place, sound, keyAt}
+use Rattle.snapshot.specs.Keys.{keys}
+use Rattle.snapshot.specs.Form.{statedKind, orderPlace, soundRecord, statedKey}
 use Rattle.snapshot.proofs.Laws.Sound.{Sound, Kind, ev, face, metadata, hdr, throttle, kind-of, sound-parts, sound-of, sound-address}
 
 -- the place of a key in the order
@@ -19,8 +20,8 @@ face-place : (k : ℕ) → 1 ≤ k → k ≤ places → placeOf k ≡ 0x680 + k
 unfolding placeOf
 face-place k h l = simp (ne-eqb k 0 (omega arith), le-leb k places l)
 
-place-kind : (s : List ℕ) → Sound s → Kind (kindAt s) → place s ≡ placeOf (keyAt s)
-unfolding keyAt placeOf
+place-kind : (s : List ℕ) → Sound s → Kind (statedKind s) → orderPlace s ≡ placeOf (statedKey s)
+unfolding statedKey placeOf
 place-kind s p (ev e) = rw e
 place-kind s p (face e) =
     let b = sound-address s p e in
@@ -60,10 +61,10 @@ place-later j (suc k) h l = go (eqb j k) refl (λ (p : j < k). place-later j k p
     go false e ih = let n = eqb-false j k e in omega (arith, ih (omega arith), place-next k (omega arith))
 
 -- of two sound records, the one with the lower key stands before the other by kind, then address, and equal keys are at one place
-pub key-order : (s t : List ℕ) → sound s ≡ true → sound t ≡ true → (keyAt s < keyAt t → place s < place t) × (keyAt s ≡ keyAt t → place s ≡ place t)
+pub key-order : (s t : List ℕ) → soundRecord s ≡ true → soundRecord t ≡ true → (statedKey s < statedKey t → orderPlace s < orderPlace t) × (statedKey s ≡ statedKey t → orderPlace s ≡ orderPlace t)
 key-order s t p q =
     let u = sound-parts s p in
     let v = sound-parts t q in
-    let e = place-kind s u (kind-of (kindAt s) (u .known)) in
-    let f = place-kind t v (kind-of (kindAt t) (v .known)) in
-    (λ h. rw (e, f) (place-later (keyAt s) (keyAt t) h (sound-of t v .key)), λ h. e ∙ ap placeOf h ∙ sym f)
+    let e = place-kind s u (kind-of (statedKind s) (u .known)) in
+    let f = place-kind t v (kind-of (statedKind t) (v .known)) in
+    (λ h. rw (e, f) (place-later (statedKey s) (statedKey t) h (sound-of t v .key)), λ h. e ∙ ap placeOf h ∙ sym f)

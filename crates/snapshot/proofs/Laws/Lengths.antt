@@ -7,14 +7,14 @@ use mathlib.Core.Option.{Option, none, some}
 use lib.ListN.{length, length-append}
 use borrow.Author.Tests.{ne-eqb, le-leb}
 use Rattle.wire.specs.Endpoints.{places, endpointLimit}
-use Rattle.snapshot.specs.Form.{keys, sizeOf, longest}
-use Rattle.snapshot.specs.Records.{bytes, records, encode, counted, recordCount, GoodAt, Good}
+use Rattle.snapshot.specs.Keys.{keys, recordLength, longestSnapshot}
+use Rattle.snapshot.specs.Records.{recordBytes, records, encode, countOne, recordCount, GoodAt, Good}
 use Rattle.snapshot.proofs.Laws.Maps.{records-split}
 
 -- the lengths of the n keys' records from k on
 total : ℕ → ℕ → ℕ
 total zero k = 0
-total (suc n) k = sizeOf k + total n (suc k)
+total (suc n) k = recordLength k + total n (suc k)
 
 module _ (m : ℕ → Option (List ℕ)) (g : Good m) where
   records-length : (n k : ℕ) → length (records n k m) ≤ total n k
@@ -22,11 +22,11 @@ module _ (m : ℕ → Option (List ℕ)) (g : Good m) where
   records-length zero k = omega arith
   records-length (suc n) k = simp length-append (omega (arith, records-length n (suc k), short (m k) (g k)))
     where
-      short : (o : Option (List ℕ)) → GoodAt k o → length (bytes o) ≤ sizeOf k
+      short : (o : Option (List ℕ)) → GoodAt k o → length (recordBytes o) ≤ recordLength k
       short none p = omega arith
       short (some r) p = omega (arith, p .long)
 
-  pub encode-length : length (encode m) ≤ longest
+  pub encode-length : length (encode m) ≤ longestSnapshot
   unfolding encode total
   encode-length = records-length keys 0
 
@@ -36,11 +36,11 @@ module _ (m : ℕ → Option (List ℕ)) (g : Good m) where
   faces-length zero k h l = omega arith
   faces-length (suc n) k h l = go (m k) (g k) (faces-length n (suc k) (omega arith) (omega arith))
     where
-      size : sizeOf k ≡ 13
+      size : recordLength k ≡ 13
       size = simp (ne-eqb k 0 (omega arith), le-leb k places (omega arith))
 
       go : (o : Option (List ℕ)) → GoodAt k o → length (records n (suc k) m) ≤ 13 * recordCount n (suc k) m
-          → length (bytes o ++ records n (suc k) m) ≤ 13 * counted o (recordCount n (suc k) m)
+          → length (recordBytes o ++ records n (suc k) m) ≤ 13 * countOne o (recordCount n (suc k) m)
       go none p ih = ih
       go (some r) p ih = simp length-append (omega (arith, p .long, size))
 

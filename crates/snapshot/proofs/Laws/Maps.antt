@@ -10,11 +10,11 @@ use lib.ListN.{take, drop}
 use lib.Seq.{drop-at, take-at}
 use lib.Dec.{leb}
 use borrow.Author.Tests.{leb-true, leb-false}
-use Rattle.snapshot.specs.Form.{keys, sizeOf}
-use Rattle.snapshot.specs.Records.{stands, skip, from, recordAt, decode, bytes, records, encode, GoodAt, Good}
+use Rattle.snapshot.specs.Keys.{keys, recordLength}
+use Rattle.snapshot.specs.Records.{stands, skip, from, recordAt, decode, recordBytes, records, encode, GoodAt, Good}
 use Rattle.snapshot.proofs.Laws.Sound.{stands-one, stands-nil, stands-below, stands-record, record-stands}
 
-pub skip-at : (k : ℕ) (t : List ℕ) → stands k t ≡ true → skip k t ≡ drop (sizeOf k) t
+pub skip-at : (k : ℕ) (t : List ℕ) → stands k t ≡ true → skip k t ≡ drop (recordLength k) t
 unfolding skip
 skip-at k t e = simp e
 
@@ -26,7 +26,7 @@ at-good : (k : ℕ) (s : List ℕ) → GoodAt k (recordAt k s)
 unfolding recordAt
 at-good k s = go (stands k s) refl
   where
-    go : (b : Bool) → stands k s ≡ b → GoodAt k (cond b (some (take (sizeOf k) s)) none)
+    go : (b : Bool) → stands k s ≡ b → GoodAt k (cond b (some (take (recordLength k) s)) none)
     go true e = stands-record k s e
     go false e = tt
 
@@ -45,7 +45,7 @@ module _ (m : ℕ → Option (List ℕ)) (g : Good m) where
   above zero k j h = stands-nil j
   above (suc n) k j h = go (m k) (g k) (above n (suc k) j (omega arith))
     where
-      go : (o : Option (List ℕ)) → GoodAt k o → stands j (records n (suc k) m) ≡ false → stands j (bytes o ++ records n (suc k) m) ≡ false
+      go : (o : Option (List ℕ)) → GoodAt k o → stands j (records n (suc k) m) ≡ false → stands j (recordBytes o ++ records n (suc k) m) ≡ false
       go none p q = q
       go (some r) p q = not-true _ (λ e. let z = stands-one j k _ e (record-stands k r _ p) in omega arith)
 
@@ -53,17 +53,17 @@ module _ (m : ℕ → Option (List ℕ)) (g : Good m) where
   unfolding records skip
   skip-records n k = go (m k) (g k)
     where
-      go : (o : Option (List ℕ)) → GoodAt k o → skip k (bytes o ++ records n (suc k) m) ≡ records n (suc k) m
+      go : (o : Option (List ℕ)) → GoodAt k o → skip k (recordBytes o ++ records n (suc k) m) ≡ records n (suc k) m
       go none p = simp (above n (suc k) k (omega arith))
-      go (some r) p = simp (record-stands k r (records n (suc k) m) p) (drop-at r (records n (suc k) m) (sizeOf k) (p .long))
+      go (some r) p = simp (record-stands k r (records n (suc k) m) p) (drop-at r (records n (suc k) m) (recordLength k) (p .long))
 
   at-records : (n k : ℕ) → recordAt k (records (suc n) k m) ≡ m k
   unfolding records recordAt
   at-records n k = go (m k) (g k)
     where
-      go : (o : Option (List ℕ)) → GoodAt k o → recordAt k (bytes o ++ records n (suc k) m) ≡ o
+      go : (o : Option (List ℕ)) → GoodAt k o → recordAt k (recordBytes o ++ records n (suc k) m) ≡ o
       go none p = simp (above n (suc k) k (omega arith))
-      go (some r) p = simp (record-stands k r (records n (suc k) m) p) (ap {B = Option (List ℕ)} some (take-at r (records n (suc k) m) (sizeOf k) (p .long)))
+      go (some r) p = simp (record-stands k r (records n (suc k) m) p) (ap {B = Option (List ℕ)} some (take-at r (records n (suc k) m) (recordLength k) (p .long)))
 
   -- the keys below k are passed once their records are
   pub from-records : (k n : ℕ) → n + k ≡ keys → from (encode m) k ≡ records n k m
@@ -97,5 +97,5 @@ records-split m (suc i) j k =
     let e : suc i + j ≡ suc (i + j) = omega arith in
     let f : i + suc k ≡ suc i + k = omega arith in
     ap (λ n. records n k m) e
-    ∙ ap (λ l. bytes (m k) ++ l) (records-split m i j (suc k) ∙ ap (λ n. records i (suc k) m ++ records j n m) f)
-    ∙ sym (append-assoc (bytes (m k)) (records i (suc k) m) (records j (suc i + k) m))
+    ∙ ap (λ l. recordBytes (m k) ++ l) (records-split m i j (suc k) ∙ ap (λ n. records i (suc k) m ++ records j n m) f)
+    ∙ sym (append-assoc (recordBytes (m k)) (records i (suc k) m) (records j (suc i + k) m))

@@ -8,13 +8,14 @@ use lib.ListN.{length, getD, take, drop, length-drop, length-append, List·getD-
 use lib.Seq.{getD-take, getD-drop, ext-getD, length-take-le}
 use lib.Dec.{leb, eqb}
 use borrow.Author.Tests.{leb-true, ltb-true, eqb-true, le-leb, eq-eqb, ne-eqb, lt-ltb}
-use Rattle.wire.specs.Number.{leAt, number}
+use Rattle.wire.specs.Numbers.{leAt, number}
 use Rattle.wire.proofs.Laws.Numbers.{front}
 use Rattle.wire.specs.Rows.{allOf}
 use Rattle.wire.specs.Selectors as selectors
 use Rattle.wire.specs.Endpoints.{firstAddress, lastAddress, places}
-use Rattle.snapshot.specs.Form.{keys, lengthOf, sizeOf, keyFor, lengthAt, kindAt, tailAt, zeros, tests, sound, keyAt}
-use Rattle.snapshot.specs.Records.{stands, Record}
+use Rattle.snapshot.specs.Keys.{keys, kindLength, recordLength, keyFor}
+use Rattle.snapshot.specs.Form.{statedLength, statedKind, throttleTail, zeros, recordTests, soundRecord, statedKey}
+use Rattle.snapshot.specs.Records.{stands, RecordOf}
 
 pub and-left : (a b : Bool) → (a && b) ≡ true → a ≡ true
 and-left true b e = refl
@@ -32,16 +33,16 @@ each (t ∷ ts) e (suc i) = each ts (and-right t (allOf ts) e) i
 -- the tests of a record, one by one
 pub record Sound (s : List ℕ) : Type 0 where
   pub four : 4 ≤ length s
-  pub within : lengthAt s ≤ length s
-  pub known : 0 < lengthOf (kindAt s)
-  pub right : lengthAt s ≡ lengthOf (kindAt s)
-  pub face : cond (eqb (kindAt s) selectors.face) (allOf (eqb (getD s 4 0) 1 ∷ leb firstAddress (getD s 5 0) ∷ leb (getD s 5 0) lastAddress ∷ [])) true ≡ true
-  pub tail : cond (eqb (kindAt s) selectors.throttle) (zeros (tailAt s)) true ≡ true
+  pub within : statedLength s ≤ length s
+  pub known : 0 < kindLength (statedKind s)
+  pub right : statedLength s ≡ kindLength (statedKind s)
+  pub face : cond (eqb (statedKind s) selectors.face) (allOf (eqb (getD s 4 0) 1 ∷ leb firstAddress (getD s 5 0) ∷ leb (getD s 5 0) lastAddress ∷ [])) true ≡ true
+  pub tail : cond (eqb (statedKind s) selectors.throttle) (zeros (throttleTail s)) true ≡ true
 
-pub sound-parts : (s : List ℕ) → sound s ≡ true → Sound s
-unfolding sound
+pub sound-parts : (s : List ℕ) → soundRecord s ≡ true → Sound s
+unfolding soundRecord
 sound-parts s e =
-    let at = each (tests (length s) (lengthAt s) (kindAt s) (getD s 4 0) (getD s 5 0) (zeros (tailAt s))) e in
+    let at = each (recordTests (length s) (statedLength s) (statedKind s) (getD s 4 0) (getD s 5 0) (zeros (throttleTail s))) e in
     record {
       four = leb-true _ _ (at 0);
       within = leb-true _ _ (at 1);
@@ -51,8 +52,8 @@ sound-parts s e =
       tail = at 5;
     }
 
-pub parts-sound : (s : List ℕ) → Sound s → sound s ≡ true
-unfolding sound
+pub parts-sound : (s : List ℕ) → Sound s → soundRecord s ≡ true
+unfolding soundRecord
 parts-sound s p =
     simp (le-leb _ _ (p .four), le-leb _ _ (p .within), lt-ltb _ _ (p .known), eq-eqb _ _ (p .right), p .face, p .tail)
 
@@ -64,7 +65,7 @@ pub data Kind (n : ℕ) : Type 0 where
   hdr : n ≡ selectors.hdr → Kind n
   throttle : n ≡ selectors.throttle → Kind n
 
-pub kind-of : (n : ℕ) → 0 < lengthOf n → Kind n
+pub kind-of : (n : ℕ) → 0 < kindLength n → Kind n
 kind-of n h = go (eqb n selectors.ev) (eqb n selectors.face) (eqb n selectors.metadata) (eqb n selectors.hdr) (eqb n selectors.throttle) refl refl refl refl refl h
   where
     go : (a b c d e : Bool) → eqb n selectors.ev ≡ a → eqb n selectors.face ≡ b → eqb n selectors.metadata ≡ c → eqb n selectors.hdr ≡ d → eqb n selectors.throttle ≡ e
@@ -77,34 +78,34 @@ kind-of n h = go (eqb n selectors.ev) (eqb n selectors.face) (eqb n selectors.me
     go false false false false false p q r s t h = absurd (omega arith)
 
 -- of face authentication, the address
-pub sound-address : (s : List ℕ) → Sound s → kindAt s ≡ selectors.face → (firstAddress ≤ getD s 5 0) × (getD s 5 0 ≤ lastAddress)
+pub sound-address : (s : List ℕ) → Sound s → statedKind s ≡ selectors.face → (firstAddress ≤ getD s 5 0) × (getD s 5 0 ≤ lastAddress)
 sound-address s p e =
     let at = each (eqb (getD s 4 0) 1 ∷ leb firstAddress (getD s 5 0) ∷ leb (getD s 5 0) lastAddress ∷ []) (rw e at (p .face)) in
     (leb-true _ _ (at 1), leb-true _ _ (at 2))
 
 -- what its kind says of a sound record
 pub record Of (s : List ℕ) : Type 0 where
-  pub key : keyAt s < keys
-  pub size : sizeOf (keyAt s) ≡ lengthAt s
-  pub eight : 8 ≤ lengthAt s
+  pub key : statedKey s < keys
+  pub size : recordLength (statedKey s) ≡ statedLength s
+  pub eight : 8 ≤ statedLength s
 
-of-kind : (s : List ℕ) → Sound s → Kind (kindAt s) → Of s
-unfolding keyAt
-of-kind s p (ev e) = let r : lengthAt s ≡ 15 = rw e at (p .right) in record { key = rw e (omega arith); size = rw e (sym r); eight = omega arith }
+of-kind : (s : List ℕ) → Sound s → Kind (statedKind s) → Of s
+unfolding statedKey
+of-kind s p (ev e) = let r : statedLength s ≡ 15 = rw e at (p .right) in record { key = rw e (omega arith); size = rw e (sym r); eight = omega arith }
 of-kind s p (face e) =
-    let r : lengthAt s ≡ 13 = rw e at (p .right) in
+    let r : statedLength s ≡ 13 = rw e at (p .right) in
     let b = sound-address s p e in
     record {
       key = rw e (omega arith);
       size = rw e (simp (ne-eqb (getD s 5 0 - (firstAddress - 1)) 0 (omega arith), le-leb (getD s 5 0 - (firstAddress - 1)) places (omega arith)) (sym r));
       eight = omega arith;
     }
-of-kind s p (metadata e) = let r : lengthAt s ≡ 8 = rw e at (p .right) in record { key = rw e (omega arith); size = rw e (sym r); eight = omega arith }
-of-kind s p (hdr e) = let r : lengthAt s ≡ 8 = rw e at (p .right) in record { key = rw e (omega arith); size = rw e (sym r); eight = omega arith }
-of-kind s p (throttle e) = let r : lengthAt s ≡ 24 = rw e at (p .right) in record { key = rw e (omega arith); size = rw e (sym r); eight = omega arith }
+of-kind s p (metadata e) = let r : statedLength s ≡ 8 = rw e at (p .right) in record { key = rw e (omega arith); size = rw e (sym r); eight = omega arith }
+of-kind s p (hdr e) = let r : statedLength s ≡ 8 = rw e at (p .right) in record { key = rw e (omega arith); size = rw e (sym r); eight = omega arith }
+of-kind s p (throttle e) = let r : statedLength s ≡ 24 = rw e at (p .right) in record { key = rw e (omega arith); size = rw e (sym r); eight = omega arith }
 
 pub sound-of : (s : List ℕ) → Sound s → Of s
-sound-of s p = of-kind s p (kind-of (kindAt s) (p .known))
+sound-of s p = of-kind s p (kind-of (statedKind s) (p .known))
 
 -- the same bytes are the same number
 number-same : (k : ℕ) (s t : List ℕ) (i : ℕ) → ((j : ℕ) → j < i + k → getD t j 0 ≡ getD s j 0) → leAt k t i ≡ leAt k s i
@@ -116,31 +117,31 @@ number-same (suc k) s t i h =
     ∙ sym (front k s i)
 
 -- bytes that agree with a sound record's own are a sound record of the same key and length
-module _ (s s′ : List ℕ) (p : Sound s) (long : lengthAt s ≤ length s′) (same : (i : ℕ) → i < lengthAt s → getD s′ i 0 ≡ getD s i 0) where
+module _ (s s′ : List ℕ) (p : Sound s) (long : statedLength s ≤ length s′) (same : (i : ℕ) → i < statedLength s → getD s′ i 0 ≡ getD s i 0) where
   same-at : (i : ℕ) → i < 8 → getD s′ i 0 ≡ getD s i 0
   same-at i h = same i (omega (arith, sound-of s p .eight))
 
-  same-length : lengthAt s′ ≡ lengthAt s
+  same-length : statedLength s′ ≡ statedLength s
   same-length = number-same 2 s s′ 0 (λ j h. same-at j (omega arith))
 
-  same-kind : kindAt s′ ≡ kindAt s
+  same-kind : statedKind s′ ≡ statedKind s
   same-kind = number-same 2 s s′ 2 (λ j h. same-at j (omega arith))
 
-  same-key : keyAt s′ ≡ keyAt s
-  unfolding keyAt
+  same-key : statedKey s′ ≡ statedKey s
+  unfolding statedKey
   same-key = ap₂ keyFor same-kind (same-at 5 (omega arith))
 
-  same-tail : kindAt s ≡ selectors.throttle → tailAt s′ ≡ tailAt s
+  same-tail : statedKind s ≡ selectors.throttle → throttleTail s′ ≡ throttleTail s
   same-tail e =
-      let r : lengthAt s ≡ 24 = rw e at (p .right) in
-      let l : (t : List ℕ) → 24 ≤ length t → length (tailAt t) ≡ 12 = λ t h. length-take-le 12 (drop 12 t) (simp length-drop (omega arith)) in
-      let n : length (tailAt s′) ≡ 12 = l s′ (omega arith) in
+      let r : statedLength s ≡ 24 = rw e at (p .right) in
+      let l : (t : List ℕ) → 24 ≤ length t → length (throttleTail t) ≡ 12 = λ t h. length-take-le 12 (drop 12 t) (simp length-drop (omega arith)) in
+      let n : length (throttleTail s′) ≡ 12 = l s′ (omega arith) in
       ext-getD 0 _ _ (n ∙ sym (l s (omega (arith, p .within))))
       (λ i h.
       getD-take 12 (drop 12 s′) i 0 (omega arith) ∙ getD-drop 12 s′ i 0 ∙ same (12 + i) (omega arith)
       ∙ sym (getD-drop 12 s i 0) ∙ sym (getD-take 12 (drop 12 s) i 0 (omega arith)))
 
-  zeros-same : (b : Bool) → eqb (kindAt s) selectors.throttle ≡ b → cond b (zeros (tailAt s)) true ≡ true → cond b (zeros (tailAt s′)) true ≡ true
+  zeros-same : (b : Bool) → eqb (statedKind s) selectors.throttle ≡ b → cond b (zeros (throttleTail s)) true ≡ true → cond b (zeros (throttleTail s′)) true ≡ true
   zeros-same true e h = rw (same-tail (eqb-true _ _ e)) h
   zeros-same false e h = refl
 
@@ -155,51 +156,51 @@ module _ (s s′ : List ℕ) (p : Sound s) (long : lengthAt s ≤ length s′) (
   }
 
 -- where a record of key k stands
-pub stands-sound : (k : ℕ) (s : List ℕ) → stands k s ≡ true → Sound s × (keyAt s ≡ k)
+pub stands-sound : (k : ℕ) (s : List ℕ) → stands k s ≡ true → Sound s × (statedKey s ≡ k)
 unfolding stands
-stands-sound k s e = (sound-parts s (and-left _ (eqb (keyAt s) k) e), eqb-true (keyAt s) k (and-right (sound s) (eqb (keyAt s) k) e))
+stands-sound k s e = (sound-parts s (and-left _ (eqb (statedKey s) k) e), eqb-true (statedKey s) k (and-right (soundRecord s) (eqb (statedKey s) k) e))
 
-pub sound-stands : (k : ℕ) (s : List ℕ) → Sound s → keyAt s ≡ k → stands k s ≡ true
+pub sound-stands : (k : ℕ) (s : List ℕ) → Sound s → statedKey s ≡ k → stands k s ≡ true
 unfolding stands
-sound-stands k s p e = simp (parts-sound s p, eq-eqb (keyAt s) k e)
+sound-stands k s p e = simp (parts-sound s p, eq-eqb (statedKey s) k e)
 
 -- one record stands at a place
 pub stands-one : (j k : ℕ) (s : List ℕ) → stands j s ≡ true → stands k s ≡ true → j ≡ k
 stands-one j k s p q = sym (stands-sound j s p .1) ∙ stands-sound k s q .1
 
 pub stands-nil : (k : ℕ) → stands k [] ≡ false
-unfolding stands sound
+unfolding stands soundRecord
 stands-nil k = refl
 
 pub stands-below : (k : ℕ) (s : List ℕ) → stands k s ≡ true → k < keys
 stands-below k s e = let p = stands-sound k s e in rw (← (p .1)) (sound-of s (p .0) .key)
 
 -- it is the first `sizeOf k` bytes
-pub stands-size : (k : ℕ) (s : List ℕ) → stands k s ≡ true → sizeOf k ≡ lengthAt s
+pub stands-size : (k : ℕ) (s : List ℕ) → stands k s ≡ true → recordLength k ≡ statedLength s
 stands-size k s e = let p = stands-sound k s e in rw (p .1) at (sound-of s (p .0) .size)
 
-pub stands-long : (k : ℕ) (s : List ℕ) → stands k s ≡ true → sizeOf k ≤ length s
+pub stands-long : (k : ℕ) (s : List ℕ) → stands k s ≡ true → recordLength k ≤ length s
 stands-long k s e = omega (arith, stands-size k s e, stands-sound k s e .0 .within)
 
-pub stands-some : (k : ℕ) (s : List ℕ) → stands k s ≡ true → 8 ≤ sizeOf k
+pub stands-some : (k : ℕ) (s : List ℕ) → stands k s ≡ true → 8 ≤ recordLength k
 stands-some k s e = let p = stands-sound k s e in omega (arith, stands-size k s e, sound-of s (p .0) .eight)
 
-stands-same : (k : ℕ) (s s′ : List ℕ) → stands k s ≡ true → sizeOf k ≤ length s′
-    → ((i : ℕ) → i < sizeOf k → getD s′ i 0 ≡ getD s i 0) → stands k s′ ≡ true
+stands-same : (k : ℕ) (s s′ : List ℕ) → stands k s ≡ true → recordLength k ≤ length s′
+    → ((i : ℕ) → i < recordLength k → getD s′ i 0 ≡ getD s i 0) → stands k s′ ≡ true
 stands-same k s s′ e l f =
     let p = stands-sound k s e in
     let z = stands-size k s e in
-    let l′ : lengthAt s ≤ length s′ = omega arith in
-    let f′ : (i : ℕ) → i < lengthAt s → getD s′ i 0 ≡ getD s i 0 = λ i h. f i (omega arith) in
+    let l′ : statedLength s ≤ length s′ = omega arith in
+    let f′ : (i : ℕ) → i < statedLength s → getD s′ i 0 ≡ getD s i 0 = λ i h. f i (omega arith) in
     sound-stands k s′ (same-sound s s′ (p .0) l′ f′) (same-key s s′ (p .0) l′ f′ ∙ p .1)
 
 -- the record that stands there
-pub stands-record : (k : ℕ) (s : List ℕ) → stands k s ≡ true → Record k (take (sizeOf k) s)
+pub stands-record : (k : ℕ) (s : List ℕ) → stands k s ≡ true → RecordOf k (take (recordLength k) s)
 stands-record k s e =
-    let n = length-take-le (sizeOf k) s (stands-long k s e) in
-    record { long = n; is = stands-same k s _ e (omega arith) (λ i h. getD-take (sizeOf k) s i 0 h) }
+    let n = length-take-le (recordLength k) s (stands-long k s e) in
+    record { long = n; is = stands-same k s _ e (omega arith) (λ i h. getD-take (recordLength k) s i 0 h) }
 
 -- whatever follows it
-pub record-stands : (k : ℕ) (r t : List ℕ) → Record k r → stands k (r ++ t) ≡ true
+pub record-stands : (k : ℕ) (r t : List ℕ) → RecordOf k r → stands k (r ++ t) ≡ true
 record-stands k r t p =
     stands-same k r _ (p .is) (simp length-append (omega (arith, p .long))) (λ i h. List·getD-append r t 0 i (omega (arith, p .long)))

@@ -6,32 +6,33 @@ use mathlib.Core.Bool.{Bool, true, false, cond}
 use mathlib.Core.List.{List}
 use lib.Dec.{leb}
 use borrow.Author.Tests.{leb-true, leb-false}
-use Rattle.snapshot.specs.Form.{keys, sound, keyAt}
-use Rattle.snapshot.specs.Records.{stands, keyOf, skip, from}
+use Rattle.snapshot.specs.Keys.{keys}
+use Rattle.snapshot.specs.Form.{soundRecord, statedKey}
+use Rattle.snapshot.specs.Records.{stands, keyAt, skip, from}
 use Rattle.snapshot.proofs.Laws.Sound.{sound-parts, parts-sound, sound-of, stands-sound, sound-stands}
 use Rattle.snapshot.proofs.Laws.Maps.{not-true, skip-not}
 
-pub key-few : (t : List ℕ) → keyOf t ≤ keys
-unfolding keyOf
-key-few t = go (sound t) refl
+pub key-few : (t : List ℕ) → keyAt t ≤ keys
+unfolding keyAt
+key-few t = go (soundRecord t) refl
   where
-    go : (b : Bool) → sound t ≡ b → cond b (keyAt t) keys ≤ keys
+    go : (b : Bool) → soundRecord t ≡ b → cond b (statedKey t) keys ≤ keys
     go true e = omega (arith, sound-of t (sound-parts t e) .key)
     go false e = omega arith
 
-pub key-stands : (t : List ℕ) → keyOf t < keys → stands (keyOf t) t ≡ true
-unfolding keyOf
-key-stands t h = go (sound t) refl h
+pub key-stands : (t : List ℕ) → keyAt t < keys → stands (keyAt t) t ≡ true
+unfolding keyAt
+key-stands t h = go (soundRecord t) refl h
   where
-    go : (b : Bool) → sound t ≡ b → cond b (keyAt t) keys < keys → stands (cond b (keyAt t) keys) t ≡ true
-    go true e h = sound-stands (keyAt t) t (sound-parts t e) refl
+    go : (b : Bool) → soundRecord t ≡ b → cond b (statedKey t) keys < keys → stands (cond b (statedKey t) keys) t ≡ true
+    go true e h = sound-stands (statedKey t) t (sound-parts t e) refl
     go false e h = absurd (omega arith)
 
-stands-key : (k : ℕ) (t : List ℕ) → stands k t ≡ true → keyOf t ≡ k
-unfolding keyOf
+stands-key : (k : ℕ) (t : List ℕ) → stands k t ≡ true → keyAt t ≡ k
+unfolding keyAt
 stands-key k t e = let p = stands-sound k t e in simp (parts-sound t (p .0)) (p .1)
 
-pub other-stands : (k : ℕ) (t : List ℕ) → (keyOf t ≡ k → ⊥) → stands k t ≡ false
+pub other-stands : (k : ℕ) (t : List ℕ) → (keyAt t ≡ k → ⊥) → stands k t ≡ false
 other-stands k t h = not-true _ (λ e. h (stands-key k t e))
 
 pub stay : (s : List ℕ) (low k : ℕ) → low ≤ k → ((i : ℕ) → low ≤ i → i < k → stands i (from s low) ≡ false) → from s k ≡ from s low

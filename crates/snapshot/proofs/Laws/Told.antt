@@ -10,11 +10,12 @@ use lib.Seq.{take-add, drop-drop}
 use lib.Dec.{leb, eqb}
 use borrow.Author.Tests.{eqb-true, eqb-false, leb-true, ltb-true, le-leb, lt-ltb, eq-eqb, ne-eqb}
 use Rattle.wire.specs.Endpoints.{firstAddress, lastAddress, places}
-use Rattle.wire.specs.Number.{number, leAt}
+use Rattle.wire.specs.Numbers.{number, leAt}
 use Rattle.wire.specs.Rows.{allOf}
 use Rattle.wire.specs.Selectors as selectors
-use Rattle.snapshot.specs.Form.{keys, sizeOf, keyFor, zeros, tests, lengthAt, kindAt, tailAt, sound, keyAt}
-use Rattle.snapshot.specs.Records.{keyOf}
+use Rattle.snapshot.specs.Keys.{keys, recordLength, keyFor}
+use Rattle.snapshot.specs.Form.{zeros, recordTests, statedLength, statedKind, throttleTail, soundRecord, statedKey}
+use Rattle.snapshot.specs.Records.{keyAt}
 use Rattle.snapshot.specs.Steps.{keyBy}
 use Rattle.snapshot.proofs.Laws.Sound.{each, Sound, sound-parts, parts-sound, Kind, ev, face, metadata, hdr, throttle, kind-of, sound-address, sound-of}
 
@@ -40,10 +41,10 @@ by-face len n address b e =
 
 module _ (len n address : ℕ) where
   pub by-address : (eqb n 1 && leb firstAddress address && leb address lastAddress) ≡ true → firstAddress ≤ address → address ≤ lastAddress
-      → cond (eqb len (sizeOf (address - (firstAddress - 1)))) (address - (firstAddress - 1)) keys ≡ keyBy len selectors.face n address
+      → cond (eqb len (recordLength (address - (firstAddress - 1)))) (address - (firstAddress - 1)) keys ≡ keyBy len selectors.face n address
   by-address e h l =
       let k = address - (firstAddress - 1) in
-      let z : sizeOf k ≡ 13 = simp (ne-eqb k 0 (omega arith), le-leb k places (omega arith)) in
+      let z : recordLength k ≡ 13 = simp (ne-eqb k 0 (omega arith), le-leb k places (omega arith)) in
       rw z (sym (by-face len n address true e ∙ ap (λ c. cond c k keys) (and-true (eqb len 13))))
 
   pub no-address : (eqb n 1 && leb firstAddress address && leb address lastAddress) ≡ false → keys ≡ keyBy len selectors.face n address
@@ -65,7 +66,7 @@ zeros-append [] b = refl
 zeros-append (x ∷ a) b = ap (λ z. eqb x 0 && z) (zeros-append a b) ∙ sym (and-assoc (eqb x 0) (zeros a) (zeros b))
 
 -- the throttle's tail is three numbers of four bytes
-pub zero-words : (s : List ℕ) → (eqb (leAt 4 s 12) 0 && eqb (leAt 4 s 16) 0 && eqb (leAt 4 s 20) 0) ≡ zeros (tailAt s)
+pub zero-words : (s : List ℕ) → (eqb (leAt 4 s 12) 0 && eqb (leAt 4 s 16) 0 && eqb (leAt 4 s 20) 0) ≡ zeros (throttleTail s)
 unfolding leAt
 zero-words s =
     let t = drop 12 s in
@@ -75,44 +76,44 @@ zero-words s =
 
 -- the key by what the record at the start of s states
 abbrev pub told : List ℕ → ℕ
-told s = keyBy (lengthAt s) (kindAt s) (getD s 4 0) (getD s 5 0)
+told s = keyBy (statedLength s) (statedKind s) (getD s 4 0) (getD s 5 0)
 
 abbrev stated : List ℕ → Bool
-stated s = allOf (tests (lengthAt s) (lengthAt s) (kindAt s) (getD s 4 0) (getD s 5 0) true)
+stated s = allOf (recordTests (statedLength s) (statedLength s) (statedKind s) (getD s 4 0) (getD s 5 0) true)
 
 either : (b : Bool) → cond b true true ≡ true
 either true = refl
 either false = refl
 
 module _ (s : List ℕ) where
-  sound-key : sound s ≡ true → keyOf s ≡ keyFor (kindAt s) (getD s 5 0)
-  unfolding keyOf keyAt
+  sound-key : soundRecord s ≡ true → keyAt s ≡ keyFor (statedKind s) (getD s 5 0)
+  unfolding keyAt statedKey
   sound-key e = simp e
 
-  no-key : (sound s ≡ true → ⊥) → keys ≡ keyOf s
-  unfolding keyOf
-  no-key h = go (sound s) h
+  no-key : (soundRecord s ≡ true → ⊥) → keys ≡ keyAt s
+  unfolding keyAt
+  no-key h = go (soundRecord s) h
     where
-      go : (b : Bool) → (b ≡ true → ⊥) → keys ≡ cond b (keyAt s) keys
+      go : (b : Bool) → (b ≡ true → ⊥) → keys ≡ cond b (statedKey s) keys
       go true h = absurd (h refl)
       go false h = refl
 
-  pub short-none : length s < 8 → keys ≡ keyOf s
+  pub short-none : length s < 8 → keys ≡ keyAt s
   short-none h = no-key (λ e. let p = sound-parts s e in omega (arith, p .within, sound-of s p .eight))
 
-  pub cut-none : length s < lengthAt s → keys ≡ keyOf s
+  pub cut-none : length s < statedLength s → keys ≡ keyAt s
   cut-none h = no-key (λ e. omega (arith, sound-parts s e .within))
 
-  sound-stated : sound s ≡ true → stated s ≡ true
+  sound-stated : soundRecord s ≡ true → stated s ≡ true
   sound-stated e =
       let p = sound-parts s e in
-      simp (le-leb 4 (lengthAt s) (omega (arith, sound-of s p .eight)), le-leb (lengthAt s) (lengthAt s) (omega arith), lt-ltb _ _ (p .known), eq-eqb _ _ (p .right), p .face, either)
+      simp (le-leb 4 (statedLength s) (omega (arith, sound-of s p .eight)), le-leb (statedLength s) (statedLength s) (omega arith), lt-ltb _ _ (p .known), eq-eqb _ _ (p .right), p .face, either)
 
-  stated-sound : stated s ≡ true → lengthAt s ≤ length s → cond (eqb (kindAt s) selectors.throttle) (zeros (tailAt s)) true ≡ true → sound s ≡ true
+  stated-sound : stated s ≡ true → statedLength s ≤ length s → cond (eqb (statedKind s) selectors.throttle) (zeros (throttleTail s)) true ≡ true → soundRecord s ≡ true
   stated-sound e h t =
-      let at = each (tests (lengthAt s) (lengthAt s) (kindAt s) (getD s 4 0) (getD s 5 0) true) e in
+      let at = each (recordTests (statedLength s) (statedLength s) (statedKind s) (getD s 4 0) (getD s 5 0) true) e in
       parts-sound s record {
-        four = omega (arith, leb-true 4 (lengthAt s) (at 0));
+        four = omega (arith, leb-true 4 (statedLength s) (at 0));
         within = h;
         known = ltb-true _ _ (at 2);
         right = eqb-true _ _ (at 3);
@@ -121,28 +122,28 @@ module _ (s : List ℕ) where
       }
 
   -- the tests of a throttle's own tail aside, the key is told
-  module _ (h : lengthAt s ≤ length s) where
-    pub other-key : (told s ≡ 3 + places → ⊥) → told s ≡ keyOf s
+  module _ (h : statedLength s ≤ length s) where
+    pub other-key : (told s ≡ 3 + places → ⊥) → told s ≡ keyAt s
     other-key n = go (stated s) refl n
       where
-        go : (b : Bool) → stated s ≡ b → (cond b (keyFor (kindAt s) (getD s 5 0)) keys ≡ 3 + places → ⊥)
-            → cond b (keyFor (kindAt s) (getD s 5 0)) keys ≡ keyOf s
+        go : (b : Bool) → stated s ≡ b → (cond b (keyFor (statedKind s) (getD s 5 0)) keys ≡ 3 + places → ⊥)
+            → cond b (keyFor (statedKind s) (getD s 5 0)) keys ≡ keyAt s
         go true e n =
-            let k : kindAt s ≡ selectors.throttle → ⊥ = λ q. n (rw q refl) in
+            let k : statedKind s ≡ selectors.throttle → ⊥ = λ q. n (rw q refl) in
             sym (sound-key (stated-sound e h (simp (ne-eqb _ _ k))))
         go false e n = no-key (λ p. true≢false (sym (sound-stated p) ∙ e))
 
-    pub zero-key : told s ≡ 3 + places → zeros (tailAt s) ≡ true → told s ≡ keyOf s
+    pub zero-key : told s ≡ 3 + places → zeros (throttleTail s) ≡ true → told s ≡ keyAt s
     zero-key q z = go (stated s) refl q
       where
-        go : (b : Bool) → stated s ≡ b → cond b (keyFor (kindAt s) (getD s 5 0)) keys ≡ 3 + places → cond b (keyFor (kindAt s) (getD s 5 0)) keys ≡ keyOf s
-        go true e q = sym (sound-key (stated-sound e h (rw z (either (eqb (kindAt s) selectors.throttle)))))
+        go : (b : Bool) → stated s ≡ b → cond b (keyFor (statedKind s) (getD s 5 0)) keys ≡ 3 + places → cond b (keyFor (statedKind s) (getD s 5 0)) keys ≡ keyAt s
+        go true e q = sym (sound-key (stated-sound e h (rw z (either (eqb (statedKind s) selectors.throttle)))))
         go false e q = absurd (omega arith)
 
-    pub tail-none : told s ≡ 3 + places → zeros (tailAt s) ≡ false → keys ≡ keyOf s
-    tail-none q z = no-key λ e. let p = sound-parts s e in go p (kind-of (kindAt s) (p .known)) (rw (sound-stated e) at q)
+    pub tail-none : told s ≡ 3 + places → zeros (throttleTail s) ≡ false → keys ≡ keyAt s
+    tail-none q z = no-key λ e. let p = sound-parts s e in go p (kind-of (statedKind s) (p .known)) (rw (sound-stated e) at q)
       where
-        go : Sound s → Kind (kindAt s) → keyFor (kindAt s) (getD s 5 0) ≡ 3 + places → ⊥
+        go : Sound s → Kind (statedKind s) → keyFor (statedKind s) (getD s 5 0) ≡ 3 + places → ⊥
         go p (ev e) q = let f : 0 ≡ 3 + places = rw e at q in omega arith
         go p (face e) q = let f : getD s 5 0 - (firstAddress - 1) ≡ 3 + places = rw e at q in omega (arith, sound-address s p e)
         go p (metadata e) q = let f : 1 + places ≡ 3 + places = rw e at q in omega arith

@@ -6,14 +6,14 @@ use Prim.Native.Nat.{ℕ, _^_, _<_, _≤_}
 use lib.Dec.{ltb}
 use lib.ListN.{length}
 use borrow.Author.Tests.{ltb-false}
-use Rattle.wire.specs.Number.{leAt, bytesOf}
+use Rattle.wire.specs.Numbers.{leAt, bytesOf}
 use Rattle.wire.specs.Rows.{_⇒_}
 use Rattle.wire.specs.Uvc.{invalidValue, outOfRange}
 use Rattle.wire.proofs.Laws.Rows.{quiet}
 use Rattle.wire.proofs.Laws.Bytes.{number-bytes}
 use Rattle.controls.specs.declared.ThrottleSetting.{ThrottleSetting}
 use Rattle.controls.specs.declared.Setting.the-variants as S
-use Rattle.controls.specs.Settings.{itemOf}
+use Rattle.controls.specs.Controls.{itemOf}
 use Rattle.throttle.specs.declared.ThrottleLimits.{ThrottleLimits}
 use Rattle.throttle.specs.Throttle.{throttleRefusal, throttleItem, throttleBytes}
 

@@ -3,8 +3,8 @@ use Rattle.throttle.specs.Throttle.{throttleAnswer}
 use Rattle.throttle.proofs.answer.Statement.{statement}
 use Rattle.throttle.proofs.answer.Tie as tie
 
-at-requires : tie.Need-at-requires
-at-requires c κs = search needs
+attribute-requires : tie.Need-attribute-requires
+attribute-requires c κs = search needs
 
 bytes-requires : tie.Need-bytes-requires
 bytes-requires c κs = search needs
@@ -17,9 +17,9 @@ answer-by-requires c κs = search needs
 
 returns : tie.Need-returns
 unfolding throttleAnswer
-returns c = rw (c .answer-by .ensures, c .before .before .bytes .ensures, c .before .before .before .at .ensures)
+returns c = rw (c .answer-by .ensures, c .before .before .bytes .ensures, c .before .before .before .attribute .ensures)
 
 pub answer-spec : {M : Type 1} → statement M
 answer-spec =
     tie.close
-    (tie.spec at-requires bytes-requires slice-aggregate-answer-by answer-by-requires returns)
+    (tie.spec attribute-requires bytes-requires slice-aggregate-answer-by answer-by-requires returns)

@@ -8,12 +8,12 @@ use Rattle.throttle.proofs.refusal.Statement.{statement}
 use Rattle.throttle.proofs.refusal.Tie as tie
 
 -- past the limits and the mode the step answers
-last : (c : tie.After-is-multiple)
-    → let a = c .before .before .before .before .before .before .args in throttleRefusal (a .l) (a .mode) (a .percent) ≡ cond (not (c .is-multiple .result)) invalidValue 0
+last : (c : tie.After-divides)
+    → let a = c .before .before .before .before .before .before .args in throttleRefusal (a .l) (a .mode) (a .percent) ≡ cond (not (c .divides .result)) invalidValue 0
 unfolding throttleRefusal
 last c =
     let a = c .before .before .before .before .before .before .args in
-    rw (le-ltb (a .percent) (a .l .minimum) (c .before .before .before .before .if1 .left), le-ltb (a .l .maximum) (a .percent) (c .before .before .if2 .left), le-ltb 1 (a .mode) (c .before .if3 .left), c .is-multiple .ensures)
+    rw (le-ltb (a .percent) (a .l .minimum) (c .before .before .before .before .if1 .left), le-ltb (a .l .maximum) (a .percent) (c .before .before .if2 .left), le-ltb 1 (a .mode) (c .before .if3 .left), c .divides .ensures)
 
 returns : tie.Need-returns
 unfolding throttleRefusal
@@ -33,8 +33,8 @@ returns-3 c =
     let a = c .before .before .before .before .before .args in
     rw (le-ltb (a .percent) (a .l .minimum) (c .before .before .before .if1 .left), le-ltb (a .l .maximum) (a .percent) (c .before .if2 .left), lt-ltb 1 (a .mode) (c .if3 .taken))
 
-is-multiple-requires : tie.Need-is-multiple-requires
-is-multiple-requires c κs = search needs
+divides-requires : tie.Need-divides-requires
+divides-requires c κs = search needs
 
 returns-4 : tie.Need-returns-4
 returns-4 c = rw (last (c .before), c .if4 .taken)
@@ -44,4 +44,4 @@ returns-5 c = rw (last (c .before), c .if4 .left)
 
 pub refusal-spec : {M : Type 1} → statement M
 refusal-spec =
-    tie.close (tie.spec returns returns-2 returns-3 is-multiple-requires returns-4 returns-5)
+    tie.close (tie.spec returns returns-2 returns-3 divides-requires returns-4 returns-5)

@@ -11,7 +11,7 @@ use lib.Seq.{take-at, take-all, drop-at, take-length, getD-take}
 use mir.Syntax.{w8}
 use mir.Val.{Fits}
 use borrow.Author.Tests.{ltb-true, ltb-false}
-use Rattle.wire.specs.Number.{number, leAt, bytesOf}
+use Rattle.wire.specs.Numbers.{number, leAt, bytesOf}
 use Rattle.wire.proofs.Laws.Numbers.{Bytes, bytes-drop}
 
 pub length-bytes : (k n : ℕ) → length (bytesOf k n) ≡ k

@@ -11,7 +11,7 @@ use lib.Seq.{drop-cons, drop-drop, take-nil, getD-drop}
 use mir.Syntax.{w8}
 use mir.Val.{Fits}
 use borrow.Author.Tests.{ltb-true, ltb-false}
-use Rattle.wire.specs.Number.{number, leAt}
+use Rattle.wire.specs.Numbers.{number, leAt}
 
 -- the elements of a list of bytes
 abbrev pub Bytes : List ℕ → Type 0

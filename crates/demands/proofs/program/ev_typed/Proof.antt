@@ -5,8 +5,8 @@ use mir.Val.{Fits}
 use borrow.Author.Needs.{needs}
 use Rattle.controls.specs.declared.Setting.{Setting}
 use Rattle.controls.specs.declared.Setting.the-variants as S
-use Rattle.settings.specs.Settings.{evHeld}
-use Rattle.demands.specs.Records.{flagsOf}
+use Rattle.settings.specs.Held.{evHeld}
+use Rattle.demands.specs.Cameras.{settingFlags}
 use Rattle.demands.proofs.Laws.Held.{none-never, some-is}
 use Rattle.demands.proofs.program.ev_typed.Statement.{statement}
 use Rattle.demands.proofs.program.ev_typed.Tie as tie
@@ -25,7 +25,7 @@ returns-2 c =
     let h = c .before in
     let v = h .held .given .0 .0 in
     let f : Fits w8 (v .flags) = search needs in
-    λ s e. some-is (λ (t : Setting). flagsOf t < 2 ^ 8) (S.Ev v) s (sym (ap evHeld (h .held .given .1)) ∙ e) (f .fits)
+    λ s e. some-is (λ (t : Setting). settingFlags t < 2 ^ 8) (S.Ev v) s (sym (ap evHeld (h .held .given .1)) ∙ e) (f .fits)
 
 pub ev-typed-spec : {M : Type 1} → statement M
 ev-typed-spec = tie.close (tie.spec enum-told enum-known-held returns returns-2)

@@ -32,12 +32,12 @@ add-word c = search needs
 word-requires-2 : tie.Need-word-requires-2
 word-requires-2 c κs = search needs
 
-may-stand-requires : tie.Need-may-stand-requires
-may-stand-requires c κs = search needs
+allowed-requires : tie.Need-allowed-requires
+allowed-requires c κs = search needs
 
 returns-4 : tie.Need-returns-4
 unfolding Looked
-returns-4 c = sym (not-here _ _ _ _ (omega arith) _ _ (c .before .may-stand .ensures) (omega arith) (not-true _ (c .if4 .taken)))
+returns-4 c = sym (not-here _ _ _ _ (omega arith) _ _ (c .before .allowed .ensures) (omega arith) (not-true _ (c .if4 .taken)))
 
 returns-5 : tie.Need-returns-5
 unfolding Looked
@@ -45,7 +45,7 @@ returns-5 c = (
   omega arith,
   omega arith,
   omega arith,
-  of-property _ _ _ _ (omega arith) _ _ (c .before .before .may-stand .ensures) (omega arith) (not-false _ (c .before .if4 .left))
+  of-property _ _ _ _ (omega arith) _ _ (c .before .before .allowed .ensures) (omega arith) (not-false _ (c .before .if4 .left))
       (omega arith) _ (omega arith),
 )
 
@@ -53,7 +53,7 @@ returns-6 : tie.Need-returns-6
 unfolding Looked
 returns-6 c =
     sym
-    (of-opaque _ _ _ _ (omega arith) _ _ (c .before .before .before .may-stand .ensures) (omega arith)
+    (of-opaque _ _ _ _ (omega arith) _ _ (c .before .before .before .allowed .ensures) (omega arith)
     (not-false _ (c .before .before .if4 .left)) (omega arith) (omega arith) _ (omega arith))
 
 subset-at-requires : tie.Need-subset-at-requires
@@ -61,7 +61,7 @@ subset-at-requires c κs = search needs
 
 returns-7 : tie.Need-returns-7
 returns-7 c =
-    looked-subset _ _ _ _ (omega arith) _ _ (c .before .before .before .before .may-stand .ensures) (omega arith)
+    looked-subset _ _ _ _ (omega arith) _ _ (c .before .before .before .before .allowed .ensures) (omega arith)
     (not-false _ (c .before .before .before .if4 .left)) (omega arith) _ (c .subset-at .ensures)
 
 pub look-spec : {M : Type 1} → statement M
@@ -75,7 +75,7 @@ look-spec =
     returns-3
     add-word
     word-requires-2
-    may-stand-requires
+    allowed-requires
     returns-4
     returns-5
     returns-6

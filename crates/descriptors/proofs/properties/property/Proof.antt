@@ -19,12 +19,12 @@ abbrev μ-loop : tie.MeasureT-loop
 good-header-requires : tie.Need-good-header-requires Inv-loop μ-loop
 good-header-requires c κs = search needs
 
-refused-with-requires : tie.Need-refused-with-requires Inv-loop μ-loop
-refused-with-requires c κs = search needs
+refused-property-requires : tie.Need-refused-property-requires Inv-loop μ-loop
+refused-property-requires c κs = search needs
 
 returns : tie.Need-returns Inv-loop μ-loop
 returns c =
-    c .refused-with .ensures ∙ bad-header _ _ (sym (c .before .before .good-header .ensures .0) ∙ not-true _ (c .before .if1 .taken))
+    c .refused-property .ensures ∙ bad-header _ _ (sym (c .before .before .good-header .ensures .0) ∙ not-true _ (c .before .if1 .taken))
 
 start-requires : tie.Need-start-requires Inv-loop μ-loop
 start-requires c κs = search needs
@@ -45,25 +45,25 @@ loop-less c = c .next .ensures .1
 loop-again : tie.Need-loop-again Inv-loop μ-loop
 loop-again c = (c .next .ensures .0, c .before .before .before .loop .inv .1)
 
-cast-refused-with : tie.Need-cast-refused-with Inv-loop μ-loop
-cast-refused-with c =
+cast-refused-property : tie.Need-cast-refused-property Inv-loop μ-loop
+cast-refused-property c =
     omega (arith, refused-there _ _ _ (c .before .before .before .loop .inv) (c .before .if2 .left) (c .if3 .taken) .1)
 
-refused-with-requires-2 : tie.Need-refused-with-requires-2 Inv-loop μ-loop
-refused-with-requires-2 c κs = search needs
+refused-property-requires-2 : tie.Need-refused-property-requires-2 Inv-loop μ-loop
+refused-property-requires-2 c κs = search needs
 
 returns-2 : tie.Need-returns-2 Inv-loop μ-loop
 returns-2 c =
-    c .refused-with2 .ensures ∙
+    c .refused-property2 .ensures ∙
     refused-there _ _ _ (c .before .before .before .before .loop .inv)
     (c .before .before .if2 .left) (c .before .if3 .taken) .0
 
-refused-with-requires-3 : tie.Need-refused-with-requires-3 Inv-loop μ-loop
-refused-with-requires-3 c κs = search needs
+refused-property-requires-3 : tie.Need-refused-property-requires-3 Inv-loop μ-loop
+refused-property-requires-3 c κs = search needs
 
 returns-3 : tie.Need-returns-3 Inv-loop μ-loop
 returns-3 c =
-    c .refused-with3 .ensures ∙
+    c .refused-property3 .ensures ∙
     none-such _ _ _ (c .before .before .before .before .before .before .loop .inv)
     (c .before .before .before .before .if2 .left) (c .before .before .before .if3 .left) (c .before .if4 .taken)
 
@@ -85,17 +85,17 @@ property-spec =
     Inv-loop
     μ-loop
     good-header-requires
-    refused-with-requires
+    refused-property-requires
     returns
     start-requires
     loop-holds
     next-requires
     loop-less
     loop-again
-    cast-refused-with
-    refused-with-requires-2
+    cast-refused-property
+    refused-property-requires-2
     returns-2
-    refused-with-requires-3
+    refused-property-requires-3
     returns-3
     found-at-requires
     returns-4)

@@ -7,7 +7,7 @@ use lib.ListN.{length}
 use denote.Ref.{now}
 use borrow.Author.Tests.{not-true, not-false}
 use borrow.Author.Needs.{needs}
-use Rattle.descriptors.specs.Reading.{goodHeader}
+use Rattle.descriptors.specs.Set.{goodHeader}
 use Rattle.descriptors.proofs.Laws.Whole.{header-room, bad-set, Told, check-sound, check-refused}
 use Rattle.descriptors.proofs.set.check.Statement.{statement}
 use Rattle.descriptors.proofs.set.check.Tie as tie

@@ -7,10 +7,10 @@ use native.Mathlib.Omega.{arith}
 use borrow.Author.Needs.{needs}
 use borrow.Fn.Kinds.{In}
 use borrow.Fn.PlainCycle.{Measures, is, falls, and}
-use Rattle.descriptors.specs.Stops.{stopFrom}
+use Rattle.descriptors.specs.Walk.{stopFrom}
 use Rattle.descriptors.proofs.Laws.Rows.{told-refused, told-opaque, told-property, told-subset}
 use Rattle.descriptors.proofs.Laws.Sound.{known-as}
-use Rattle.descriptors.proofs.Laws.Stops.{stop-refused, stop-opaque, stop-property, stop-subset, stopped, turn}
+use Rattle.descriptors.proofs.Laws.Walk.{stop-refused, stop-opaque, stop-property, stop-subset, stopped, turn}
 use Rattle.descriptors.proofs.walk.read.Reads as read
 use Rattle.descriptors.proofs.walk.read.Kinds as read-kinds
 use Rattle.descriptors.proofs.walk.+read+walk.Lts-read as read-lts
@@ -18,7 +18,7 @@ use Rattle.descriptors.proofs.walk.walk.Reads as walk
 use Rattle.descriptors.proofs.walk.walk.Kinds as walk-kinds
 use Rattle.descriptors.proofs.walk.+read+walk.Lts-walk as walk-lts
 use Rattle.descriptors.proofs.header.look.Reads as look-reads
-use Rattle.descriptors.proofs.walk.refused.Reads as refused-reads
+use Rattle.descriptors.proofs.walk.refusal_number.Reads as refused-reads
 use Rattle.descriptors.proofs.walk.property_stop.Reads as stop-reads
 use Rattle.descriptors.proofs.walk.+read+walk.{statement}
 use Rattle.descriptors.proofs.walk.+read+walk.Tie.{close}
@@ -56,7 +56,7 @@ read-look-requires t c κs = omega arith
 read-enum-known-code : (t : ℕ) → read-lts.Need-enum-known-code (read-calls t) (read-at t) read.Post
 read-enum-known-code t c = search needs
 
-read-refused-requires : (t : ℕ) → read-lts.Need-refused-requires (read-calls t) (read-at t) read.Post
+read-refused-requires : (t : ℕ) → read-lts.Need-refusal-number-requires (read-calls t) (read-at t) read.Post
 read-refused-requires t c κs = omega arith
 
 read-enum-known-size : (t : ℕ) → read-lts.Need-enum-known-size (read-calls t) (read-at t) read.Post
@@ -85,7 +85,7 @@ read-walk-requires t c κs = omega (arith, known-as _ _ _ _ _ (told-subset _ _ _
 
 read-returns : (t : ℕ) → read-lts.Need-returns (read-calls t) (read-at t) read.Post
 read-returns t c =
-    c .refused .ensures ∙ stop-refused _ _ _ _ _ (told-refused _ _ _ _ (c .before .before .before .before .look .ensures) (c .before .before .code .given .1))
+    c .refusal-number .ensures ∙ stop-refused _ _ _ _ _ (told-refused _ _ _ _ (c .before .before .before .before .look .ensures) (c .before .before .code .given .1))
 
 read-returns-2 : (t : ℕ) → read-lts.Need-returns-2 (read-calls t) (read-at t) read.Post
 read-returns-2 t c = stop-opaque _ _ _ _ _ (told-opaque _ _ _ _ (c .before .before .before .look .ensures) (c .before .size .given .1))

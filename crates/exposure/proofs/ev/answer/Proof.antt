@@ -3,12 +3,12 @@ use mathlib.Core.List.{List}
 use Prim.Native.Nat.{ℕ}
 use borrow.Author.Needs.{needs}
 use Rattle.request.specs.Answers.{packed, answerBy}
-use Rattle.exposure.specs.Ev.{evBytes, evAnswer}
+use Rattle.exposure.specs.Exposure.{evBytes, evAnswer}
 use Rattle.exposure.proofs.ev.answer.Statement.{statement}
 use Rattle.exposure.proofs.ev.answer.Tie as tie
 
-at-requires : tie.Need-at-requires
-at-requires c κs = search needs
+attribute-requires : tie.Need-attribute-requires
+attribute-requires c κs = search needs
 
 bytes-requires : tie.Need-bytes-requires
 bytes-requires c κs = search needs
@@ -24,9 +24,9 @@ unfolding evAnswer
 returns c =
     let b = c .before .before in
     let code = b .before .before .args .code in
-    c .answer-by .ensures ∙ ap (λ (s : List ℕ). packed (answerBy code 11 0x13 s)) (b .bytes .ensures ∙ ap evBytes (b .before .at .ensures))
+    c .answer-by .ensures ∙ ap (λ (s : List ℕ). packed (answerBy code 11 0x13 s)) (b .bytes .ensures ∙ ap evBytes (b .before .attribute .ensures))
 
 pub answer-spec : {M : Type 1} → statement M
 answer-spec =
     tie.close
-    (tie.spec at-requires bytes-requires slice-aggregate-answer-by answer-by-requires returns)
+    (tie.spec attribute-requires bytes-requires slice-aggregate-answer-by answer-by-requires returns)

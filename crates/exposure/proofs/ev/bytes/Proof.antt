@@ -6,8 +6,8 @@ use mir.Syntax.{w32}
 use mir.Val.{SFits}
 use mir.Facts.{toZ-ofZ}
 use borrow.Author.Needs.{needs}
-use Rattle.wire.specs.Number.{bytesOf}
-use Rattle.exposure.specs.Ev.{bits32, evBytes}
+use Rattle.wire.specs.Numbers.{bytesOf}
+use Rattle.exposure.specs.Exposure.{bits32, evBytes}
 use Rattle.wire.proofs.Laws.Bytes.{bytes-byte}
 use Rattle.exposure.proofs.ev.bytes.Statement.{statement}
 use Rattle.exposure.proofs.ev.bytes.Tie as tie

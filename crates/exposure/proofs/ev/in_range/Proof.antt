@@ -9,7 +9,7 @@ use mir.Syntax.{w32, w64, w8}
 use mir.Val.{Fits, SFits, toZ, ofZ}
 use mir.Facts.{toZ-ofZ, sfits-widen}
 use borrow.Author.Needs.{needs}
-use Rattle.exposure.specs.Ev.{inRange}
+use Rattle.exposure.specs.Exposure.{inRange}
 use Rattle.exposure.proofs.Laws.Signed.{product-fits, product-is}
 use Rattle.exposure.proofs.ev.in_range.Statement.{statement}
 use Rattle.exposure.proofs.ev.in_range.Tie as tie
@@ -37,32 +37,32 @@ cast-v : tie.Need-cast-v
 cast-v c = widened-fits (c .args .value) (search needs)
 
 cast-result : tie.Need-cast-result
-cast-result c = widened-fits (c .before .before .args .l .low) (search needs)
+cast-result c = widened-fits (c .before .before .args .l .minimum) (search needs)
 
 cast-result-2 : tie.Need-cast-result-2
 cast-result-2 c = search needs
 
 mul-result : tie.Need-mul-result
-mul-result c = limit-fits (c .before .before .args .l .low) (search needs) (c .before .before .args .d) (search needs)
+mul-result c = limit-fits (c .before .before .args .l .minimum) (search needs) (c .before .before .args .d) (search needs)
 
 cast-result-3 : tie.Need-cast-result-3
-cast-result-3 c = widened-fits (c .before .before .before .before .args .l .high) (search needs)
+cast-result-3 c = widened-fits (c .before .before .before .before .args .l .maximum) (search needs)
 
 cast-result-4 : tie.Need-cast-result-4
 cast-result-4 c = search needs
 
 mul-result-2 : tie.Need-mul-result-2
-mul-result-2 c = limit-fits (c .before .before .before .before .args .l .high) (search needs) (c .before .before .before .before .args .d) (search needs)
+mul-result-2 c = limit-fits (c .before .before .before .before .args .l .maximum) (search needs) (c .before .before .before .before .args .d) (search needs)
 
 returns : tie.Need-returns
 unfolding inRange
 returns c =
     let a = c .before .before .before .before .args in
-    let f : SFits w32 (a .l .low) = search needs in
-    let g : SFits w32 (a .l .high) = search needs in
+    let f : SFits w32 (a .l .minimum) = search needs in
+    let g : SFits w32 (a .l .maximum) = search needs in
     let h : SFits w32 (a .value) = search needs in
     let d : Fits w8 (a .d) = search needs in
-    ap₂ _&&_ (ap₂ leZ (limit-is (a .l .low) f (a .d) d) (widened-is (a .value) h)) (ap₂ leZ (widened-is (a .value) h) (limit-is (a .l .high) g (a .d) d))
+    ap₂ _&&_ (ap₂ leZ (limit-is (a .l .minimum) f (a .d) d) (widened-is (a .value) h)) (ap₂ leZ (widened-is (a .value) h) (limit-is (a .l .maximum) g (a .d) d))
 
 pub in-range-spec : {M : Type 1} → statement M
 in-range-spec =

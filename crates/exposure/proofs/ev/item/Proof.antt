@@ -10,9 +10,9 @@ use Rattle.exposure.specs.declared.ev.EvLimits.{EvLimits}
 use Rattle.controls.specs.declared.Item.{Item}
 use Rattle.controls.specs.declared.Item.the-variants.{Refused, Given}
 use Rattle.controls.specs.declared.Setting.the-variants.{Ev}
-use Rattle.exposure.specs.Ev.{signed32, evFlags, evValue, evRefusal, evItem}
-use Rattle.controls.proofs.Laws.Settings.{item-given, item-refused}
-use Rattle.exposure.proofs.Laws.Ev.{accepted-below}
+use Rattle.exposure.specs.Exposure.{signed32, evFlags, evValue, evRefusal, evItem}
+use Rattle.controls.proofs.Laws.Controls.{item-given, item-refused}
+use Rattle.exposure.proofs.Laws.Exposure.{accepted-below}
 use Rattle.exposure.proofs.ev.item.Statement.{statement}
 use Rattle.exposure.proofs.ev.item.Tie as tie
 

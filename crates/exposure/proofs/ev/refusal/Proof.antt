@@ -3,11 +3,11 @@ use Prim.Native.Nat.{ℕ}
 use lib.IntN.{ℤ}
 use mir.Facts.{toZ-ofZ}
 use borrow.Author.Needs.{needs}
-use Rattle.flags.specs.Flags.{choiceOf}
+use Rattle.flags.specs.Flags.{oneFlag}
 use Rattle.flags.specs.declared.Choice.the-variants.{At}
 use Rattle.exposure.specs.declared.ev.EvLimits.{EvLimits}
-use Rattle.exposure.specs.Ev.{divisor, inRange}
-use Rattle.exposure.proofs.Laws.Ev.{refused-flags, refused-value, accepted}
+use Rattle.exposure.specs.Exposure.{divisor, inRange}
+use Rattle.exposure.proofs.Laws.Exposure.{refused-flags, refused-value, accepted}
 use Rattle.exposure.proofs.ev.refusal.Statement.{statement}
 use Rattle.exposure.proofs.ev.refusal.Tie as tie
 
@@ -22,11 +22,11 @@ module _ (c : tie.After-in-range) where
   abbrev value : ℤ
   value = c .before .before .before .before .before .before .args .value
 
-  chosen : choiceOf (l .steps) (c .before .before .before .before .before .before .args .flags) ≡ At place
+  chosen : oneFlag (l .steps) (c .before .before .before .before .before .before .args .flags) ≡ At place
   chosen = sym (c .before .before .before .before .before .one-flag .ensures) ∙ c .before .before .before .place .given .1
 
   ranged : c .in-range .result ≡ inRange l (divisor place) value
-  ranged = c .in-range .ensures ∙ ap₂ (inRange l) (c .before .divisor-of .ensures) (toZ-ofZ (c .before .before .before .before .before .before .fits .value))
+  ranged = c .in-range .ensures ∙ ap₂ (inRange l) (c .before .divisor .ensures) (toZ-ofZ (c .before .before .before .before .before .before .fits .value))
 
 one-flag-requires : tie.Need-one-flag-requires
 one-flag-requires c κs = search needs
@@ -37,8 +37,8 @@ enum-told c = search needs
 enum-known-place : tie.Need-enum-known-place
 enum-known-place c = search needs
 
-divisor-of-requires : tie.Need-divisor-of-requires
-divisor-of-requires c κs = search needs
+divisor-requires : tie.Need-divisor-requires
+divisor-requires c κs = search needs
 
 in-range-requires : tie.Need-in-range-requires
 in-range-requires c κs = search needs
@@ -59,7 +59,7 @@ refusal-spec =
     one-flag-requires
     enum-told
     enum-known-place
-    divisor-of-requires
+    divisor-requires
     in-range-requires
     returns
     returns-2

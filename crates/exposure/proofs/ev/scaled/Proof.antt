@@ -10,13 +10,13 @@ use mir.Val.{SFits, toZ, ofZ}
 use mir.Facts.{toZ-ofZ}
 use borrow.Author.Needs.{needs}
 use borrow.Author.Tests.{not-true, not-false}
-use Rattle.flags.specs.Flags.{choiceOf}
+use Rattle.flags.specs.Flags.{oneFlag}
 use Rattle.flags.specs.declared.Choice.the-variants.{At}
 use Rattle.exposure.specs.declared.ev.EvLimits.{EvLimits}
 use Rattle.controls.specs.declared.EvSetting.{EvSetting}
-use Rattle.exposure.specs.Ev.{evValid, divisor, inRange, unitsPerStop}
+use Rattle.exposure.specs.Exposure.{evValid, divisor, inRange, unitsPerStop}
 use Rattle.exposure.proofs.Laws.Signed.{product-fits, product-is}
-use Rattle.exposure.proofs.Laws.Ev.{divisor-pos, range-small, scaled-invalid, scaled-flags, scaled-value, scaled-is}
+use Rattle.exposure.proofs.Laws.Exposure.{divisor-pos, range-small, scaled-invalid, scaled-flags, scaled-value, scaled-is}
 use Rattle.exposure.proofs.ev.scaled.Statement.{statement}
 use Rattle.exposure.proofs.ev.scaled.Tie as tie
 
@@ -41,11 +41,11 @@ module _ (c : tie.After-in-range) where
   is-valid : evValid l ≡ true
   is-valid = valid (c .before .before .before .before .before .before .before .before)
 
-  chosen : choiceOf (l .steps) (s .flags) ≡ At place
+  chosen : oneFlag (l .steps) (s .flags) ≡ At place
   chosen = sym (c .before .before .before .before .before .before .one-flag .ensures) ∙ c .before .before .before .before .place .given .1
 
   ranged : c .in-range .result ≡ inRange l (divisor place) (s .value)
-  ranged = c .in-range .ensures ∙ ap₂ (inRange l) (c .before .before .divisor-of .ensures) (toZ-ofZ fits)
+  ranged = c .in-range .ensures ∙ ap₂ (inRange l) (c .before .before .divisor .ensures) (toZ-ofZ fits)
 
 -- a value in range is small enough to be multiplied
 module _ (c : tie.Then2) where
@@ -53,7 +53,7 @@ module _ (c : tie.Then2) where
   v = s (c .before) .value
 
   abbrev factor : ℕ
-  factor = unitsPerStop / c .before .before .before .divisor-of .result
+  factor = unitsPerStop / c .before .before .before .divisor .result
 
   small : mag v < 1024
   small = range-small _ (is-valid (c .before)) (place (c .before)) v (sym (ranged (c .before)) ∙ c .if2 .taken)
@@ -82,14 +82,14 @@ enum-told c = search needs
 enum-known-place : tie.Need-enum-known-place
 enum-known-place c = search needs
 
-divisor-of-requires : tie.Need-divisor-of-requires
-divisor-of-requires c κs = search needs
+divisor-requires : tie.Need-divisor-requires
+divisor-requires c κs = search needs
 
 in-range-requires : tie.Need-in-range-requires
 in-range-requires c κs = search needs
 
 div-result : tie.Need-div-result
-div-result c = rw (c .before .before .before .divisor-of .ensures) (divisor-pos (place (c .before)))
+div-result c = rw (c .before .before .before .divisor .ensures) (divisor-pos (place (c .before)))
 
 cast-result : tie.Need-cast-result
 cast-result c = record { sfits = lt-of-le-of-lt (div-le-self _ _) (lit< tt) }
@@ -104,7 +104,7 @@ returns-3 : tie.Need-returns-3
 returns-3 c =
     let t = c .before .before in
     let b = t .before in
-    times-is t ∙ ap (λ (d : ℕ). v t *ℤ pos (unitsPerStop / d)) (b .before .before .divisor-of .ensures)
+    times-is t ∙ ap (λ (d : ℕ). v t *ℤ pos (unitsPerStop / d)) (b .before .before .divisor .ensures)
     ∙ sym (scaled-is _ _ (is-valid b) _ (chosen b) (sym (ranged b) ∙ t .if2 .taken))
 
 returns-4 : tie.Need-returns-4
@@ -120,7 +120,7 @@ scaled-spec =
     one-flag-requires
     enum-told
     enum-known-place
-    divisor-of-requires
+    divisor-requires
     in-range-requires
     div-result
     cast-result

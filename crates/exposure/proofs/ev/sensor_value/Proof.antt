@@ -3,7 +3,7 @@ use mir.Syntax.{w32}
 use mir.Val.{SFits}
 use mir.Facts.{toZ-ofZ}
 use borrow.Author.Needs.{needs}
-use Rattle.exposure.specs.Ev.{compensation}
+use Rattle.exposure.specs.Exposure.{sensorValue}
 use Rattle.exposure.proofs.ev.sensor_value.Statement.{statement}
 use Rattle.exposure.proofs.ev.sensor_value.Tie as tie
 
@@ -17,14 +17,14 @@ scaled-requires : tie.Need-scaled-requires
 scaled-requires c κs = search needs
 
 returns : tie.Need-returns
-unfolding compensation
-returns c = sym (ap (compensation (c .before .before .args .l)) (c .enum-told .given .1))
+unfolding sensorValue
+returns c = sym (ap (sensorValue (c .before .before .args .l)) (c .enum-told .given .1))
 
 returns-2 : tie.Need-returns-2
-unfolding compensation
+unfolding sensorValue
 returns-2 c =
     let f : SFits w32 (c .scaled .result) = search needs in
-    toZ-ofZ f ∙ c .scaled .ensures ∙ sym (ap (compensation (c .before .before .before .before .args .l)) (c .before .before .held .given .1))
+    toZ-ofZ f ∙ c .scaled .ensures ∙ sym (ap (sensorValue (c .before .before .before .before .args .l)) (c .before .before .held .given .1))
 
 pub sensor-value-spec : {M : Type 1} → statement M
 sensor-value-spec =

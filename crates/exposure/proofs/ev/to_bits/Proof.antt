@@ -8,7 +8,7 @@ use lib.Signed.{leZ}
 use mir.Syntax.{w32}
 use mir.Val.{toZ, ofZ}
 use mir.Facts.{toZ-ofZ, toZ-pos}
-use Rattle.exposure.specs.Ev.{bits32}
+use Rattle.exposure.specs.Exposure.{bits32}
 use Rattle.exposure.proofs.Laws.Signed.{upper, lower, less-negative}
 use Rattle.exposure.proofs.ev.to_bits.Statement.{statement}
 use Rattle.exposure.proofs.ev.to_bits.Tie as tie

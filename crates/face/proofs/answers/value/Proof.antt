@@ -4,8 +4,8 @@ use Prim.Native.Nat.{ℕ, _≤_, _-_, _+_, _*_}
 use native.Mathlib.Omega.{arith}
 use lib.ListN.{length}
 use borrow.Author.Needs.{needs}
-use Rattle.wire.specs.Overlay.{overlay}
-use Rattle.wire.proofs.Laws.Overlay.{same-length}
+use Rattle.wire.specs.Writes.{overlay}
+use Rattle.wire.proofs.Laws.Writes.{same-length}
 use Rattle.request.specs.Answers.{packed}
 use Rattle.face.specs.Limits.{addressAt}
 use Rattle.face.specs.Answers.{entryOf, flagsAt, entriesOf, faceValue}
@@ -37,14 +37,14 @@ loop-holds : tie.Need-loop-holds Inv-loop μ-loop
 unfolding overlay entriesOf
 loop-holds c = (omega arith, refl)
 
-element-copy-out-entry : tie.Need-element-copy-out-entry Inv-loop μ-loop
-element-copy-out-entry c = search needs
+element-copy-out-entry-of : tie.Need-element-copy-out-entry-of Inv-loop μ-loop
+element-copy-out-entry-of c = search needs
 
 flags-at-requires : tie.Need-flags-at-requires Inv-loop μ-loop
 flags-at-requires c κs = search needs
 
-entry-requires : tie.Need-entry-requires Inv-loop μ-loop
-entry-requires c κs = search needs
+entry-of-requires : tie.Need-entry-of-requires Inv-loop μ-loop
+entry-of-requires c κs = search needs
 
 slice-aggregate-copy : tie.Need-slice-aggregate-copy Inv-loop μ-loop
 slice-aggregate-copy c = let b = c .before .before .before .before .before in sym (ap length (b .loop .inv .1) ∙ same-length blank 0 _)
@@ -73,8 +73,8 @@ loop-again c =
     let f = d .before .before .before in
     let b = f .before .before .before .before in
     let a = b .before .before .before .args in
-    let e : f .entry .result ≡ entryOf (addressAt (a .t1) (b .loop .i)) (flagsAt (a .t1) (a .held) (a .code) (b .loop .i)) =
-    f .entry .ensures ∙ ap (entryOf (addressAt (a .t1) (b .loop .i))) (f .before .flags-at .ensures) in
+    let e : f .entry-of .result ≡ entryOf (addressAt (a .t1) (b .loop .i)) (flagsAt (a .t1) (a .held) (a .code) (b .loop .i)) =
+    f .entry-of .ensures ∙ ap (entryOf (addressAt (a .t1) (b .loop .i))) (f .before .flags-at .ensures) in
     (omega arith, d .copy .ensures ∙ ap (overlay (b .loop .bytes) (1 + 8 * b .loop .i)) e ∙ entries-next (a .t1) (a .held) (a .code) _ (b .loop .i) (b .loop .bytes) (omega arith) (b .loop .inv .1))
 
 mul-t32 : tie.Need-mul-t32 Inv-loop μ-loop
@@ -106,9 +106,9 @@ value-spec =
     cast-bytes
     array-write-bytes
     loop-holds
-    element-copy-out-entry
+    element-copy-out-entry-of
     flags-at-requires
-    entry-requires
+    entry-of-requires
     slice-aggregate-copy
     mul-copy
     add-copy

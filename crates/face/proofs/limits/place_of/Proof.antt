@@ -2,7 +2,7 @@ use mathlib.Core.Path.{_≡_, ap, sym, _∙_}
 use Prim.Native.Nat.{ℕ, _≤_, _-_}
 use native.Mathlib.Omega.{arith}
 use borrow.Author.Needs.{needs}
-use Rattle.face.specs.Limits.{endpoints, placeFrom, placeOf}
+use Rattle.face.specs.Limits.{endpointsOf, placeFrom, placeOf}
 use Rattle.face.proofs.Laws.Limits.{place-here, place-next}
 use Rattle.face.proofs.limits.place_of.Statement.{statement}
 use Rattle.face.proofs.limits.place_of.Tie as tie
@@ -20,7 +20,7 @@ loop-holds : tie.Need-loop-holds Inv-loop μ-loop
 unfolding placeOf
 loop-holds c =
     let a = c .before .args in
-    let e : endpoints (a .t1) ≡ c .endpoints-of .result - 0 = omega (arith, c .endpoints-of .ensures .0) in
+    let e : endpointsOf (a .t1) ≡ c .endpoints-of .result - 0 = omega (arith, c .endpoints-of .ensures .0) in
     (omega arith, ap (λ (n : ℕ). placeFrom (a .t1) (a .address) n 0) e)
 
 element-copy-out-if1 : tie.Need-element-copy-out-if1 Inv-loop μ-loop

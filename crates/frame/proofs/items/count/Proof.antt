@@ -1,5 +1,5 @@
 -- `count` meets its contract. Assumes nothing.
-use Rattle.frame.specs.Answers.{countOf}
+use Rattle.frame.specs.Items.{blockCount}
 use borrow.Author.Needs.{needs}
 use Rattle.frame.proofs.items.count.Statement.{statement}
 use Rattle.frame.proofs.items.count.Tie as tie
@@ -8,7 +8,7 @@ walk-requires : tie.Need-walk-requires
 walk-requires c κs = search needs
 
 returns : tie.Need-returns
-unfolding countOf
+unfolding blockCount
 returns c = rw (c .before .walk .ensures)
 
 pub count-spec : {M : Type 1} → statement M

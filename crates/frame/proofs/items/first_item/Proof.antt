@@ -12,11 +12,11 @@ returns c = head-short _ (omega arith)
 le32-requires : tie.Need-le32-requires
 le32-requires c κs = search needs
 
-known-requires : tie.Need-known-requires
-known-requires c κs = search needs
+is-known-requires : tie.Need-is-known-requires
+is-known-requires c κs = search needs
 
 returns-2 : tie.Need-returns-2
-returns-2 c = head-unknown _ _ _ (omega arith) (c .before .before .le32 .ensures) (c .before .known .ensures) (not-true _ (c .if2 .taken))
+returns-2 c = head-unknown _ _ _ (omega arith) (c .before .before .le32 .ensures) (c .before .is-known .ensures) (not-true _ (c .if2 .taken))
 
 le32-requires-2 : tie.Need-le32-requires-2
 le32-requires-2 c κs = search needs
@@ -25,14 +25,14 @@ cast-size : tie.Need-cast-size
 cast-size c = search needs
 
 returns-3 : tie.Need-returns-3
-returns-3 c = head-small _ _ _ (omega arith) (c .before .before .before .before .le32 .ensures) (c .before .before .before .known .ensures) (not-false _ (c .before .before .if2 .left)) (omega arith)
+returns-3 c = head-small _ _ _ (omega arith) (c .before .before .before .before .le32 .ensures) (c .before .before .before .is-known .ensures) (not-false _ (c .before .before .if2 .left)) (omega arith)
 
 returns-4 : tie.Need-returns-4
 returns-4 c =
     head-past _ _ _
     (omega arith)
     (c .before .before .before .before .before .le32 .ensures)
-    (c .before .before .before .before .known .ensures)
+    (c .before .before .before .before .is-known .ensures)
     (not-false _ (c .before .before .before .if2 .left))
     (omega arith)
     (omega arith)
@@ -42,7 +42,7 @@ returns-5 c =
     head-whole _ _ _
     (omega arith)
     (c .before .before .before .before .before .le32 .ensures)
-    (c .before .before .before .before .known .ensures) _
+    (c .before .before .before .before .is-known .ensures) _
     (c .before .before .le322 .ensures)
     (not-false _ (c .before .before .before .if2 .left))
     (omega arith)
@@ -54,7 +54,7 @@ first-item-spec =
     (tie.spec
     returns
     le32-requires
-    known-requires
+    is-known-requires
     returns-2
     le32-requires-2
     cast-size

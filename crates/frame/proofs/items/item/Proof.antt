@@ -1,5 +1,5 @@
 -- `item` meets its contract. Assumes nothing.
-use Rattle.frame.specs.Answers.{itemOf}
+use Rattle.frame.specs.Items.{blockItem}
 use borrow.Author.Needs.{needs}
 use Rattle.frame.proofs.items.item.Statement.{statement}
 use Rattle.frame.proofs.items.item.Tie as tie
@@ -8,7 +8,7 @@ walk-requires : tie.Need-walk-requires
 walk-requires c κs = search needs
 
 returns : tie.Need-returns
-unfolding itemOf
+unfolding blockItem
 returns c = rw (c .before .walk .ensures)
 
 pub item-spec : {M : Type 1} → statement M

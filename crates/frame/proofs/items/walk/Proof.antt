@@ -58,11 +58,11 @@ stopped-requires c κs = search needs
 returns : tie.Need-returns Inv-loop μ-loop
 returns c = c .stopped .ensures ∙ too-long _ _ (omega arith)
 
-refused-requires : tie.Need-refused-requires Inv-loop μ-loop
-refused-requires c κs = search needs
+refused-item-requires : tie.Need-refused-item-requires Inv-loop μ-loop
+refused-item-requires c κs = search needs
 
 loop-holds : tie.Need-loop-holds Inv-loop μ-loop
-loop-holds c = (search needs, search needs, begins _ _ _ (c .refused .ensures))
+loop-holds c = (search needs, search needs, begins _ _ _ (c .refused-item .ensures))
 
 tail-requires : tie.Need-tail-requires Inv-loop μ-loop
 tail-requires c κs = search needs
@@ -82,8 +82,8 @@ returns-2 c = c .stopped2 .ensures ∙ stops _ _ _ _ _ _ (fault-here (c .before)
 enum-known-id : tie.Need-enum-known-id Inv-loop μ-loop
 enum-known-id c = search needs
 
-passed-requires : tie.Need-passed-requires Inv-loop μ-loop
-passed-requires c κs = omega (arith, inside _ _ _ _ _ _ _ (item-here c))
+pass-item-requires : tie.Need-pass-item-requires Inv-loop μ-loop
+pass-item-requires c κs = omega (arith, inside _ _ _ _ _ _ _ (item-here c))
 
 add-at : tie.Need-add-at Inv-loop μ-loop
 add-at c = omega (arith, inside _ _ _ _ _ _ _ (item-here (c .before)))
@@ -95,7 +95,7 @@ loop-less : tie.Need-loop-less Inv-loop μ-loop
 loop-less c = omega (arith, inside _ _ _ _ _ _ _ (item-here (c .before)))
 
 loop-again : tie.Need-loop-again Inv-loop μ-loop
-loop-again c = let i = inside _ _ _ _ _ _ _ (item-here (c .before)) in (omega arith, omega arith, goes-on _ _ _ _ _ _ _ (item-here (c .before)) _ (c .passed .ensures))
+loop-again c = let i = inside _ _ _ _ _ _ _ (item-here (c .before)) in (omega arith, omega arith, goes-on _ _ _ _ _ _ _ (item-here (c .before)) _ (c .pass-item .ensures))
 
 returns-3 : tie.Need-returns-3 Inv-loop μ-loop
 returns-3 c = ends _ _ _ _ _ (omega arith) (c .before .loop .inv .2) (omega arith)
@@ -108,7 +108,7 @@ walk-spec =
     μ-loop
     stopped-requires
     returns
-    refused-requires
+    refused-item-requires
     loop-holds
     tail-requires
     first-item-requires
@@ -116,7 +116,7 @@ walk-spec =
     stopped-requires-2
     returns-2
     enum-known-id
-    passed-requires
+    pass-item-requires
     add-at
     add-n
     loop-less

@@ -48,7 +48,7 @@ use Rattle.wire.proofs.part_at as part-at
 use Rattle.wire.proofs.part_at.Symbol as part-at-def
 use Rattle.wire.proofs.part_at.Symbol.{name as #wire·part-at}
 use Rattle.wire.proofs.part_at.Met as part-at-thm
-use Rattle.frame.specs.Answers.{itemOf}
+use Rattle.frame.specs.Items.{blockItem}
 use Rattle.frame.specs.View.{Views}
 use Rattle.frame.specs.declared.items.Found.{Found}
 use Rattle.frame.specs.declared.view.ItemView.{ItemView}
@@ -138,8 +138,8 @@ module _ {M : Type 1} (𝓤 : URA M) (H : Heap 𝓤) (A : Atoms 𝓤) (W : Given
   abbrev item-ensured : Found → SProp 𝓤
   item-ensured r = ensured 𝓤 H A item.ended (item.clauses 𝓤 H A mem run) (κ, tt) (s, (k, tt)) tt r
 
-  item-said : (r : Found) → ent 𝓤 (item-ensured r) (fact 𝓤 (r ≡ itemOf (now s) k))
-  item-said r = exE 𝓤 _ (λ ws. snd∗ 𝓤 (sem 𝓤 H A (lasts item.ended (κ, tt) (s, (k, tt)) ws)) (fact 𝓤 (r ≡ itemOf (now s) k)))
+  item-said : (r : Found) → ent 𝓤 (item-ensured r) (fact 𝓤 (r ≡ blockItem (now s) k))
+  item-said r = exE 𝓤 _ (λ ws. snd∗ 𝓤 (sem 𝓤 H A (lasts item.ended (κ, tt) (s, (k, tt)) ws)) (fact 𝓤 (r ≡ blockItem (now s) k)))
 
   -- the call of `wire::part_at`, at a place p
   abbrev passed : Part → Vals part-at.signature (κ, tt)
@@ -167,7 +167,7 @@ module _ {M : Type 1} (𝓤 : URA M) (H : Heap 𝓤) (A : Atoms 𝓤) (W : Given
   abbrev made : Found → RefT (List ℕ) → ItemView
   made r t = record { code = r .code; id = r .id; payload = t }
 
-  views : (r : Found) (t : RefT (List ℕ)) → r ≡ itemOf (now s) k → PartOf s (r .payload) t → Views s (itemOf (now s) k) (made r t)
+  views : (r : Found) (t : RefT (List ℕ)) → r ≡ blockItem (now s) k → PartOf s (r .payload) t → Views s (blockItem (now s) k) (made r t)
   views r t e p = record {
     same-code = ap (λ (f : Found). f .code) e;
     same-id = ap (λ (f : Found). f .id) e;
@@ -181,7 +181,7 @@ module _ {M : Type 1} (𝓤 : URA M) (H : Heap 𝓤) (A : Atoms 𝓤) (W : Given
   a-slice : (t : RefT (List ℕ)) (u : Val) → Is Slice t (u ∷ []) → WT (sliceVal (t .ptr) (length (t .now)))
   a-slice t u is = (tt, (record { fits = is .0 .1 .0 }, tt))
 
-  exits : (r : Found) (t : RefT (List ℕ)) → WT (F′.lowered r) → Views s (itemOf (now s) k) (made r t)
+  exits : (r : Found) (t : RefT (List ℕ)) → WT (F′.lowered r) → Views s (blockItem (now s) k) (made r t)
       → ent 𝓤 (⋆ 𝓤 H A (‵ (Slice .own t (slice-vals t)) ∷ token ∷ ‵ Own ∷ [])) (Post (T′.lowered (made r t)))
   exits r t wt e =
       qed W (‵ (Slice .own t (slice-vals t)) ∷ token ∷ ‵ Own ∷ []) ∵
@@ -209,8 +209,8 @@ module _ {M : Type 1} (𝓤 : URA M) (H : Heap 𝓤) (A : Atoms 𝓤) (W : Given
         (and-then ! (load ! (from ! (stop !)) (look ! 8 refl)) (and-then ! (load ! (from ! (stop !)) (look ! 6 refl)) (no-more !))) (λ u.
         use1 W (later (some (λ (r : Found). (token ⊛ ‵ (F.the-row .own r (u ∷ []))) ⊛ raw (item-ensured r)))) (id⊢ 𝓤 _) $
         await ! tt $ pick ! (λ r.
-        split ! $ move ! (1 ∷ []) $ use1 W (raw (fact 𝓤 (r ≡ itemOf (now s) k))) (item-said r) $
-        heard ! (r ≡ itemOf (now s) k) (λ e. split ! $ move ! (1 ∷ []) $
+        split ! $ move ! (1 ∷ []) $ use1 W (raw (fact 𝓤 (r ≡ blockItem (now s) k))) (item-said r) $
+        heard ! (r ≡ blockItem (now s) k) (λ e. split ! $ move ! (1 ∷ []) $
         -- [the answer; the token; what the block owns; room for _4; …; room for _3; …; _2; …; _1; …; room for _0; …]
         peeks ! F.the-row (Is F.the-row) (shows 𝓤 H A F.the-row) r (u ∷ []) (λ is.
         land ! (from ! (stop !)) (init ! 5 refl (LL.lawful F.the-type F′.the-laws 𝓤 H A W .typed r _ is .0)) $

@@ -1,6 +1,6 @@
 use borrow.Author.Tests.{eq-eqb, ne-eqb}
 use borrow.Author.Needs.{needs}
-use Rattle.profile.specs.Items.{itemAt}
+use Rattle.profile.specs.Items.{profileItem}
 use Rattle.profile.proofs.Profile.item.Statement.{statement}
 use Rattle.profile.proofs.Profile.item.Tie as tie
 
@@ -8,14 +8,14 @@ item-requires : tie.Need-item-requires
 item-requires c κs = search needs
 
 returns : tie.Need-returns
-unfolding itemAt
+unfolding profileItem
 returns c = rw (eq-eqb _ _ (c .before .if1 .taken)) (c .item .ensures)
 
 item-requires-2 : tie.Need-item-requires-2
 item-requires-2 c κs = search needs
 
 returns-2 : tie.Need-returns-2
-unfolding itemAt
+unfolding profileItem
 returns-2 c =
     let e = c .before in
     rw (ne-eqb _ _ (e .before .if1 .left), eq-eqb _ _ (e .if2 .taken)) (c .item2 .ensures)
@@ -24,7 +24,7 @@ item-requires-3 : tie.Need-item-requires-3
 item-requires-3 c κs = search needs
 
 returns-3 : tie.Need-returns-3
-unfolding itemAt
+unfolding profileItem
 returns-3 c =
     let e = c .before in
     rw (ne-eqb _ _ (e .before .before .if1 .left), ne-eqb _ _ (e .before .if2 .left), eq-eqb _ _ (e .if3 .taken)) (c .item3 .ensures)
@@ -33,7 +33,7 @@ item-requires-4 : tie.Need-item-requires-4
 item-requires-4 c κs = search needs
 
 returns-4 : tie.Need-returns-4
-unfolding itemAt
+unfolding profileItem
 returns-4 c =
     let e = c .before in
     rw (
@@ -48,7 +48,7 @@ item-requires-5 : tie.Need-item-requires-5
 item-requires-5 c κs = search needs
 
 returns-5 : tie.Need-returns-5
-unfolding itemAt
+unfolding profileItem
 returns-5 c =
     let e = c .before in
     rw (

@@ -1,7 +1,7 @@
 use mathlib.Core.Bool.{not, _||_}
 use borrow.Author.Needs.{needs}
 use Rattle.wire.specs.Selectors.{ev, face, metadata, throttle}
-use Rattle.exposure.specs.Ev.{evValid}
+use Rattle.exposure.specs.Exposure.{evValid}
 use Rattle.face.specs.Limits.{faceValid}
 use Rattle.metadata.specs.Metadata.{metadataValid}
 use Rattle.throttle.specs.Throttle.{throttleValid}
@@ -13,26 +13,26 @@ use Rattle.profile.proofs.Profile.valid.Tie as tie
 presence-valid-requires : tie.Need-presence-valid-requires
 presence-valid-requires c κs = search needs
 
-has-control-requires : tie.Need-has-control-requires
-has-control-requires c κs = search needs
+has-requires : tie.Need-has-requires
+has-requires c κs = search needs
 
 valid-requires : tie.Need-valid-requires
 valid-requires c κs = search needs
 
-has-control-requires-2 : tie.Need-has-control-requires-2
-has-control-requires-2 c κs = search needs
+has-requires-2 : tie.Need-has-requires-2
+has-requires-2 c κs = search needs
 
 valid-requires-2 : tie.Need-valid-requires-2
 valid-requires-2 c κs = search needs
 
-has-control-requires-3 : tie.Need-has-control-requires-3
-has-control-requires-3 c κs = search needs
+has-requires-3 : tie.Need-has-requires-3
+has-requires-3 c κs = search needs
 
 valid-requires-3 : tie.Need-valid-requires-3
 valid-requires-3 c κs = search needs
 
-has-control-requires-4 : tie.Need-has-control-requires-4
-has-control-requires-4 c κs = search needs
+has-requires-4 : tie.Need-has-requires-4
+has-requires-4 c κs = search needs
 
 valid-requires-4 : tie.Need-valid-requires-4
 valid-requires-4 c κs = search needs
@@ -45,13 +45,13 @@ returns c =
     let p = b .before .args .self in
     rw (
       c .valid4 .ensures,
-      c .before .has-control4 .ensures,
+      c .before .has4 .ensures,
       c .before .before .valid3 .ensures,
-      c .before .before .before .has-control3 .ensures,
+      c .before .before .before .has3 .ensures,
       m .valid2 .ensures,
-      m .before .has-control2 .ensures,
+      m .before .has2 .ensures,
       m .before .before .valid .ensures,
-      m .before .before .before .has-control .ensures,
+      m .before .before .before .has .ensures,
       b .presence-valid .ensures,
     )
     (all-five
@@ -66,12 +66,12 @@ valid-spec =
     tie.close
     (tie.spec
     presence-valid-requires
-    has-control-requires
+    has-requires
     valid-requires
-    has-control-requires-2
+    has-requires-2
     valid-requires-2
-    has-control-requires-3
+    has-requires-3
     valid-requires-3
-    has-control-requires-4
+    has-requires-4
     valid-requires-4
     returns)

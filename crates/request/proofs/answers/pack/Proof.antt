@@ -13,12 +13,12 @@ slice-aggregate-copy c = search needs
 copy-requires : tie.Need-copy-requires
 copy-requires c κs = search needs
 
-least-requires : tie.Need-least-requires
-least-requires c κs = search needs
+min-requires : tie.Need-min-requires
+min-requires c κs = search needs
 
 returns : tie.Need-returns
 unfolding packed
-returns c = ap₂ {C = Answer} (λ (b : List ℕ) (n : ℕ). record { bytes = b; len = n }) (c .before .before .copy .ensures) (c .least .ensures)
+returns c = ap₂ {C = Answer} (λ (b : List ℕ) (n : ℕ). record { bytes = b; len = n }) (c .before .before .copy .ensures) (c .min .ensures)
 
 pub pack-spec : {M : Type 1} → statement M
-pack-spec = tie.close (tie.spec slice-aggregate-copy copy-requires least-requires returns)
+pack-spec = tie.close (tie.spec slice-aggregate-copy copy-requires min-requires returns)

@@ -5,8 +5,8 @@ use Rattle.request.proofs.Laws.Reply.{no-room, room}
 use Rattle.request.proofs.reply.send.Statement.{statement}
 use Rattle.request.proofs.reply.send.Tie as tie
 
-least-requires : tie.Need-least-requires
-least-requires c κs = search needs
+min-requires : tie.Need-min-requires
+min-requires c κs = search needs
 
 returns : tie.Need-returns
 returns c = let s = c .before .before .before .before .args in no-room (s .answer .now) (s .wlength) (s .reply .now) (omega arith)
@@ -26,8 +26,8 @@ returns-2 c =
     let l = h .before .before .before in
     let s = l .before .before .before .args in
     let r = room (s .answer .now) (s .wlength) (s .reply .now) (omega arith) in
-    (rw (l .least .ensures) (r .0), c .before .before .copy .ensures ∙ rw (h .head .ensures .bytes, l .least .ensures) (r .1))
+    (rw (l .min .ensures) (r .0), c .before .before .copy .ensures ∙ rw (h .head .ensures .bytes, l .min .ensures) (r .1))
 
 pub send-spec : {M : Type 1} → statement M
 send-spec =
-    tie.close (tie.spec least-requires returns head-requires copy-requires same-length returns-2)
+    tie.close (tie.spec min-requires returns head-requires copy-requires same-length returns-2)

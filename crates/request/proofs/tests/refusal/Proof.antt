@@ -7,9 +7,9 @@ use borrow.Author.Tests.{eq-eqb, ne-eqb}
 use borrow.Author.Needs.{needs}
 use Rattle.wire.specs.Uvc.{unknown}
 use Rattle.wire.specs.Rows.{firstOf}
-use Rattle.request.specs.Setup.{selectorOf}
+use Rattle.request.specs.Setup.{setupSelector}
 use Rattle.request.specs.Table.{hasControl, tableOf}
-use Rattle.request.specs.Tests.{addressed, understood, sized, requestTests}
+use Rattle.request.specs.Tests.{isAddressed, isUnderstood, isSized, requestTests}
 use Rattle.request.proofs.tests.refusal.Statement.{statement}
 use Rattle.request.proofs.tests.refusal.Tie as tie
 
@@ -17,21 +17,21 @@ use Rattle.request.proofs.tests.refusal.Tie as tie
 eight : (c : tie.Else1) → eqb (length (c .before .before .before .args .setup .now)) 8 ≡ true
 eight c = eq-eqb (length (c .before .before .before .args .setup .now)) 8 (omega arith)
 
-addressed-row : (c : tie.After-is-addressed) → let s = c .before .before .before .before .args in not (addressed (s .u .unit) (s .u .interface) (s .setup .now)) ≡ not (c .is-addressed .result)
+addressed-row : (c : tie.After-is-addressed) → let s = c .before .before .before .before .args in not (isAddressed (s .u .unit) (s .u .interface) (s .setup .now)) ≡ not (c .is-addressed .result)
 addressed-row c = ap not (sym (c .is-addressed .ensures))
 
 present-row : (c : tie.After-has-control)
-    → let s = c .before .before .before .before .before .before .before .args in not (hasControl (s .u .present) (selectorOf (s .setup .now))) ≡ not (c .has-control .result)
+    → let s = c .before .before .before .before .before .before .before .args in not (hasControl (s .u .present) (setupSelector (s .setup .now))) ≡ not (c .has-control .result)
 present-row c =
     let s = c .before .before .before .before .before .before .before .args in
     ap not (sym (c .has-control .ensures ∙ ap (hasControl (s .u .present)) (c .before .selector .ensures)))
 
 understood-row : (c : tie.After-is-understood)
-    → let s = c .before .before .before .before .before .before .before .before .before .args in not (understood (s .c .settable) (s .setup .now)) ≡ not (c .is-understood .result)
+    → let s = c .before .before .before .before .before .before .before .before .before .args in not (isUnderstood (s .c .settable) (s .setup .now)) ≡ not (c .is-understood .result)
 understood-row c = ap not (sym (c .is-understood .ensures))
 
 sized-row : (c : tie.After-is-sized)
-    → let s = c .before .before .before .before .before .before .before .before .before .before .before .args in not (sized (s .c .takes) (s .setup .now) (s .payload .now)) ≡ not (c .is-sized .result)
+    → let s = c .before .before .before .before .before .before .before .before .before .before .before .args in not (isSized (s .c .len) (s .setup .now) (s .payload .now)) ≡ not (c .is-sized .result)
 sized-row c = ap not (sym (c .is-sized .ensures))
 
 returns : tie.Need-returns

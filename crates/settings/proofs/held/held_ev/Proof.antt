@@ -1,6 +1,6 @@
 use mathlib.Core.Path.{ap, sym}
 use borrow.Author.Needs.{needs}
-use Rattle.settings.specs.Settings.{evHeld, heldSetting}
+use Rattle.settings.specs.Held.{evHeld, heldSetting}
 use Rattle.settings.proofs.held.held_ev.Statement.{statement}
 use Rattle.settings.proofs.held.held_ev.Tie as tie
 

@@ -1,6 +1,6 @@
 use mathlib.Core.Path.{ap, sym}
 use borrow.Author.Needs.{needs}
-use Rattle.settings.specs.Settings.{hdrHeld, heldSetting}
+use Rattle.settings.specs.Held.{hdrHeld, heldSetting}
 use Rattle.settings.proofs.held.held_hdr.Statement.{statement}
 use Rattle.settings.proofs.held.held_hdr.Tie as tie
 

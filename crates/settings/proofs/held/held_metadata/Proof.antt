@@ -1,6 +1,6 @@
 use mathlib.Core.Path.{ap, sym}
 use borrow.Author.Needs.{needs}
-use Rattle.settings.specs.Settings.{metadataHeld, heldSetting}
+use Rattle.settings.specs.Held.{metadataHeld, heldSetting}
 use Rattle.settings.proofs.held.held_metadata.Statement.{statement}
 use Rattle.settings.proofs.held.held_metadata.Tie as tie
 

@@ -1,6 +1,6 @@
 use mathlib.Core.Path.{ap, sym}
 use borrow.Author.Needs.{needs}
-use Rattle.settings.specs.Settings.{throttleHeld, heldSetting}
+use Rattle.settings.specs.Held.{throttleHeld, heldSetting}
 use Rattle.settings.proofs.held.held_throttle.Statement.{statement}
 use Rattle.settings.proofs.held.held_throttle.Tie as tie
 

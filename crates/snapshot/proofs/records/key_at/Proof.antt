@@ -4,9 +4,9 @@ use mathlib.Core.List.{List}
 use native.Mathlib.Omega.{arith}
 use lib.ListN.{length, getD, drop}
 use borrow.Author.Needs.{needs}
-use Rattle.wire.specs.Number.{leAt}
+use Rattle.wire.specs.Numbers.{leAt}
 use Rattle.wire.proofs.Laws.Parts.{rest}
-use Rattle.snapshot.specs.Form.{zeros, lengthAt, tailAt}
+use Rattle.snapshot.specs.Form.{zeros, statedLength, throttleTail}
 use Rattle.snapshot.specs.Steps.{keyBy}
 use Rattle.snapshot.proofs.Laws.Told.{told, short-none, cut-none, other-key, zero-key, tail-none}
 use Rattle.snapshot.proofs.records.key_at.Statement.{statement}
@@ -19,10 +19,10 @@ read : (t r : List ℕ) (len kind n address key : ℕ)
 read t r len kind n address key e f g h i j = j ∙ rw (f, g, h, i, e) refl
 
 cut : (d : tie.Else2) → let a = d .before .before .before .before .before .args in
-    lengthAt (drop (a .at) (a .s .now)) ≤ length (drop (a .at) (a .s .now))
+    statedLength (drop (a .at) (a .s .now)) ≤ length (drop (a .at) (a .s .now))
 cut d =
     let e = rest (d .before .before .before .tail .ensures) in
-    omega (arith, d .if2 .left, d .before .le16 .ensures .0, ap length e, ap lengthAt e)
+    omega (arith, d .if2 .left, d .before .le16 .ensures .0, ap length e, ap statedLength e)
 
 at : (d : tie.After-key-by) → let a = d .before .before .before .before .before .before .before .before .before .args in
     d .key-by .result ≡ told (drop (a .at) (a .s .now))
@@ -44,7 +44,7 @@ le16-requires c κs = search needs
 returns-2 : tie.Need-returns-2
 returns-2 c =
     let e = rest (c .before .before .before .tail .ensures) in
-    cut-none _ (omega (arith, c .if2 .taken, c .before .le16 .ensures .0, ap length e, ap lengthAt e))
+    cut-none _ (omega (arith, c .if2 .taken, c .before .le16 .ensures .0, ap length e, ap statedLength e))
 
 le16-requires-2 : tie.Need-le16-requires-2
 le16-requires-2 c κs = search needs
@@ -74,9 +74,9 @@ zero-tail-requires c κs = search needs
 
 -- what the test of the tail says of the bytes
 tail-of : (d : tie.After-zero-tail) → let a = d .before .before .before .before .before .before .before .before .before .before .before .args in
-    d .zero-tail .result ≡ zeros (tailAt (drop (a .at) (a .s .now)))
+    d .zero-tail .result ≡ zeros (throttleTail (drop (a .at) (a .s .now)))
 tail-of d =
-    d .zero-tail .ensures ∙ ap (λ l. zeros (tailAt l)) (rest (d .before .before .before .before .before .before .before .before .before .tail .ensures))
+    d .zero-tail .ensures ∙ ap (λ l. zeros (throttleTail l)) (rest (d .before .before .before .before .before .before .before .before .before .tail .ensures))
 
 returns-4 : tie.Need-returns-4
 returns-4 c =

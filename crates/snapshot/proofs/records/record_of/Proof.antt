@@ -5,8 +5,8 @@ use denote.Ref.{RefT, now}
 use mathlib.Core.List.{List}
 use lib.ListN.{take, drop}
 use Rattle.wire.specs.Parts.{PartOf}
-use Rattle.snapshot.specs.Form.{keys}
-use Rattle.snapshot.specs.Records.{passed, decode, bytes, recordPlace}
+use Rattle.snapshot.specs.Keys.{keys}
+use Rattle.snapshot.specs.Records.{passed, decode, recordBytes, recordPlace}
 use Rattle.snapshot.specs.Steps.{Cursor}
 use Rattle.snapshot.proofs.Laws.Maps.{decode-good, none-above}
 use Rattle.snapshot.proofs.Laws.Cursor.{is-passed, not-passed, cursor-record, cursor-place, no-place}
@@ -15,7 +15,7 @@ use Rattle.snapshot.proofs.records.record_of.Tie as tie
 
 -- as many bytes as are passed at the cursor are the record, where it stands
 found : (s r : RefT (List ℕ)) (at key n : ℕ) → Cursor (now s) at key → key < keys → n ≡ passed key (drop at (now s))
-    → PartOf s record { at = at; len = n } r → (now r ≡ bytes (decode (now s) key)) × PartOf s (recordPlace (now s) key) r
+    → PartOf s record { at = at; len = n } r → (now r ≡ recordBytes (decode (now s) key)) × PartOf s (recordPlace (now s) key) r
 found s r at key n c h e p = (
   p .bytes ∙ ap (λ n. take n (drop at (now s))) e ∙ cursor-record (now s) at key c,
   subst (λ q. PartOf s q r) (cursor-place (now s) at key c h e) p,
@@ -29,7 +29,7 @@ returns c =
     let a = c .before .before .before .args in
     let h = c .before .if1 .taken in
     let p = c .part-at .ensures in (
-      p .bytes ∙ sym (ap bytes (none-above (decode (a .s .now)) (decode-good (a .s .now)) (a .key) h)),
+      p .bytes ∙ sym (ap recordBytes (none-above (decode (a .s .now)) (decode-good (a .s .now)) (a .key) h)),
       subst (λ q. PartOf (a .s) q (c .part-at .result)) (no-place (a .s .now) (a .key) h) p,
     )
 
@@ -39,8 +39,8 @@ start-of-requires c κs = search needs
 key-at-requires : tie.Need-key-at-requires
 key-at-requires c κs = search needs
 
-size-of-requires : tie.Need-size-of-requires
-size-of-requires c κs = search needs
+record-length-requires : tie.Need-record-length-requires
+record-length-requires c κs = search needs
 
 part-at-requires-2 : tie.Need-part-at-requires-2
 part-at-requires-2 c κs = search needs
@@ -50,7 +50,7 @@ returns-2 c =
     let n = c .before in
     let k = n .before .before in
     let d = k .before in
-    let e = n .size-of .ensures ∙ is-passed _ _ (sym (k .key-at .ensures) ∙ n .before .if2 .taken) in
+    let e = n .record-length .ensures ∙ is-passed _ _ (sym (k .key-at .ensures) ∙ n .before .if2 .taken) in
     found _ _ _ _ _ (d .start-of .ensures) (d .before .if1 .left) e (c .part-at2 .ensures)
 
 part-at-requires-3 : tie.Need-part-at-requires-3
@@ -71,7 +71,7 @@ record-of-spec =
     returns
     start-of-requires
     key-at-requires
-    size-of-requires
+    record-length-requires
     part-at-requires-2
     returns-2
     part-at-requires-3

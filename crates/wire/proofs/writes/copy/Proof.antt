@@ -1,7 +1,7 @@
 use lib.ListN.{length, length-take}
 use mathlib.Core.Path.{ap, sym, _∙_}
 use native.Mathlib.Omega.{arith}
-use Rattle.wire.proofs.Laws.Overlay.{part, past}
+use Rattle.wire.proofs.Laws.Writes.{part, past}
 use borrow.Author.Needs.{needs}
 use Rattle.wire.proofs.writes.copy.Statement.{statement}
 use Rattle.wire.proofs.writes.copy.Tie as tie

@@ -1,4 +1,4 @@
-use Rattle.wire.specs.Overlay.{overlay}
+use Rattle.wire.specs.Writes.{overlay}
 use mathlib.Core.Path.{ap, _∙_}
 use borrow.Author.Needs.{needs}
 use Rattle.wire.proofs.writes.put32.Statement.{statement}

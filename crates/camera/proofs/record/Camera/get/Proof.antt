@@ -6,10 +6,10 @@ use Rattle.request.specs.declared.reply.Sent.{Sent}
 use Rattle.request.specs.Reply.{sentOf, replyOf}
 use Rattle.request.proofs.Laws.Packed.{unpack, unpack-room, unpack-length}
 use Rattle.request.specs.Tests.{asked}
-use Rattle.request.specs.Tests as request
-use Rattle.request.specs.Answers.{longest}
-use Rattle.answering.specs.Answers.{answerOf}
-use Rattle.answering.proofs.Laws.Answers.{answer-fits}
+use Rattle.request.specs.Tests.{fullAnswer}
+use Rattle.request.specs.Answers.{longestAnswer}
+use Rattle.answering.specs.Answering.{controlAnswer}
+use Rattle.answering.proofs.Laws.Answering.{answer-fits}
 use Rattle.camera.specs.Requests.{table}
 use Rattle.camera.specs.Steps.{getDone}
 use borrow.Author.Needs.{needs}
@@ -18,16 +18,16 @@ use Rattle.camera.proofs.record.Camera.get.Tie as tie
 
 -- the answer is as long as it may be
 fits : (c : tie.After-answer) → let a = c .before .before .before .before .before .args in
-    length (answerOf (a .self .profile) (a .self .settings) (c .before .before .selector .result) (c .before .code .result)) ≤ longest
+    length (controlAnswer (a .self .profile) (a .self .settings) (c .before .before .selector .result) (c .before .code .result)) ≤ longestAnswer
 fits c = answer-fits _ _ _ _
 
 -- and is the one that the setup asks for
 is-asked : (c : tie.After-answer) → let a = c .before .before .before .before .before .args in
-    answerOf (a .self .profile) (a .self .settings) (c .before .before .selector .result) (c .before .code .result) ≡ asked (table (a .self)) (a .setup .now)
-unfolding answerOf request.answerOf
+    controlAnswer (a .self .profile) (a .self .settings) (c .before .before .selector .result) (c .before .code .result) ≡ asked (table (a .self)) (a .setup .now)
+unfolding controlAnswer fullAnswer
 is-asked c =
     let a = c .before .before .before .before .before .args in
-    ap₂ (answerOf (a .self .profile) (a .self .settings)) (c .before .before .selector .ensures) (c .before .code .ensures)
+    ap₂ (controlAnswer (a .self .profile) (a .self .settings)) (c .before .before .selector .ensures) (c .before .code .ensures)
 
 selector-requires : tie.Need-selector-requires
 selector-requires c κs = search needs

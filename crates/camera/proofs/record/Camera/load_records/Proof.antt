@@ -2,7 +2,7 @@ use borrow.Author.Needs.{needs}
 use mathlib.Core.Path.{_∙_}
 use Prim.Native.Nat.{_-_}
 use native.Mathlib.Omega.{arith}
-use Rattle.snapshot.specs.Form.{keys}
+use Rattle.snapshot.specs.Keys.{keys}
 use Rattle.camera.proofs.Laws.Loading.{Loads, nothing-loaded, load-within, load-above, load-stops, load-next, load-end}
 use Rattle.camera.proofs.record.Camera.load_records.Statement.{statement}
 use Rattle.camera.proofs.record.Camera.load_records.Tie as tie
@@ -19,8 +19,8 @@ key-at-requires c κs = search needs
 loop-holds : tie.Need-loop-holds Inv-loop μ-loop
 loop-holds c = nothing-loaded _ _ (c .before .before .before .pre) (c .key-at .ensures)
 
-size-of-requires : tie.Need-size-of-requires Inv-loop μ-loop
-size-of-requires c κs = search needs
+record-length-requires : tie.Need-record-length-requires Inv-loop μ-loop
+record-length-requires c κs = search needs
 
 part-at-requires : tie.Need-part-at-requires Inv-loop μ-loop
 part-at-requires c κs = search needs
@@ -28,8 +28,8 @@ part-at-requires c κs = search needs
 record-item-requires : tie.Need-record-item-requires Inv-loop μ-loop
 record-item-requires c κs = search needs
 
-code-of-requires : tie.Need-code-of-requires Inv-loop μ-loop
-code-of-requires c κs = search needs
+item-code-requires : tie.Need-item-code-requires Inv-loop μ-loop
+item-code-requires c κs = search needs
 
 refuse-requires : tie.Need-refuse-requires Inv-loop μ-loop
 refuse-requires c κs = search needs
@@ -39,7 +39,7 @@ returns c =
     let t = c .before .before in
     let i = t .before in
     let q = i .before .before in
-    c .refuse .ensures ∙ load-stops _ _ (q .before .before .loop .inv) (q .before .loop-test .taken) (q .size-of .ensures) (i .before .part-at .ensures .bytes) (i .record-item .ensures) (t .code-of .ensures) (c .before .if1 .taken)
+    c .refuse .ensures ∙ load-stops _ _ (q .before .before .loop .inv) (q .before .loop-test .taken) (q .record-length .ensures) (i .before .part-at .ensures .bytes) (i .record-item .ensures) (t .item-code .ensures) (c .before .if1 .taken)
 
 put-item-requires : tie.Need-put-item-requires Inv-loop μ-loop
 put-item-requires c κs = search needs
@@ -49,7 +49,7 @@ add-at c =
     let t = c .before .before in
     let i = t .before in
     let q = i .before .before in
-    omega (arith, q .before .before .before .before .before .before .good .1, load-within _ _ (q .before .before .loop .inv) (q .before .loop-test .taken) (q .size-of .ensures) (i .before .part-at .ensures .bytes) (i .record-item .ensures) (t .code-of .ensures))
+    omega (arith, q .before .before .before .before .before .before .good .1, load-within _ _ (q .before .before .loop .inv) (q .before .loop-test .taken) (q .record-length .ensures) (i .before .part-at .ensures .bytes) (i .record-item .ensures) (t .item-code .ensures))
 
 key-at-requires-2 : tie.Need-key-at-requires-2 Inv-loop μ-loop
 key-at-requires-2 c κs = search needs
@@ -59,7 +59,7 @@ loop-less c =
     let t = c .before .before .before in
     let i = t .before in
     let q = i .before .before in
-    omega (arith, load-above _ _ (q .before .before .loop .inv) (q .before .loop-test .taken) (q .size-of .ensures) (i .before .part-at .ensures .bytes) (i .record-item .ensures) (t .code-of .ensures) (c .key-at2 .ensures))
+    omega (arith, load-above _ _ (q .before .before .loop .inv) (q .before .loop-test .taken) (q .record-length .ensures) (i .before .part-at .ensures .bytes) (i .record-item .ensures) (t .item-code .ensures) (c .key-at2 .ensures))
 
 loop-again : tie.Need-loop-again Inv-loop μ-loop
 loop-again c =
@@ -67,7 +67,7 @@ loop-again c =
     let t = e .before in
     let i = t .before in
     let q = i .before .before in
-    load-next _ _ (q .before .before .loop .inv) (q .before .loop-test .taken) (q .size-of .ensures) (i .before .part-at .ensures .bytes) (i .record-item .ensures) (t .code-of .ensures) (e .if1 .left) (c .before .put-item .ensures) (c .key-at2 .ensures)
+    load-next _ _ (q .before .before .loop .inv) (q .before .loop-test .taken) (q .record-length .ensures) (i .before .part-at .ensures .bytes) (i .record-item .ensures) (t .item-code .ensures) (e .if1 .left) (c .before .put-item .ensures) (c .key-at2 .ensures)
 
 with-settings-requires : tie.Need-with-settings-requires Inv-loop μ-loop
 with-settings-requires c κs = search needs
@@ -83,10 +83,10 @@ load-records-spec =
     μ-loop
     key-at-requires
     loop-holds
-    size-of-requires
+    record-length-requires
     part-at-requires
     record-item-requires
-    code-of-requires
+    item-code-requires
     refuse-requires
     returns
     put-item-requires

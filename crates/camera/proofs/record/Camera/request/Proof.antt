@@ -4,44 +4,44 @@ use Prim.Native.Nat.{ℕ}
 use borrow.Author.Tests.{not-true, not-false}
 use borrow.Author.Needs.{needs}
 use Rattle.wire.specs.Rows.{firstOf}
-use Rattle.request.specs.Setup.{selectorOf, codeOf}
+use Rattle.request.specs.Setup.{setupSelector, setupCode}
 use Rattle.request.specs.Table.{tableOf}
 use Rattle.request.specs.Tests.{requestTests}
-use Rattle.profile.specs.Profile.{unitOf, controlOf}
-use Rattle.camera.specs.Record.{wellFormed}
-use Rattle.camera.specs.Requests.{stateOf, table, refused}
+use Rattle.profile.specs.Profile.{extensionUnit, profileControl}
+use Rattle.camera.specs.Record.{recordWellFormed}
+use Rattle.camera.specs.Requests.{stateRefusal, table, refused}
 use Rattle.camera.specs.Steps.{setDone}
 use Rattle.camera.proofs.Laws.Requests.{malformed, tests-fail, state-fails, a-set, a-get}
 use Rattle.camera.proofs.record.Camera.request.Statement.{statement}
 use Rattle.camera.proofs.record.Camera.request.Tie as tie
 
 -- past test 1
-formed : (c : tie.After-refusal) → wellFormed (c .before .before .before .before .before .before .before .before .before .args .self) ≡ true
+formed : (c : tie.After-refusal) → recordWellFormed (c .before .before .before .before .before .before .before .before .before .args .self) ≡ true
 formed c = let w = c .before .before .before .before in sym (w .before .well-formed .ensures) ∙ not-false _ (w .if1 .left)
 
 -- the selector that was read
-chosen : (c : tie.After-refusal) → c .before .before .before .selector .result ≡ selectorOf (c .before .before .before .before .before .before .before .before .before .args .setup .now)
+chosen : (c : tie.After-refusal) → c .before .before .before .selector .result ≡ setupSelector (c .before .before .before .before .before .before .before .before .before .args .setup .now)
 chosen c = c .before .before .before .selector .ensures
 
 -- tests 2 to 6 over the camera's table
 tests : (c : tie.After-refusal) → let a = c .before .before .before .before .before .before .before .before .before .args in
     c .refusal .result ≡ firstOf (requestTests (table (a .self)) (a .setup .now) (a .payload .now))
-unfolding requestTests unitOf controlOf
+unfolding requestTests extensionUnit profileControl
 tests c =
     let a = c .before .before .before .before .before .before .before .before .before .args in
     let s = a .setup .now in
     let l = a .payload .now in
     c .refusal .ensures
-    ∙ ap₂ (λ u k. firstOf (requestTests (tableOf u k) s l)) (c .before .table .ensures)
-    (c .before .before .control .ensures ∙ ap (λ (n : ℕ). controlOf (a .self .profile) n l) (chosen c))
+    ∙ ap₂ (λ u k. firstOf (requestTests (tableOf u k) s l)) (c .before .extension-unit .ensures)
+    (c .before .before .control .ensures ∙ ap (λ (n : ℕ). profileControl (a .self .profile) n l) (chosen c))
 
 -- test 7
 state : (c : tie.After-state-refusal) → let a = c .before .before .before .before .before .before .before .before .before .before .before .before .args in
-    c .state-refusal .result ≡ stateOf (a .self .streaming) (selectorOf (a .setup .now)) (codeOf (a .setup .now))
+    c .state-refusal .result ≡ stateRefusal (a .self .streaming) (setupSelector (a .setup .now)) (setupCode (a .setup .now))
 state c =
     let r = c .before .before .before in
     let a = r .before .before .before .before .before .before .before .before .before .args in
-    c .state-refusal .ensures ∙ ap₂ (stateOf (a .self .streaming)) (chosen r) (c .before .code .ensures)
+    c .state-refusal .ensures ∙ ap₂ (stateRefusal (a .self .streaming)) (chosen r) (c .before .code .ensures)
 
 well-formed-requires : tie.Need-well-formed-requires
 well-formed-requires c κs = search needs
@@ -61,8 +61,8 @@ selector-requires c κs = search needs
 control-requires : tie.Need-control-requires
 control-requires c κs = search needs
 
-table-requires : tie.Need-table-requires
-table-requires c κs = search needs
+extension-unit-requires : tie.Need-extension-unit-requires
+extension-unit-requires c κs = search needs
 
 refusal-requires : tie.Need-refusal-requires
 refusal-requires c κs = search needs
@@ -134,7 +134,7 @@ request-spec =
     returns
     selector-requires
     control-requires
-    table-requires
+    extension-unit-requires
     refusal-requires
     refuse-requires-2
     returns-2

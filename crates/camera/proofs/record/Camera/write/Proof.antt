@@ -1,13 +1,13 @@
 use mathlib.Core.Path.{_≡_, sym, _∙_}
 use mathlib.Core.Bool.{true}
 use borrow.Author.Tests.{not-true, not-false}
-use Rattle.camera.specs.Record.{wellFormed}
+use Rattle.camera.specs.Record.{recordWellFormed}
 use Rattle.camera.proofs.Laws.Writing.{write-unformed, write-no-room, write-done}
 use borrow.Author.Needs.{needs}
 use Rattle.camera.proofs.record.Camera.write.Statement.{statement}
 use Rattle.camera.proofs.record.Camera.write.Tie as tie
 
-formed : (d : tie.Else1) → wellFormed (d .before .before .before .args .self) ≡ true
+formed : (d : tie.Else1) → recordWellFormed (d .before .before .before .args .self) ≡ true
 formed d = sym (d .before .well-formed .ensures) ∙ not-false _ (d .if1 .left)
 
 well-formed-requires : tie.Need-well-formed-requires

@@ -1,6 +1,6 @@
 use borrow.Author.Tests.{eq-eqb, ne-eqb, le-leb, lt-leb}
 use borrow.Author.Needs.{needs}
-use Rattle.settings.specs.Settings.{held}
+use Rattle.settings.specs.Held.{settingsHeld}
 use Rattle.settings.proofs.settings.Settings.held.Statement.{statement}
 use Rattle.settings.proofs.settings.Settings.held.Tie as tie
 
@@ -8,7 +8,7 @@ held-ev-requires : tie.Need-held-ev-requires
 held-ev-requires c κs = search needs
 
 returns : tie.Need-returns
-unfolding held
+unfolding settingsHeld
 returns c = rw (eq-eqb _ _ (c .before .if1 .taken)) (c .held-ev .ensures)
 
 sub-at : tie.Need-sub-at
@@ -27,7 +27,7 @@ held-face-requires : tie.Need-held-face-requires
 held-face-requires c κs = search needs
 
 returns-2 : tie.Need-returns-2
-unfolding held
+unfolding settingsHeld
 returns-2 c =
     let e = c .before .before in
     rw (ne-eqb _ _ (e .before .if1 .left), le-leb _ _ (e .if2 .taken)) (c .held-face .ensures)
@@ -36,7 +36,7 @@ held-metadata-requires : tie.Need-held-metadata-requires
 held-metadata-requires c κs = search needs
 
 returns-3 : tie.Need-returns-3
-unfolding held
+unfolding settingsHeld
 returns-3 c =
     let e = c .before in
     rw (ne-eqb _ _ (e .before .before .if1 .left), lt-leb _ _ (e .before .if2 .left), eq-eqb _ _ (e .if3 .taken)) (c .held-metadata .ensures)
@@ -45,7 +45,7 @@ held-hdr-requires : tie.Need-held-hdr-requires
 held-hdr-requires c κs = search needs
 
 returns-4 : tie.Need-returns-4
-unfolding held
+unfolding settingsHeld
 returns-4 c =
     let e = c .before in
     rw (
@@ -60,7 +60,7 @@ held-throttle-requires : tie.Need-held-throttle-requires
 held-throttle-requires c κs = search needs
 
 returns-5 : tie.Need-returns-5
-unfolding held
+unfolding settingsHeld
 returns-5 c =
     let e = c .before in
     rw (
@@ -73,7 +73,7 @@ returns-5 c =
     (c .held-throttle .ensures)
 
 returns-6 : tie.Need-returns-6
-unfolding held
+unfolding settingsHeld
 returns-6 c =
     let e = c in
     rw (

@@ -15,8 +15,8 @@ returns c =
 item-requires : tie.Need-item-requires
 item-requires c κs = search needs
 
-code-of-requires : tie.Need-code-of-requires
-code-of-requires c κs = search needs
+item-code-requires : tie.Need-item-code-requires
+item-code-requires c κs = search needs
 
 put-item-requires : tie.Need-put-item-requires
 put-item-requires c κs = search needs
@@ -25,9 +25,9 @@ returns-2 : tie.Need-returns-2
 returns-2 c =
     let i = c .before .before in
     let a = i .before .before .before .args in
-    rw (c .put-item .ensures, c .before .code-of .ensures, i .item .ensures) (one-item (a .p) (a .self) (a .selector) (a .payload .now) (i .before .if1 .left))
+    rw (c .put-item .ensures, c .before .item-code .ensures, i .item .ensures) (one-item (a .p) (a .self) (a .selector) (a .payload .now) (i .before .if1 .left))
 
 pub set-spec : {M : Type 1} → statement M
 set-spec =
     tie.close
-    (tie.spec take-requires returns item-requires code-of-requires put-item-requires returns-2)
+    (tie.spec take-requires returns item-requires item-code-requires put-item-requires returns-2)

@@ -1,0 +1,37 @@
+-- Every answer fits the place that the code has for it. Assumes nothing.
+use mathlib.Core.Bool.{Bool, true, false, cond}
+use Prim.Native.Nat.{ℕ, _≤_}
+use native.Mathlib.Omega.{arith}
+use lib.Dec.{eqb, lit≤}
+use lib.ListN.{length}
+use Rattle.wire.specs.Numbers.{bytesOf}
+use Rattle.wire.specs.Selectors.{ev, face, metadata, hdr}
+use Rattle.request.specs.Answers.{longestAnswer}
+use Rattle.request.proofs.Laws.Answers.{answer-length}
+use Rattle.exposure.specs.Exposure.{evAttribute, evBytes}
+use Rattle.face.specs.Answers.{faceValue}
+use Rattle.face.proofs.Laws.Answers.{value-length}
+use Rattle.metadata.specs.Metadata.{metadataAttribute}
+use Rattle.hdr.specs.Hdr.{hdrAttribute}
+use Rattle.throttle.specs.Throttle.{throttleAttribute, throttleBytes}
+use Rattle.throttle.proofs.Laws.Throttle.{throttle-length}
+use Rattle.profile.specs.declared.Profile.{Profile}
+use Rattle.settings.specs.declared.settings.Settings.{Settings}
+use Rattle.answering.specs.Answering.{valueOf, controlAnswer}
+
+module _ (p : Profile) (s : Settings) (selector code : ℕ) where
+  value-fits : length (valueOf p s selector code) ≤ longestAnswer
+  unfolding valueOf evBytes bytesOf
+  value-fits = go (eqb selector ev) (eqb selector face) (eqb selector metadata) (eqb selector hdr)
+    where
+      go : (a b d e : Bool)
+          → length (cond a (evBytes (evAttribute (p .ev) (s .ev) code)) (cond b (faceValue (p .face) (s .face) code) (cond d (bytesOf 4 (metadataAttribute (p .metadata) (s .metadata) code)) (cond e (bytesOf 4 (hdrAttribute (p .hdr) (s .hdr) code)) (throttleBytes (throttleAttribute (p .throttle) (s .throttle) code) (p .throttle)))))) ≤ longestAnswer
+      go true b d e = lit≤ tt
+      go false true d e = value-length (p .face) (s .face) code
+      go false false true e = lit≤ tt
+      go false false false true = lit≤ tt
+      go false false false false = omega (arith, throttle-length (throttleAttribute (p .throttle) (s .throttle) code) (p .throttle))
+
+  pub answer-fits : length (controlAnswer p s selector code) ≤ longestAnswer
+  unfolding controlAnswer
+  answer-fits = answer-length code _ _ (valueOf p s selector code) longestAnswer (lit≤ tt) value-fits

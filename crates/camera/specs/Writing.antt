@@ -1,0 +1,29 @@
+-- TODO head
+use Prim.Native.Nat.{ℕ}
+use mathlib.Core.List.{List, [], _∷_, _++_}
+use mathlib.Core.Bool.{cond, not}
+use lib.Dec.{ltb, eqb}
+use lib.ListN.{length, drop}
+use Rattle.wire.specs.Rows.{_⇒_, firstOf}
+use Rattle.wire.specs.Uvc.{malformedRecord, noRoom}
+use Rattle.encoding.specs.Encoding.{encoded}
+use Rattle.camera.specs.declared.record.Camera.{Camera}
+use Rattle.camera.specs.declared.calls.Outcome.{Outcome}
+use Rattle.camera.specs.Record.{recordWellFormed}
+use Rattle.camera.specs.Requests.{outcomeBy}
+
+-- a camera's snapshot
+unfoldable pub snapshot : Camera → List ℕ
+snapshot c = encoded (c .settings)
+
+unfoldable pub writeCode : Camera → ℕ → ℕ
+writeCode c room = firstOf ((not (recordWellFormed c) ⇒ malformedRecord) ∷ (ltb room (length (snapshot c)) ⇒ noRoom) ∷ [])
+
+unfoldable pub written : Camera → ℕ → Outcome
+written c room = outcomeBy (writeCode c room) c (record { code = 0; count = length (snapshot c); camera = c })
+
+-- the lent buffer afterwards
+unfoldable pub writtenOut : Camera → List ℕ → List ℕ
+writtenOut c out = cond (eqb (writeCode c (length out)) 0) (snapshot c ++ drop (length (snapshot c)) out) out
+
+

@@ -1,0 +1,73 @@
+-- The owner's demand 1 on the calls that take the record, all at once. Assumes nothing.
+use mathlib.Core.Path.{_≡_, refl, ap}
+use mathlib.Core.List.{List}
+use mathlib.Core.Bool.{Bool, true, false, cond}
+use Prim.Native.Nat.{ℕ}
+use lib.Dec.{eqb}
+use lib.IntN.{pos}
+use lib.ListN.{length}
+use borrow.Author.Tests.{ne-eqb}
+use Rattle.wire.specs.Uvc.{malformedRecord}
+use Rattle.request.specs.Setup.{isSetRequest}
+use Rattle.request.proofs.Laws.Tests.{at-unformed}
+use Rattle.request.proofs.Theorems as requests
+use Rattle.exposure.specs.Exposure.{sensorValue}
+use Rattle.camera.specs.declared.record.Camera.{Camera}
+use Rattle.camera.specs.declared.calls.Outcome.{Outcome}
+use Rattle.camera.specs.Record.{recordWellFormed}
+use Rattle.camera.specs.Requests.{table, requestedCode, refused, outcomeBy, requestDone, requested}
+use Rattle.camera.specs.Loading.{loadCode, loaded}
+use Rattle.camera.specs.Writing.{writeCode, written, writtenOut}
+use Rattle.camera.specs.Calls.{recordCode, streamed, sensed, Call, request, stream, load, write, sense, outcome}
+use Rattle.demands.specs.Refusals.{Unchanged}
+
+-- a call by its number: where that is not 0, it is refused
+by-number : (code : ℕ) (c : Camera) (done : Outcome) → done .code ≡ 0 → (outcomeBy code c done .code ≡ 0 → ⊥) → (code ≡ 0 → ⊥) × (outcomeBy code c done ≡ refused code c)
+by-number code c done z n = go (eqb code 0) refl n
+  where
+    go : (b : Bool) → eqb code 0 ≡ b → (cond b done (refused code c) .code ≡ 0 → ⊥) → (code ≡ 0 → ⊥) × (cond b done (refused code c) ≡ refused code c)
+    go true e m = absurd (m z)
+    go false e m = (m, refl)
+
+done-code : (c : Camera) (s payload : List ℕ) → requestDone c s payload .code ≡ 0
+unfolding requestDone
+done-code c s payload = go (isSetRequest s) _ _ refl refl
+  where
+    go : (b : Bool) (set get : Outcome) → set .code ≡ 0 → get .code ≡ 0 → cond b set get .code ≡ 0
+    go true set get p q = p
+    go false set get p q = q
+
+-- every refusal, of every call, for all bytes and any record
+pub refusals : (c : Camera) (call : Call) → (outcome c call .code ≡ 0 → ⊥) → Unchanged c call
+unfolding requested loaded written writtenOut streamed sensed
+refusals c (request s payload reply) n =
+    let r = by-number (requestedCode c s payload (length reply)) c (requestDone c s payload) (done-code c s payload) n in
+    record { count = ap (λ o. o .count) (r .1); camera = ap (λ o. o .camera) (r .1); buffer = requests.refusals (table c) s payload reply (r .0) .buffer }
+refusals c (stream on) n =
+    let r = by-number (recordCode c) c _ refl n in
+    record { count = ap (λ o. o .count) (r .1); camera = ap (λ o. o .camera) (r .1); buffer = refl }
+refusals c (load s) n =
+    let r = by-number (loadCode c s) c _ refl n in
+    record { count = ap (λ o. o .count) (r .1); camera = ap (λ o. o .camera) (r .1); buffer = refl }
+refusals c (write out) n =
+    let r = by-number (writeCode c (length out)) c _ refl n in
+    record { count = ap (λ o. o .count) (r .1); camera = ap (λ o. o .camera) (r .1); buffer = rw (ne-eqb (writeCode c (length out)) 0 (r .0)) }
+refusals c sense n = record { count = refl; camera = refl; buffer = refl }
+
+-- and the sensor is handed 0
+pub refused-sensor : (c : Camera) → (sensed c .code ≡ 0 → ⊥) → sensed c .value ≡ pos 0
+unfolding sensed
+refused-sensor c n = go (recordWellFormed c) n
+  where
+    go : (w : Bool) → (cond {A = ℕ} w 0 malformedRecord ≡ 0 → ⊥) → cond w (sensorValue (c .profile .ev) (c .settings .ev)) (pos 0) ≡ pos 0
+    go true m = absurd (m refl)
+    go false m = refl
+
+-- A record that is not well formed is refused 0x21, by every call that takes it.
+pub malformed-refused : (c : Camera) → recordWellFormed c ≡ false → (call : Call) → outcome c call .code ≡ malformedRecord
+unfolding requested streamed loaded loadCode written writeCode sensed
+malformed-refused c w (request s payload reply) = rw (at-unformed (table c) s payload (length reply) w)
+malformed-refused c w (stream on) = rw w
+malformed-refused c w (load s) = rw w
+malformed-refused c w (write out) = rw w
+malformed-refused c w sense = rw w

@@ -1,0 +1,158 @@
+-- What the owner's demand 2 says of the camera: new settings, the sensor's number, GET_CUR, LEN, and what is written reads back.
+use Prim.Native.Nat.{ℕ, _+_, _*_, _/_, _^_, _≤_, _<_, min}
+use mathlib.Core.Path.{_≡_}
+use mathlib.Core.List.{List, [], _∷_, _++_}
+use mathlib.Core.Option.{none, some, Option·map}
+use mathlib.Core.Bool.{true, cond}
+use lib.Dec.{eqb}
+use lib.IntN.{pos, _*ℤ_}
+use lib.ListN.{length, getD, take, drop}
+use Rattle.wire.specs.Endpoints.{firstAddress}
+use Rattle.wire.specs.Numbers.{bytesOf}
+use Rattle.wire.specs.Selectors as selector
+use Rattle.wire.specs.Uvc.{getCur, getDef, getLen}
+use Rattle.flags.specs.Flags.{oneFlag}
+use Rattle.flags.specs.declared.Choice.the-variants.{At}
+use Rattle.request.specs.Setup.{setupValueLow, setupSelector, setupWLength, isGetRequest}
+use Rattle.request.specs.Tests.{isAddressed}
+use Rattle.snapshot.specs.Keys.{keyFor}
+use Rattle.snapshot.specs.Form.{wellFormed}
+use Rattle.snapshot.specs.Records.{decode}
+use Rattle.snapshot.specs.Given.{over, lastOf}
+use Rattle.controls.specs.declared.EvSetting.{EvSetting}
+use Rattle.exposure.specs.declared.ev.HeldEv.the-variants as E
+use Rattle.controls.specs.declared.ThrottleSetting.{ThrottleSetting}
+use Rattle.controls.specs.declared.Item.the-variants.{Given}
+use Rattle.controls.specs.declared.Setting.the-variants as S
+use Rattle.exposure.specs.Exposure.{divisor, evBytes, unitsPerStop}
+use Rattle.face.specs.Limits.{endpointsOf, addressAt}
+use Rattle.face.specs.Answers.{entryOf, heldAt, flagsAt}
+use Rattle.entries.specs.Entries.{entryAddress, entryFlags}
+use Rattle.throttle.specs.Throttle.{throttleBytes}
+use Rattle.profile.specs.declared.Profile.{Profile}
+use Rattle.profile.specs.KnownControl.{KnownControl}
+use Rattle.profile.specs.Profile.{has, setLength}
+use Rattle.settings.specs.Settings.{settingKey}
+use Rattle.camera.specs.declared.record.Camera.{Camera}
+use Rattle.camera.specs.Record.{held}
+use Rattle.camera.specs.Requests.{cameraAnswer}
+use Rattle.encoding.specs.Encoding.{recordOf}
+use Rattle.camera.specs.Loading.{loadItem}
+use Rattle.camera.specs.Writing.{snapshot}
+use Rattle.camera.specs.Calls.{sensed, Call, request, outcome, left, next}
+use Rattle.demands.specs.Runs.{gives, leaves}
+use Rattle.demands.specs.Cameras.{Written}
+
+-- New settings. What any call leaves of a record that is not refused 0x21: of each key the last setting that the call gives, else the one
+-- held, and the streaming flag of a notice. An accepted SET gives its payload's settings, an accepted load its records', a refused call none.
+pub record NewSettings (c : Camera) (call : Call) : Type 0 where
+  pub settings : (k : ℕ) → held (next c call) k ≡ over (held c k) (lastOf (gives (c .profile) (c .streaming) call) k)
+  pub streaming : next c call .streaming ≡ leaves (c .streaming) call
+  pub profile : next c call .profile ≡ c .profile
+  pub refused : (outcome c call .code ≡ 0 → ⊥) → gives (c .profile) (c .streaming) call ≡ []
+
+-- The sensor's number of the EV setting s that is held, in twelfths of a stop. The setting has one flag, which is offered and says the step:
+-- d = divisor place of them make a stop. The number is value · (12 / d), where d divides 12; so it is as many stops as the value, unrounded.
+pub record Twelfths (c : Camera) (s : EvSetting) : Type 0 where
+  pub place : ℕ
+  pub offered : oneFlag (c .profile .ev .steps) (s .flags) ≡ At place
+  pub flag : s .flags < 2 ^ 56 → (s .flags ≡ 2 ^ place) × (place < 5)
+  pub value : sensed c .value ≡ s .value *ℤ pos (unitsPerStop / divisor place)
+  pub whole : divisor place * (unitsPerStop / divisor place) ≡ unitsPerStop
+  pub exact : sensed c .value *ℤ pos (divisor place) ≡ s .value *ℤ pos unitsPerStop
+
+-- What the sensor is handed, exactly; 0 while no setting is held.
+pub record SensorExact (c : Camera) : Type 0 where
+  pub code : sensed c .code ≡ 0
+  pub held : (s : EvSetting) → c .settings .ev ≡ E.Held s → Twelfths c s
+  pub unset : c .settings .ev ≡ E.Unset → sensed c .value ≡ pos 0
+
+-- the eight bytes of entry i, in a payload as in an answer that lists every endpoint
+abbrev pub entryBytes : List ℕ → ℕ → List ℕ
+entryBytes s i = take 8 (drop (1 + 8 * i) s)
+
+-- CUR is the setting held, control by control: the full answer to GET_CUR is its bytes, behind a throttle's the profile's limits. Of face
+-- authentication an endpoint's entry has the setting held of its address, or is DEF's while there is none.
+pub record CurrentIsHeld (c : Camera) : Type 0 where
+  pub of-ev : (s : EvSetting) → held c (settingKey (S.Ev s)) ≡ some (S.Ev s) → cameraAnswer c selector.ev getCur ≡ evBytes s
+  pub of-face : (j flags : ℕ) → j < endpointsOf (c .profile .face) → let address = addressAt (c .profile .face) j in
+      held c (settingKey (S.Face address flags)) ≡ some (S.Face address flags) → entryBytes (cameraAnswer c selector.face getCur) j ≡ entryOf address flags
+  pub of-unset-face : (j : ℕ) → j < endpointsOf (c .profile .face) → has (c .profile) selector.face ≡ true
+      → held c (keyFor selector.face (addressAt (c .profile .face) j)) ≡ none
+      → entryBytes (cameraAnswer c selector.face getCur) j ≡ entryBytes (cameraAnswer c selector.face getDef) j
+  pub of-metadata : (n : ℕ) → held c (settingKey (S.Metadata n)) ≡ some (S.Metadata n) → cameraAnswer c selector.metadata getCur ≡ bytesOf 4 n
+  pub of-hdr : (n : ℕ) → held c (settingKey (S.Hdr n)) ≡ some (S.Hdr n) → cameraAnswer c selector.hdr getCur ≡ bytesOf 4 n
+  pub of-throttle : (s : ThrottleSetting) → held c (settingKey (S.Throttle s)) ≡ some (S.Throttle s)
+      → cameraAnswer c selector.throttle getCur ≡ throttleBytes s (c .profile .throttle)
+
+-- Two cameras that answer alike: what each call answers and leaves of the record, the lent bytes, and the sensor's number.
+pub record SameAnswers (c d : Camera) : Type 0 where
+  pub outcomes : (call : Call) → outcome c call ≡ outcome d call
+  pub buffers : (call : Call) → left c call ≡ left d call
+  pub sensor : sensed c ≡ sensed d
+
+-- LEN of face authentication: the longest payload, which one that names every endpoint has.
+pub record FaceLength (c : Camera) : Type 0 where
+  pub answer : cameraAnswer c selector.face getLen ≡ bytesOf 2 (1 + 8 * endpointsOf (c .profile .face))
+  pub longest : (payload : List ℕ) → setLength (c .profile) selector.face payload ≤ 1 + 8 * endpointsOf (c .profile .face)
+  pub reached : (rest : List ℕ) → setLength (c .profile) selector.face (c .profile .face .count ∷ rest) ≡ 1 + 8 * endpointsOf (c .profile .face)
+
+-- the full answer to GET_CUR once a payload is set: its bytes, but for a throttle's last twelve, which are the profile's limits
+abbrev pub bytesBack : Profile → ℕ → List ℕ → List ℕ
+bytesBack p control payload =
+    cond (eqb control selector.throttle)
+    (take 8 payload ++ bytesOf 4 (p .throttle .minimum) ++ bytesOf 4 (p .throttle .maximum) ++ bytesOf 4 (p .throttle .step))
+    payload
+
+-- What an accepted SET of face authentication makes of the record c: d.
+pub record FaceReadsBack (c d : Camera) (payload : List ℕ) : Type 0 where
+  -- the setting held of each entry's address is the entry's
+  pub entries : (i : ℕ) → i < getD payload 0 0 → heldAt (d .settings .face) (entryAddress payload i) ≡ entryFlags payload i
+  -- an endpoint has that address
+  pub place : (i : ℕ) → i < getD payload 0 0 → (j : ℕ) × ((j < endpointsOf (c .profile .face)) × (addressAt (c .profile .face) j ≡ entryAddress payload i))
+  -- and GET_CUR lists it with the entry's flags: the eight bytes that were set
+  pub listed : (i j : ℕ) → i < getD payload 0 0 → addressAt (c .profile .face) j ≡ entryAddress payload i
+      → flagsAt (c .profile .face) (d .settings .face) getCur j ≡ entryFlags payload i
+  pub bytes : (i j : ℕ) → i < getD payload 0 0 → j < endpointsOf (c .profile .face) → addressAt (c .profile .face) j ≡ entryAddress payload i
+      → entryBytes (cameraAnswer d selector.face getCur) j ≡ entryBytes payload i
+  -- an address that no entry names keeps its setting, and its endpoint's entry in GET_CUR's answer is as it was
+  pub others : (address : ℕ) → firstAddress ≤ address → ((i : ℕ) → i < getD payload 0 0 → entryAddress payload i ≡ address → ⊥)
+      → heldAt (d .settings .face) address ≡ heldAt (c .settings .face) address
+  pub unnamed : (j : ℕ) → j < endpointsOf (c .profile .face) → ((i : ℕ) → i < getD payload 0 0 → entryAddress payload i ≡ addressAt (c .profile .face) j → ⊥)
+      → entryBytes (cameraAnswer d selector.face getCur) j ≡ entryBytes (cameraAnswer c selector.face getCur) j
+  -- no entries set nothing
+  pub empty : getD payload 0 0 ≡ 0 → d ≡ c
+
+-- What an accepted SET of a control makes of the record c: d, whose full answer to GET_CUR is the bytes that were set; a throttle's last twelve
+-- are the profile's limits.
+pub record ReadsBack (c d : Camera) (control : ℕ) (payload : List ℕ) : Type 0 where
+  pub known : KnownControl control
+  pub answer : (control ≡ selector.face → ⊥) → cameraAnswer d control getCur ≡ bytesBack (c .profile) control payload
+  pub of-face : control ≡ selector.face → FaceReadsBack c d payload
+
+-- What is sent of a full answer: the first min(wLength, full length) bytes, reported and at the buffer's start; the rest of the buffer and the
+-- record are as they were.
+pub record CameraSends (c : Camera) (s payload reply full : List ℕ) : Type 0 where
+  pub count : outcome c (request s payload reply) .count ≡ min (setupWLength s) (length full)
+  pub buffer : left c (request s payload reply) ≡ take (min (setupWLength s) (length full)) full ++ drop (min (setupWLength s) (length full)) reply
+  pub camera : next c (request s payload reply) ≡ c
+
+-- A GET's setup for a control of the profile; with no payload and room it is accepted.
+pub record Gets (p : Profile) (s : List ℕ) : Type 0 where
+  pub eight : length s ≡ 8
+  pub addresses : isAddressed (p .unit) (p .interface) s ≡ true
+  pub present : has p (setupSelector s) ≡ true
+  pub low : setupValueLow s ≡ 0
+  pub get : isGetRequest s ≡ true
+
+-- A written snapshot reads back: it is well formed, has the record of every setting held and no other, and each record read as a SET is that
+-- setting again. With room for it, writing leaves these bytes.
+pub record SnapshotReadsBack (c : Camera) : Type 0 where
+  pub formed : wellFormed (snapshot c) ≡ true
+  pub records : (k : ℕ) → decode (snapshot c) k ≡ Option·map recordOf (held c k)
+  pub settings : (k : ℕ) → loadItem (c .profile) true (snapshot c) k ≡ Option·map Given (held c k)
+  pub written : (out : List ℕ) → length (snapshot c) ≤ length out → Written c (snapshot c) out
+
+-- 01's largest snapshot of a profile: 159 bytes are room for any camera's.
+abbrev pub WriteSuffices : Camera → Type 0
+WriteSuffices c = (out : List ℕ) → 159 ≤ length out → Written c (snapshot c) out

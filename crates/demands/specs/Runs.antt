@@ -1,0 +1,61 @@
+-- Document 01, "The list of demand 3": what a list of calls gives, by the profile, the flag and the calls' bytes alone.
+use Prim.Native.Nat.{ℕ}
+use mathlib.Core.List.{List, [], _∷_, _++_}
+use mathlib.Core.Option.{Option}
+use mathlib.Core.Bool.{Bool, cond}
+use lib.Dec.{eqb}
+use Rattle.wire.specs.Rows.{firstOf}
+use Rattle.request.specs.Setup.{setupSelector}
+use Rattle.request.specs.Tests.{setAccepted}
+use Rattle.snapshot.specs.Given.{lastOf, snapshotOf}
+use Rattle.controls.specs.declared.Setting.{Setting}
+use Rattle.profile.specs.declared.Profile.{Profile}
+use Rattle.settings.specs.Items.{setGives}
+use Rattle.camera.specs.declared.record.Camera.{Camera}
+use Rattle.camera.specs.Requests.{rules}
+use Rattle.encoding.specs.Encoding.{recordOf}
+use Rattle.camera.specs.Loading.{loadTests, loadGives}
+use Rattle.camera.specs.Calls.{Call, request, stream, load, write, sense, next}
+
+-- a SET is accepted by tests 2 to 8, with the profile and the flag at that place; they look at no setting that is held
+abbrev pub acceptsSet : Profile → Bool → List ℕ → List ℕ → Bool
+acceptsSet p streaming setup payload = setAccepted (rules p streaming) setup payload
+
+-- the settings that a call gives, in order: an accepted SET's, or those of an accepted load's records; none where it is refused or sets nothing
+unfoldable pub gives : Profile → Bool → Call → List (ℕ × Setting)
+gives p streaming (request setup payload reply) = cond (acceptsSet p streaming setup payload) (setGives p (setupSelector setup) payload) []
+gives p streaming (stream on) = []
+gives p streaming (load s) = cond (eqb (firstOf (loadTests p streaming s)) 0) (loadGives p streaming s) []
+gives p streaming (write out) = []
+gives p streaming sense = []
+
+-- the flag after a call
+abbrev pub leaves : Bool → Call → Bool
+leaves streaming (request setup payload reply) = streaming
+leaves streaming (stream on) = on
+leaves streaming (load s) = streaming
+leaves streaming (write out) = streaming
+leaves streaming sense = streaming
+
+-- the flag after a list: the last notice's, or the start's
+abbrev pub flagAfter : Bool → List Call → Bool
+flagAfter streaming [] = streaming
+flagAfter streaming (c ∷ cs) = flagAfter (leaves streaming c) cs
+
+-- all settings that a list gives, in order
+abbrev pub given : Profile → Bool → List Call → List (ℕ × Setting)
+given p streaming [] = []
+given p streaming (c ∷ cs) = gives p streaming c ++ given p (leaves streaming c) cs
+
+-- the setting of each key after a list: the last that names it, or none
+abbrev pub settings : Profile → Bool → List Call → ℕ → Option Setting
+settings p streaming cs = lastOf (given p streaming cs)
+
+-- the snapshot of these settings, 01's "sheet after a list"
+abbrev pub snapshotAfter : Profile → Bool → List Call → List ℕ
+snapshotAfter p streaming cs = snapshotOf recordOf (settings p streaming cs)
+
+-- the record after a list, call by call
+abbrev pub run : Camera → List Call → Camera
+run c [] = c
+run c (call ∷ cs) = run (next c call) cs
