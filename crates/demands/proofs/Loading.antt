@@ -11,7 +11,7 @@ use Rattle.wire.specs.Rows.{firstOf}
 use Rattle.request.specs.Tests.{setAccepted}
 use Rattle.snapshot.specs.Keys.{keys}
 use Rattle.snapshot.specs.Form.{wellFormed}
-use Rattle.snapshot.specs.Records.{decode, GoodAt, RecordOf, KeyedRecord, recordsOf}
+use Rattle.snapshot.specs.Records.{decode, GoodAt, IsRecord, KeyedRecord, recordsOf}
 use Rattle.snapshot.specs.Records as records
 use Rattle.snapshot.proofs.Laws.Maps.{decode-good}
 use Rattle.snapshot.proofs.Laws.Entries.{entryAt, entries, records-entries}
@@ -39,9 +39,10 @@ use Rattle.demands.proofs.Laws.Fits.{held-fitting}
 use Rattle.demands.proofs.Laws.Cameras.{record-of, record-of-taken}
 use Rattle.demands.proofs.Laws.Sets as sets
 use Rattle.demands.proofs.Laws.Steps.{step, load-answer, load-next, request-next, gives-good}
+use Rattle.wire.proofs.Laws.Rows.{answers-number}
 
 -- every record in form, of any key
-pub record-as-set : (p : Profile) → profileValid p ≡ true → (streaming : Bool) (k : ℕ) (r : List ℕ) → RecordOf k r → AsSet p streaming k r
+pub record-as-set : (p : Profile) → profileValid p ≡ true → (streaming : Bool) (k : ℕ) (r : List ℕ) → IsRecord k r → AsSet p streaming k r
 record-as-set p v streaming k r g = sets.record-as-set k r g p v streaming
 
 -- the records of a snapshot, in order
@@ -105,7 +106,7 @@ module _ (c : Camera) (o : Ok (c .profile) c) (s : List ℕ) (w : wellFormed s �
       let p = c .profile in
       let f = c .streaming in
       load-answer c s (o .formed)
-      ∙ rw w (sets.row-number (loadRefusal p f s))
+      ∙ rw w (answers-number (loadRefusal p f s))
       ∙ sym (ap (firstFault p f) (records-entries s w) ∙ fault-entries p (formed-profile c (o .formed)) f (decode s) (decode-good s) keys 0)
 
   load-given : loaded c s .code ≡ 0 → gives (c .profile) (c .streaming) (load s) ≡ given (c .profile) (c .streaming) (recordSets (c .profile) (recordsOf s))

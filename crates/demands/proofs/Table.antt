@@ -6,7 +6,8 @@ use Rattle.flags.specs.Flags.{isSet, bitsOf, count, first, oneFlag}
 use Rattle.request.specs.Tests.{requestTests, valueTests, requestRows, requestCode}
 use Rattle.controls.specs.Controls.{itemOf, itemCode, firstRefusal}
 use Rattle.exposure.specs.Exposure.{signed32, bits32, inRange, refusalAt, evRefusal, evItem, evBytes, scaledAt, scaled, sensorValue}
-use Rattle.face.specs.Limits.{allBelow, addressBefore, endpointValid, faceValid}
+use Rattle.face.specs.Limits.{addressBefore, endpointValid, faceValid}
+use Rattle.wire.specs.Rows.{allBelow}
 use Rattle.hdr.specs.Hdr.{hdrRefusal, hdrItem}
 use Rattle.throttle.specs.Throttle.{throttleRefusal, throttleItem, throttleBytes}
 use Rattle.snapshot.specs.Records.{records, encode}

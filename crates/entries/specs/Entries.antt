@@ -15,7 +15,8 @@ use Rattle.controls.specs.declared.Item.{Item}
 use Rattle.controls.specs.declared.Setting.the-variants as S
 use Rattle.controls.specs.Controls.{itemOf, firstRefusal}
 use Rattle.face.specs.declared.limits.FaceLimits.{FaceLimits}
-use Rattle.face.specs.Limits.{allBelow, offersOf}
+use Rattle.face.specs.Limits.{offersOf}
+use Rattle.wire.specs.Rows.{allBelow}
 use Rattle.entries.specs.declared.Taken.{Taken}
 
 -- entry i of a payload

@@ -3,6 +3,7 @@ use Prim.Native.Nat.{ℕ, zero, suc, _-_, _/_, min}
 use mathlib.Core.Bool.{Bool, true, cond, _&&_, _||_}
 use lib.Dec.{leb, ltb, eqb}
 use lib.ListN.{getD}
+use Rattle.wire.specs.Rows.{allBelow}
 use Rattle.wire.specs.Endpoints.{firstAddress, lastAddress, endpointLimit}
 use Rattle.face.specs.declared.limits.FaceLimits.{FaceLimits}
 
@@ -15,11 +16,6 @@ addressAt l i = getD (l .addresses) i 0
 
 abbrev pub offersAt : FaceLimits → ℕ → ℕ
 offersAt l i = getD (l .offers) i 0
-
--- f holds of each number below n
-unfoldable pub allBelow : ℕ → (ℕ → Bool) → Bool
-allBelow zero f = true
-allBelow (suc n) f = allBelow n f && f n
 
 -- exactly one of D1 and D2, with D0 or without
 abbrev pub offersValid : ℕ → Bool

@@ -7,7 +7,7 @@ use Rattle.snapshot.specs.Keys.{keys}
 use Rattle.controls.specs.declared.Setting.{Setting}
 use Rattle.controls.specs.declared.Setting.the-variants as S
 use Rattle.exposure.specs.Exposure.{evRefusal}
-use Rattle.face.specs.Limits.{allBelow}
+use Rattle.wire.specs.Rows.{allBelow}
 use Rattle.entries.specs.Entries.{settingRefusal}
 use Rattle.metadata.specs.Metadata.{metadataRefusal}
 use Rattle.hdr.specs.Hdr.{hdrRefusal}

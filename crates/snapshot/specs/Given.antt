@@ -24,6 +24,6 @@ abbrev pub lastOf : {Value : Type 0} → List (KeyedSetting Value) → ℕ → O
 lastOf [] k = none
 lastOf (p ∷ l) k = over (cond (eqb (p .0) k) (some (p .1)) none) (lastOf l k)
 
--- the snapshot of the settings held, where `recordOf v` is the record of the value v of the key k
+-- the snapshot of the settings held, where `recordOf v` is the record of the value v
 abbrev pub snapshotOf : {Value : Type 0} → (Value → List ℕ) → (ℕ → Option Value) → List ℕ
 snapshotOf recordOf held = encode (λ k. Option·map recordOf (held k))

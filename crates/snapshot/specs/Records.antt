@@ -68,14 +68,14 @@ recordCount zero k m = 0
 recordCount (suc n) k m = countOne (m k) (recordCount n (suc k) m)
 
 -- a record of key k: the bytes of a sound record, no more and no fewer
-pub record RecordOf (k : ℕ) (r : List ℕ) : Type 0 where
+pub record IsRecord (k : ℕ) (r : List ℕ) : Type 0 where
   pub long : length r ≡ recordLength k
   pub is : stands k r ≡ true
 
 -- given records are records of their keys
 abbrev pub GoodAt : ℕ → Option (List ℕ) → Type 0
 GoodAt k none = Unit {0}
-GoodAt k (some r) = RecordOf k r
+GoodAt k (some r) = IsRecord k r
 
 abbrev pub Good : (ℕ → Option (List ℕ)) → Type 0
 Good m = (k : ℕ) → GoodAt k (m k)

@@ -1,3 +1,4 @@
+pub mod Below
 pub mod Bytes
 pub mod Numbers
 pub mod Writes

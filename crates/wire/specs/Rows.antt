@@ -1,5 +1,5 @@
 -- Document 01 orders its tests: the first line that fails answers. Here that is a table of rows, a test and its number.
-use Prim.Native.Nat.{ℕ, suc}
+use Prim.Native.Nat.{ℕ, zero, suc}
 use mathlib.Core.Path.{_≡_}
 use mathlib.Core.List.{List, [], _∷_, _++_}
 use mathlib.Core.Option.{Option, none, some}
@@ -44,3 +44,8 @@ pub record AnswersAt (rows : List Row) (i : ℕ) : Type 0 where
 abbrev pub allOf : List Bool → Bool
 allOf [] = true
 allOf (test ∷ tests) = test && allOf tests
+
+-- f holds of each number below n
+unfoldable pub allBelow : ℕ → (ℕ → Bool) → Bool
+allBelow zero f = true
+allBelow (suc n) f = allBelow n f && f n

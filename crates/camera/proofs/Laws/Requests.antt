@@ -27,6 +27,7 @@ use Rattle.camera.specs.declared.calls.Outcome.{Outcome}
 use Rattle.camera.specs.Record.{puts, withSettings, recordWellFormed}
 use Rattle.camera.specs.Requests.{stateRefusal, table, controlRefusal, requestedCode, refused, requestDone, requested, requestedReply}
 use Rattle.camera.specs.Steps.{setDone, getDone}
+use Rattle.wire.proofs.Laws.Rows.{answers-number}
 
 -- a SET before its payload is looked at: the profile's own tests, then test 7
 module _ (p : Profile) (streaming : Bool) (selector : ℕ) where
@@ -40,16 +41,9 @@ module _ (p : Profile) (streaming : Bool) (selector : ℕ) where
   unfolding own state tableRefusal profileRefusal
   by-profile = go (has p selector) (isSettable p selector) state
     where
-      passes : (n : ℕ) → cond (not (eqb n 0)) n 0 ≡ n
-      passes n = at (eqb n 0) refl
-        where
-          at : (b : Bool) → eqb n 0 ≡ b → cond (not b) n 0 ≡ n
-          at true e = sym (eqb-true n 0 e)
-          at false e = refl
-
       go : (h t : Bool) (n : ℕ)
           → firstOf ((not h ⇒ invalidControl) ∷ (not t ⇒ invalidRequest) ∷ answers n ∷ []) ≡ cond (eqb (firstOf ((not h ⇒ invalidControl) ∷ (not t ⇒ invalidRequest) ∷ [])) 0) n (firstOf ((not h ⇒ invalidControl) ∷ (not t ⇒ invalidRequest) ∷ []))
-      go true true n = passes n
+      go true true n = answers-number n
       go true false n = refl
       go false t n = refl
 

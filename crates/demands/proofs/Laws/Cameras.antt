@@ -10,7 +10,7 @@ use lib.ListN.{drop}
 use Rattle.wire.specs.Endpoints.{firstAddress, places}
 use Rattle.wire.specs.Numbers.{bytesOf}
 use Rattle.wire.specs.Selectors as selector
-use Rattle.snapshot.specs.Records.{RecordOf, GoodAt}
+use Rattle.snapshot.specs.Records.{IsRecord, GoodAt}
 use Rattle.snapshot.specs.Records as records
 use Rattle.snapshot.proofs.Laws.Given.{EachRecord}
 use Rattle.snapshot.proofs.Laws.Controls.{record-ev, record-face, record-metadata, record-hdr, record-throttle}
@@ -41,16 +41,16 @@ use Rattle.demands.proofs.Laws.Kept.{Good, held-good, streaming-control
 use Rattle.demands.proofs.Laws.Fits.{Fitting}
 
 -- a setting's record, under its key
-pub record-of : (k : ℕ) (s : Setting) → settingKey s ≡ k → Proper s → RecordOf k (recordOf s)
+pub record-of : (k : ℕ) (s : Setting) → settingKey s ≡ k → Proper s → IsRecord k (recordOf s)
 unfolding recordOf evBytes throttleBytes bytesOf
-record-of k (S.Ev s) e p = subst (λ j. RecordOf j (recordOf (S.Ev s))) e (record-ev _ _ _ _ _ _ _ _ _ _ _)
+record-of k (S.Ev s) e p = subst (λ j. IsRecord j (recordOf (S.Ev s))) e (record-ev _ _ _ _ _ _ _ _ _ _ _)
 record-of k (S.Face address flags) e p =
     let f : firstAddress - 1 + (address - (firstAddress - 1)) ≡ address = omega arith in
-    subst (λ j. RecordOf j (recordOf (S.Face address flags))) e
-    (subst (λ a. RecordOf (address - (firstAddress - 1)) (13 ∷ 0 ∷ selector.face ∷ 0 ∷ 1 ∷ entryOf a flags)) f (record-face (address - (firstAddress - 1)) _ _ _ _ _ _ _ (omega arith) (omega arith)))
-record-of k (S.Metadata n) e p = subst (λ j. RecordOf j (recordOf (S.Metadata n))) e (record-metadata _ _ _ _)
-record-of k (S.Hdr n) e p = subst (λ j. RecordOf j (recordOf (S.Hdr n))) e (record-hdr _ _ _ _)
-record-of k (S.Throttle s) e p = subst (λ j. RecordOf j (recordOf (S.Throttle s))) e (record-throttle _ _ _ _ _ _ _ _)
+    subst (λ j. IsRecord j (recordOf (S.Face address flags))) e
+    (subst (λ a. IsRecord (address - (firstAddress - 1)) (13 ∷ 0 ∷ selector.face ∷ 0 ∷ 1 ∷ entryOf a flags)) f (record-face (address - (firstAddress - 1)) _ _ _ _ _ _ _ (omega arith) (omega arith)))
+record-of k (S.Metadata n) e p = subst (λ j. IsRecord j (recordOf (S.Metadata n))) e (record-metadata _ _ _ _)
+record-of k (S.Hdr n) e p = subst (λ j. IsRecord j (recordOf (S.Hdr n))) e (record-hdr _ _ _ _)
+record-of k (S.Throttle s) e p = subst (λ j. IsRecord j (recordOf (S.Throttle s))) e (record-throttle _ _ _ _ _ _ _ _)
 
 pub rows : (p : Profile) (l : List (ℕ × Setting)) → Each (Good p) l → EachRecord recordOf l
 rows p [] g = tt

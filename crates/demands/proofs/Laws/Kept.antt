@@ -23,13 +23,15 @@ use Rattle.controls.specs.declared.Setting.{Setting}
 use Rattle.controls.specs.declared.Setting.the-variants as S
 use Rattle.controls.specs.Controls.{itemOf}
 use Rattle.exposure.specs.Exposure.{evItem, evFlags, evValue}
-use Rattle.face.specs.Limits.{allBelow, faceValid, offersOf}
+use Rattle.face.specs.Limits.{faceValid, offersOf}
+use Rattle.wire.specs.Rows.{allBelow}
 use Rattle.entries.specs.Entries.{entryAddress, entryFlags, seenBefore, isChoice, entryRefusal, settingRefusal, faceItem}
 use Rattle.metadata.specs.Metadata.{metadataItem}
 use Rattle.hdr.specs.Hdr.{hdrItem}
 use Rattle.throttle.specs.Throttle.{throttleItem}
 use Rattle.controls.proofs.Laws.Controls.{given-is}
-use Rattle.face.proofs.Laws.Limits.{all-at, all-of, listed}
+use Rattle.face.proofs.Laws.Limits.{listed}
+use Rattle.wire.proofs.Laws.Below.{all-at, all-of}
 use Rattle.profile.specs.declared.Profile.{Profile}
 use Rattle.settings.specs.declared.settings.Settings.{Settings}
 use Rattle.profile.specs.Profile.{has, isSettable, profileValid, profileRefusal}

@@ -12,11 +12,11 @@ use borrow.Author.Tests.{eq-eqb, ne-eqb, eqb-true, eqb-false, leb-true, leb-fals
 use Rattle.wire.specs.Endpoints.{firstAddress}
 use Rattle.wire.specs.Rows.{_⇒_, answers, firstOf}
 use Rattle.wire.specs.Uvc.{malformedSnapshot}
-use Rattle.wire.proofs.Laws.Rows.{quiet}
+use Rattle.wire.proofs.Laws.Rows.{quiet, answers-number}
 use Rattle.snapshot.specs.Keys.{keys}
 use Rattle.snapshot.specs.Form.{statedKey, wellFormed}
 use Rattle.snapshot.specs.Keys.{keyFor}
-use Rattle.snapshot.specs.Records.{decode, GoodAt, RecordOf}
+use Rattle.snapshot.specs.Records.{decode, GoodAt, IsRecord}
 use Rattle.snapshot.specs.Given.{over, lastOf}
 use Rattle.merging.specs.Merging.{merged}
 use Rattle.snapshot.proofs.Laws.Sound.{stands-sound}
@@ -42,7 +42,7 @@ use Rattle.controls.proofs.Laws.Items.{passes, none-refused}
 use Rattle.profile.specs.KnownControl.{KnownControl, ev, face, metadata, hdr, throttle}
 use Rattle.camera.specs.Loading.{selectorAt, recordItem, loadRefusal, loadTests, loadGives}
 use Rattle.camera.proofs.Laws.Loading.{codeBy, givenBy}
-use Rattle.demands.proofs.Laws.Sets.{is-kind, row-number}
+use Rattle.demands.proofs.Laws.Sets.{is-kind}
 use Rattle.demands.proofs.Laws.Steps.{not-off, isGiven, key-control}
 
 -- settings under the number of what gives them
@@ -89,7 +89,7 @@ item-key p r s _ hdr e = ap settingKey (sym (given-is _ _ s e .1))
 item-key p r s _ throttle e = ap settingKey (sym (given-is _ _ s e .1))
 
 -- so the setting that a record gives stands under the record's key
-record-keyed : (p : Profile) (k : ℕ) (r : List ℕ) (s : Setting) → RecordOf k r → profileItem p (selectorAt k) (drop 4 r) 0 ≡ Given s → settingKey s ≡ k
+record-keyed : (p : Profile) (k : ℕ) (r : List ℕ) (s : Setting) → IsRecord k r → profileItem p (selectorAt k) (drop 4 r) 0 ≡ Given s → settingKey s ≡ k
 unfolding statedKey
 record-keyed p k r s q e =
     item-key p r s (selectorAt k) (key-control k) e
@@ -118,7 +118,7 @@ module _ (p : Profile) (streaming : Bool) where
       go false q z = absurd (eqb-false _ 0 q z)
 
   -- the setting that a record gives stands under its key
-  record-key : (k : ℕ) (r : List ℕ) → RecordOf k r → (t : Setting) → recordItem p streaming k r ≡ Given t → settingKey t ≡ k
+  record-key : (k : ℕ) (r : List ℕ) → IsRecord k r → (t : Setting) → recordItem p streaming k r ≡ Given t → settingKey t ≡ k
   unfolding recordItem isGiven
   record-key k r g t e = go (eqb (controlRefusal p streaming (selectorAt k)) 0) e
     where
@@ -163,7 +163,7 @@ module _ (p : Profile) (streaming : Bool) where
   load-accepted s e =
       let n = loadRefusal p streaming s in
       let q = quiet ((not (wellFormed s) ⇒ malformedSnapshot) ∷ []) (answers n ∷ []) refl e in
-      record { formed = not-off (wellFormed s) (q .0 .0); each = λ k. go (sym (row-number n) ∙ q .1) k (leb keys k) refl }
+      record { formed = not-off (wellFormed s) (q .0 .0); each = λ k. go (sym (answers-number n) ∙ q .1) k (leb keys k) refl }
     where
       go : loadRefusal p streaming s ≡ 0 → (k : ℕ) (b : Bool) → leb keys k ≡ b → codeBy p streaming k (decode s k) ≡ 0
       go z k true q = ap (codeBy p streaming k) (load-end s k (leb-true keys k q))

@@ -19,7 +19,7 @@ use Rattle.request.specs.Setup.{setupWLength}
 use Rattle.request.specs.Tests.{requestTests, valueTests, setAccepted, tableRefusal}
 use Rattle.snapshot.specs.Form.{statedKey, statedKind}
 use Rattle.snapshot.specs.Keys.{kindLength}
-use Rattle.snapshot.specs.Records.{RecordOf}
+use Rattle.snapshot.specs.Records.{IsRecord}
 use Rattle.snapshot.proofs.Laws.Sound.{Sound, Kind, ev, face, metadata, hdr, throttle, kind-of, sound-address, stands-sound, stands-size}
 use Rattle.controls.specs.declared.Item.{Item}
 use Rattle.controls.specs.declared.Item.the-variants.{Refused, Given}
@@ -36,14 +36,7 @@ use Rattle.profile.proofs.Laws.Profile.{valid-face}
 use Rattle.camera.specs.Loading.{selectorAt, recordItem}
 use Rattle.demands.specs.Runs.{gives}
 use Rattle.demands.specs.Loading.{recordSet, setCode, AsSet}
-
--- a row that answers its own number, where that is not 0
-pub row-number : (n : ℕ) → firstOf ((not (eqb n 0) ⇒ n) ∷ []) ≡ n
-row-number n = go (eqb n 0) refl
-  where
-    go : (b : Bool) → eqb n 0 ≡ b → cond (not b) n 0 ≡ n
-    go true e = sym (eqb-true n 0 e)
-    go false e = refl
+use Rattle.wire.proofs.Laws.Rows.{answers-number}
 
 -- an item with a number gives nothing
 refused-nothing : (i : Item) → eqb (itemCode i) 0 ≡ false → givenOf i ≡ []
@@ -70,7 +63,7 @@ key-kind k r s e (metadata q) = let z : metadataKey ≡ k = rw q at e in rw (←
 key-kind k r s e (hdr q) = let z : hdrKey ≡ k = rw q at e in rw (← z, q)
 key-kind k r s e (throttle q) = let z : throttleKey ≡ k = rw q at e in rw (← z, q)
 
-module _ (k : ℕ) (r : List ℕ) (g : RecordOf k r) where
+module _ (k : ℕ) (r : List ℕ) (g : IsRecord k r) where
   record-sound : Sound r
   record-sound = stands-sound k r (g .is) .0
 
@@ -166,7 +159,7 @@ module _ (k : ℕ) (r : List ℕ) (g : RecordOf k r) where
         code a b n rest = firstOf ((not a ⇒ invalidControl) ∷ (not b ⇒ invalidRequest) ∷ answers n ∷ rest)
 
         last : (n : ℕ) (b : Bool) → eqb n 0 ≡ b → itemCode (cond (eqb (cond (not b) n 0) 0) (profileItem p (selectorAt k) (drop 4 r) 0) (Refused (cond (not b) n 0))) ≡ cond (not b) n (firstOf (answers value ∷ []))
-        last n true e = sym (row-number value)
+        last n true e = sym (answers-number value)
         last n false e = rw e
 
         go : (a b : Bool) (n : ℕ) → itemCode (cond (eqb (code a b n []) 0) (profileItem p (selectorAt k) (drop 4 r) 0) (Refused (code a b n []))) ≡ code a b n (answers value ∷ [])

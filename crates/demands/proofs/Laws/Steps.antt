@@ -11,7 +11,7 @@ use Rattle.wire.specs.Endpoints.{places}
 use Rattle.wire.specs.Rows.{Row, _⇒_, firstOf, Quiet}
 use Rattle.wire.specs.Selectors as selectors
 use Rattle.wire.specs.Uvc.{malformedRecord, noRoom}
-use Rattle.wire.proofs.Laws.Rows.{quiet, quiet-own, own-coded, own-quiet}
+use Rattle.wire.proofs.Laws.Rows.{quiet, quiet-own, own-coded, own-quiet, first-quiet}
 use Rattle.request.specs.Setup.{isSetRequest}
 use Rattle.request.specs.Setup.{setupSelector, setupValueLow, setupWLength}
 use Rattle.request.specs.Table.{Table}
@@ -46,11 +46,6 @@ use Rattle.demands.specs.Runs.{acceptsSet, gives, leaves}
 use Rattle.demands.specs.Cameras.{Ok}
 use Rattle.demands.proofs.Laws.Held.{Each, puts-held, puts-length}
 use Rattle.demands.proofs.Laws.Kept.{Good, control-streaming, item-good, given-good, all-good, each-proper, puts-formed}
-
--- rows whose tests all fail add nothing
-first-quiet : (a b : List Row) → firstOf b ≡ 0 → firstOf (a ++ b) ≡ firstOf a
-first-quiet [] b e = e
-first-quiet ((test ⇒ code) ∷ a) b e = ap (cond test code) (first-quiet a b e)
 
 -- tests 2 to 8
 abbrev testsOf : Profile → Bool → List ℕ → List ℕ → List Row

@@ -29,22 +29,13 @@ use Rattle.settings.specs.Held.{settingsHeld, heldSetting, faceHeld}
 use Rattle.encoding.specs.Encoding.{recordOf, encoded}
 use Rattle.encoding.specs.Steps.{recordHeld}
 
--- a setting's record does not go by the key
-row-key : (j k : ℕ) (s : Setting) → recordOf s ≡ recordOf s
-unfolding recordOf
-row-key j k (S.Ev s) = refl
-row-key j k (S.Face address flags) = refl
-row-key j k (S.Metadata n) = refl
-row-key j k (S.Hdr n) = refl
-row-key j k (S.Throttle s) = refl
-
-record-short : (k : ℕ) (s : Setting) → length (recordOf s) ≤ 24
+record-short : (s : Setting) → length (recordOf s) ≤ 24
 unfolding recordOf bytesOf evBytes throttleBytes
-record-short k (S.Ev s) = lit≤ tt
-record-short k (S.Face address flags) = lit≤ tt
-record-short k (S.Metadata n) = lit≤ tt
-record-short k (S.Hdr n) = lit≤ tt
-record-short k (S.Throttle s) = lit≤ tt
+record-short (S.Ev s) = lit≤ tt
+record-short (S.Face address flags) = lit≤ tt
+record-short (S.Metadata n) = lit≤ tt
+record-short (S.Hdr n) = lit≤ tt
+record-short (S.Throttle s) = lit≤ tt
 
 lit-nil : (n : ℕ) → length {A = ℕ} [] ≤ n
 lit-nil n = omega arith
@@ -92,7 +83,7 @@ piece-short s k = go (settingsHeld s k)
   where
     go : (o : Option Setting) → length (recordBytes (Option·map recordOf o)) ≤ 24
     go none = lit≤ tt
-    go (some t) = record-short k t
+    go (some t) = record-short t
 
 piece-held : (s : Settings) (k : ℕ) → recordHeld (settingsHeld s k) ≡ piece s k
 unfolding piece
@@ -100,7 +91,7 @@ piece-held s k = go (settingsHeld s k)
   where
     go : (o : Option Setting) → recordHeld o ≡ recordBytes (Option·map recordOf o)
     go none = refl
-    go (some t) = row-key 0 k t
+    go (some t) = refl
 
 setting-held : (o : Option Setting) → settingHeld (heldSetting o) ≡ o
 setting-held none = refl

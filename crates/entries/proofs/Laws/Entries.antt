@@ -15,7 +15,7 @@ use Rattle.wire.specs.Uvc.{outOfRange}
 use Rattle.controls.specs.declared.Item.the-variants.{Refused, Given}
 use Rattle.controls.specs.declared.Setting.the-variants as S
 use Rattle.controls.specs.Controls.{itemCode, firstRefusal}
-use Rattle.controls.proofs.Laws.Controls as settings
+use Rattle.controls.proofs.Laws.Controls as controls
 use Rattle.controls.proofs.Laws.Items.{none-refused, stops, passes}
 use Rattle.face.specs.declared.limits.FaceLimits.{FaceLimits}
 use Rattle.entries.specs.declared.Taken.{Taken}
@@ -27,16 +27,16 @@ use Rattle.face.proofs.Laws.Limits.{offers-none, offers-placed, address-placed}
 module _ (l : FaceLimits) (s : List ℕ) (i : ℕ) where
   pub entry-code : itemCode (faceItem l s i) ≡ entryRefusal l s i
   unfolding faceItem
-  entry-code = settings.item-code (entryRefusal l s i) (S.Face (entryAddress s i) (entryFlags s i))
+  entry-code = controls.item-code (entryRefusal l s i) (S.Face (entryAddress s i) (entryFlags s i))
 
   module _ (code : ℕ) (e : code ≡ entryRefusal l s i) where
     pub entry-refused : (code ≡ 0 → ⊥) → faceItem l s i ≡ Refused code
     unfolding faceItem
-    entry-refused n = rw (← e) (settings.item-refused code (S.Face (entryAddress s i) (entryFlags s i)) n)
+    entry-refused n = rw (← e) (controls.item-refused code (S.Face (entryAddress s i) (entryFlags s i)) n)
 
     pub entry-given : code ≡ 0 → faceItem l s i ≡ Given (S.Face (entryAddress s i) (entryFlags s i))
     unfolding faceItem
-    entry-given z = settings.item-given (entryRefusal l s i) (S.Face (entryAddress s i) (entryFlags s i)) (sym e ∙ z)
+    entry-given z = controls.item-given (entryRefusal l s i) (S.Face (entryAddress s i) (entryFlags s i)) (sym e ∙ z)
 
 -- the first entry, with none seen before it; the numbers are what the code reads
 module _ (l : FaceLimits) (s : List ℕ) (address offers flags code : ℕ) (ha : address ≡ entryAddress s 0) (ho : offers ≡ offersOf l address)

@@ -11,7 +11,7 @@ use borrow.Author.Tests.{eqb-true, eqb-false, leb-true, leb-false}
 use Rattle.wire.specs.Endpoints.{firstAddress, places}
 use Rattle.face.specs.declared.limits.FaceLimits.{FaceLimits}
 use Rattle.face.specs.Limits.{addressAt, offersAt, offersFrom, offersOf}
-use Rattle.face.proofs.Laws.Limits.{all-at, all-of}
+use Rattle.wire.proofs.Laws.Below.{all-at, all-of}
 use Rattle.entries.specs.Entries.{flagsKept, settingRefusal, faceKept, facesKept, putFace}
 
 -- settings with one more

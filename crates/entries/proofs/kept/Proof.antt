@@ -6,9 +6,9 @@ use native.Mathlib.Omega.{arith}
 use lib.ListN.{getD}
 use borrow.Author.Needs.{needs}
 use Rattle.wire.specs.Endpoints.{places}
-use Rattle.face.specs.Limits.{allBelow}
+use Rattle.wire.specs.Rows.{allBelow}
 use Rattle.entries.specs.Entries.{flagsKept, facesKept}
-use Rattle.face.proofs.Laws.Limits.{all-same}
+use Rattle.wire.proofs.Laws.Below.{all-same}
 use Rattle.entries.proofs.Laws.Held.{kept-place}
 use Rattle.entries.proofs.kept.Statement.{statement}
 use Rattle.entries.proofs.kept.Tie as tie

@@ -6,9 +6,11 @@ use native.Mathlib.Numerals.{add-one, sub-one}
 use native.Mathlib.Omega.{arith}
 use lib.Dec.{ltb, eqb}
 use borrow.Author.Tests.{eq-eqb, ne-eqb, eqb-true, eqb-false, lt-ltb, le-ltb, ltb-true, leb-true}
+use Rattle.wire.proofs.Laws.Below.{all-at}
 use Rattle.wire.specs.Endpoints.{firstAddress, lastAddress, endpointLimit}
 use Rattle.face.specs.declared.limits.FaceLimits.{FaceLimits}
-use Rattle.face.specs.Limits.{endpointsOf, addressAt, offersAt, allBelow, offersValid, addressBefore, endpointValid, faceValid, offersFrom, offersOf, placeFrom, placeOf}
+use Rattle.face.specs.Limits.{endpointsOf, addressAt, offersAt, offersValid, addressBefore, endpointValid, faceValid, offersFrom, offersOf, placeFrom, placeOf}
+use Rattle.wire.specs.Rows.{allBelow}
 
 -- a place behind the first comes after the one before it
 pub before-next : (l : FaceLimits) (i : ℕ) → (i ≡ 0 → ⊥) → addressAt l (i - 1) ≡ addressBefore l i
@@ -22,28 +24,6 @@ pub record Listed (address offers : ℕ) : Type 0 where
   pub last : address ≤ lastAddress
   pub least : 2 ≤ offers
   pub most : offers ≤ 5
-
--- what holds of each number below n
-pub all-at : (n : ℕ) (f : ℕ → Bool) → allBelow n f ≡ true → (i : ℕ) → i < n → f i ≡ true
-unfolding allBelow
-all-at zero f h i p = absurd (omega arith)
-all-at (suc n) f h i p =
-    let both = and-eq-true-iff (allBelow n f) (f n) .0 h in
-    go (eqb i n) refl (both .1) (all-at n f (both .0) i)
-  where
-    go : (b : Bool) → eqb i n ≡ b → f n ≡ true → (i < n → f i ≡ true) → f i ≡ true
-    go true e last before = ap f (eqb-true i n e) ∙ last
-    go false e last before = let q = eqb-false i n e in before (omega arith)
-
-pub all-of : (n : ℕ) (f : ℕ → Bool) → ((i : ℕ) → i < n → f i ≡ true) → allBelow n f ≡ true
-unfolding allBelow
-all-of zero f h = refl
-all-of (suc n) f h = rw (all-of n f (λ i p. h i (omega arith)), h n (omega arith))
-
-pub all-same : (n : ℕ) (f g : ℕ → Bool) → ((i : ℕ) → i < n → f i ≡ g i) → allBelow n f ≡ allBelow n g
-unfolding allBelow
-all-same zero f g h = refl
-all-same (suc n) f g h = rw (all-same n f g (λ i p. h i (omega arith)), h n (omega arith))
 
 offers-between : (o : ℕ) → offersValid o ≡ true → (2 ≤ o) × (o ≤ 5)
 offers-between o h = go (eqb (o / 2) 1) (eqb (o / 2) 2) refl refl h

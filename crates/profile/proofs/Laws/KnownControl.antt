@@ -8,8 +8,8 @@ use borrow.Author.Tests.{eqb-true, leb-true, leb-false, ltb-true}
 use Rattle.flags.specs.Flags.{isSet}
 use Rattle.flags.proofs.Laws.Bits.{high-clear}
 use Rattle.request.specs.Table.{hasControl}
-use Rattle.face.specs.Limits.{allBelow}
-use Rattle.face.proofs.Laws.Limits.{all-at}
+use Rattle.wire.specs.Rows.{allBelow}
+use Rattle.wire.proofs.Laws.Below.{all-at}
 use Rattle.profile.specs.KnownControl.{KnownControl, ev, face, metadata, hdr, throttle}
 use Rattle.profile.specs.Profile.{presenceValid}
 

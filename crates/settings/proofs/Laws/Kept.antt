@@ -17,9 +17,9 @@ use Rattle.snapshot.specs.Keys.{evKey, metadataKey, hdrKey, throttleKey}
 use Rattle.controls.specs.declared.Setting.{Setting}
 use Rattle.controls.specs.declared.Setting.the-variants as S
 use Rattle.metadata.specs.Metadata.{metadataRefusal}
-use Rattle.face.specs.Limits.{allBelow}
+use Rattle.wire.specs.Rows.{allBelow}
 use Rattle.entries.specs.Entries.{settingRefusal, faceKept, facesKept}
-use Rattle.face.proofs.Laws.Limits.{all-same}
+use Rattle.wire.proofs.Laws.Below.{all-same, below-front}
 use Rattle.profile.specs.declared.Profile.{Profile}
 use Rattle.settings.specs.declared.settings.Settings.{Settings}
 use Rattle.profile.specs.Profile.{has, isSettable, profileValid, profileRefusal}
@@ -50,11 +50,6 @@ module _ (p : Profile) where
 -- the record test: the five controls in turn
 abbrev keeps : Profile → Settings → ℕ → Bool
 keeps p s k = kept p (settingsHeld s k)
-
-below-front : (n : ℕ) (f : ℕ → Bool) → allBelow (suc n) f ≡ f 0 && allBelow n (λ i. f (suc i))
-unfolding allBelow
-below-front zero f = sym (and-true (f 0))
-below-front (suc n) f = ap (λ b. b && f (suc n)) (below-front n f) ∙ and-assoc (f 0) (allBelow n (λ i. f (suc i))) (f (suc n))
 
 -- the keys from 1 on are the places
 keeps-place : (p : Profile) (s : Settings) (i : ℕ) → i < places → keeps p s (suc i) ≡ faceKept (has p face) (p .face) (s .face) i

@@ -6,7 +6,7 @@ use mathlib.Core.List.{List, [], _∷_, _++_}
 use mathlib.Core.Option.{Option, none, some, Option·map}
 use lib.Dec.{eqb}
 use borrow.Author.Tests.{eqb-true}
-use Rattle.snapshot.specs.Records.{RecordOf, GoodAt, Good}
+use Rattle.snapshot.specs.Records.{IsRecord, GoodAt, Good}
 use Rattle.snapshot.specs.Given.{over, KeyedSetting, lastOf}
 
 pub over-assoc : {A : Type 0} (a b c : Option A) → over (over a b) c ≡ over a (over b c)
@@ -31,7 +31,7 @@ over-map f a (some v) = refl
 -- every setting of a list has a record of its key
 abbrev pub EachRecord : {Value : Type 0} → (Value → List ℕ) → List (KeyedSetting Value) → Type 0
 EachRecord recordOf [] = Unit {0}
-EachRecord recordOf (p ∷ l) = RecordOf (p .0) (recordOf (p .1)) × EachRecord recordOf l
+EachRecord recordOf (p ∷ l) = IsRecord (p .0) (recordOf (p .1)) × EachRecord recordOf l
 
 module _ {Value : Type 0} (recordOf : Value → List ℕ) where
   pub records-append : (a b : List (KeyedSetting Value)) → EachRecord recordOf a → EachRecord recordOf b → EachRecord recordOf (a ++ b)
@@ -49,5 +49,5 @@ module _ {Value : Type 0} (recordOf : Value → List ℕ) where
       over-map-good k (cond (eqb (x .0) k) (some (x .1)) none) (lastOf l k) (first (eqb (x .0) k) refl) (records-good l (p .1) k)
     where
       first : (b : Bool) → eqb (x .0) k ≡ b → GoodAt k (Option·map recordOf (cond b (some (x .1)) none))
-      first true e = subst (λ j. RecordOf j (recordOf (x .1))) (eqb-true _ _ e) (p .0)
+      first true e = subst (λ j. IsRecord j (recordOf (x .1))) (eqb-true _ _ e) (p .0)
       first false e = tt

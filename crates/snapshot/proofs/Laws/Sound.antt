@@ -15,7 +15,7 @@ use Rattle.wire.specs.Selectors as selectors
 use Rattle.wire.specs.Endpoints.{firstAddress, lastAddress, places}
 use Rattle.snapshot.specs.Keys.{keys, kindLength, recordLength, keyFor}
 use Rattle.snapshot.specs.Form.{statedLength, statedKind, throttleTail, zeros, recordTests, soundRecord, statedKey}
-use Rattle.snapshot.specs.Records.{stands, RecordOf}
+use Rattle.snapshot.specs.Records.{stands, IsRecord}
 
 pub and-left : (a b : Bool) → (a && b) ≡ true → a ≡ true
 and-left true b e = refl
@@ -195,12 +195,12 @@ stands-same k s s′ e l f =
     sound-stands k s′ (same-sound s s′ (p .0) l′ f′) (same-key s s′ (p .0) l′ f′ ∙ p .1)
 
 -- the record that stands there
-pub stands-record : (k : ℕ) (s : List ℕ) → stands k s ≡ true → RecordOf k (take (recordLength k) s)
+pub stands-record : (k : ℕ) (s : List ℕ) → stands k s ≡ true → IsRecord k (take (recordLength k) s)
 stands-record k s e =
     let n = length-take-le (recordLength k) s (stands-long k s e) in
     record { long = n; is = stands-same k s _ e (omega arith) (λ i h. getD-take (recordLength k) s i 0 h) }
 
 -- whatever follows it
-pub record-stands : (k : ℕ) (r t : List ℕ) → RecordOf k r → stands k (r ++ t) ≡ true
+pub record-stands : (k : ℕ) (r t : List ℕ) → IsRecord k r → stands k (r ++ t) ≡ true
 record-stands k r t p =
     stands-same k r _ (p .is) (simp length-append (omega (arith, p .long))) (λ i h. List·getD-append r t 0 i (omega (arith, p .long)))

@@ -7,7 +7,7 @@ use Prim.Native.Nat.{ℕ, zero, suc, _+_}
 use native.Mathlib.Omega.{arith}
 use lib.Dec.{eqb}
 use borrow.Author.Tests.{eq-eqb, ne-eqb, eqb-true}
-use Rattle.wire.specs.Rows.{Row, _⇒_, firstOf, firstFrom, Quiet, AnswersAt}
+use Rattle.wire.specs.Rows.{Row, _⇒_, answers, firstOf, firstFrom, Quiet, AnswersAt}
 
 -- every row's number is a refusal's
 abbrev pub coded : List Row → Bool
@@ -21,6 +21,11 @@ first-append [] b h = refl
 first-append ((test ⇒ zero) ∷ a) b h = cc
 first-append ((true ⇒ suc code) ∷ a) b h = rw (ne-eqb (suc code) 0 (λ e. omega arith))
 first-append ((false ⇒ suc code) ∷ a) b h = first-append a b h
+
+-- rows whose tests all fail add nothing
+pub first-quiet : (a b : List Row) → firstOf b ≡ 0 → firstOf (a ++ b) ≡ firstOf a
+first-quiet [] b e = e
+first-quiet ((test ⇒ code) ∷ a) b e = ap (cond test code) (first-quiet a b e)
 
 -- where the number is 0 no row fails, nor do those behind them answer
 pub quiet : (rows behind : List Row) → coded rows ≡ true → firstOf (rows ++ behind) ≡ 0 → Quiet rows × (firstOf behind ≡ 0)
@@ -55,6 +60,14 @@ own-quiet code t = go (eqb code 0) refl t
     go : (b : Bool) → eqb code 0 ≡ b → not b ≡ false → code ≡ 0
     go true e q = eqb-true code 0 e
     go false e q = cc
+
+-- which is the number of a table that has no other row
+pub answers-number : (code : ℕ) → firstOf (answers code ∷ []) ≡ code
+answers-number code = go (eqb code 0) refl
+  where
+    go : (b : Bool) → eqb code 0 ≡ b → cond (not b) code 0 ≡ code
+    go true e = sym (eqb-true code 0 e)
+    go false e = refl
 
 -- the place of the first row that fails is the row that answered
 pub answers-at : (k : ℕ) (rows : List Row) (n : ℕ) → firstFrom k rows ≡ some n → (i : ℕ) × ((n ≡ i + k) × AnswersAt rows i)

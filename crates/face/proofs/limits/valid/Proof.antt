@@ -6,7 +6,8 @@ use native.Mathlib.Omega.{arith}
 use lib.Dec.{leb}
 use borrow.Author.Needs.{needs}
 use Rattle.wire.specs.Endpoints.{endpointLimit}
-use Rattle.face.specs.Limits.{allBelow, endpointValid, faceValid}
+use Rattle.face.specs.Limits.{endpointValid, faceValid}
+use Rattle.wire.specs.Rows.{allBelow}
 use Rattle.face.proofs.limits.valid.Statement.{statement}
 use Rattle.face.proofs.limits.valid.Tie as tie
 
