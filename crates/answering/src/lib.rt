@@ -3,10 +3,7 @@
 use profile::Profile;
 use request::Answer;
 use settings::Settings;
-use wire::selectors::EV;
-use wire::selectors::FACE;
-use wire::selectors::HDR;
-use wire::selectors::METADATA;
+use wire::selectors;
 ghost use mathlib.Core.Path.{_≡_};
 ghost use Rattle.request.specs.Answers.{packed};
 ghost use Rattle.answering.specs.Answering.{controlAnswer};
@@ -14,19 +11,19 @@ ghost use Rattle.answering.specs.Answering.{controlAnswer};
 pub fn answer(p: Profile, s: Settings, selector: u8, code: u8) -> Answer
     ensures { λ r. ⌜ r ≡ packed (controlAnswer p s selector code) ⌝ }
 {
-    if selector == EV {
+    if selector == selectors::EV {
         let held = s.ev;
         return exposure::answer(p.ev, held, code);
     }
-    if selector == FACE {
+    if selector == selectors::FACE {
         let held = s.face;
         return face::answer(p.face, held, code);
     }
-    if selector == METADATA {
+    if selector == selectors::METADATA {
         let held = s.metadata;
         return metadata::answer(p.metadata, held, code);
     }
-    if selector == HDR {
+    if selector == selectors::HDR {
         let held = s.hdr;
         return hdr::answer(p.hdr, held, code);
     }

@@ -1,4 +1,4 @@
--- TODO head
+-- Document 01, "Settings sheet": loading a snapshot, its form and then record by record, each as a SET; all or nothing.
 use Prim.Native.Nat.{ℕ}
 use mathlib.Core.List.{List, [], _∷_, _++_}
 use mathlib.Core.Option.{Option, Option·map, Option·elim}
@@ -65,4 +65,3 @@ unfoldable pub loaded : Camera → List ℕ → Outcome
 loaded c s =
     outcomeBy (loadCode c s) c
     (record { code = 0; count = 0; camera = puts c (loadGives (c .profile) (c .streaming) s) })
-

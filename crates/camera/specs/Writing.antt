@@ -1,4 +1,4 @@
--- TODO head
+-- Document 01, "Settings sheet": writing a camera's snapshot.
 use Prim.Native.Nat.{ℕ}
 use mathlib.Core.List.{List, [], _∷_, _++_}
 use mathlib.Core.Bool.{cond, not}
@@ -25,5 +25,3 @@ written c room = outcomeBy (writeCode c room) c (record { code = 0; count = leng
 -- the lent buffer afterwards
 unfoldable pub writtenOut : Camera → List ℕ → List ℕ
 writtenOut c out = cond (eqb (writeCode c (length out)) 0) (snapshot c ++ drop (length (snapshot c)) out) out
-
-

@@ -1,6 +1,6 @@
 // What a call hands back, and the calls that need nothing but the record.
 use crate::record::Camera;
-use wire::uvc::MALFORMED_RECORD;
+use wire::uvc;
 ghost use mathlib.Core.Path.{_≡_};
 ghost use Rattle.camera.specs.Requests.{refused};
 ghost use Rattle.camera.specs.Calls.{streamed, sensed};
@@ -36,7 +36,7 @@ impl Camera {
         ensures { λ r. ⌜ r ≡ streamed self on ⌝ }
     {
         if !self.settings.well_formed(self.profile) {
-            return self.refuse(MALFORMED_RECORD);
+            return self.refuse(uvc::MALFORMED_RECORD);
         }
         let camera = self.with_streaming(on);
         Outcome {
@@ -52,7 +52,7 @@ impl Camera {
     {
         if !self.settings.well_formed(self.profile) {
             return Sensed {
-                code: MALFORMED_RECORD,
+                code: uvc::MALFORMED_RECORD,
                 value: 0,
                 camera: self,
             };

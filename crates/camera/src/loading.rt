@@ -5,18 +5,10 @@ use crate::requests::control_refusal;
 use controls::Item;
 use controls::item_code;
 use profile::Profile;
-use snapshot::EV_KEY;
-use snapshot::HDR_KEY;
-use snapshot::KEYS;
-use snapshot::METADATA_KEY;
 use wire::Part;
-use wire::endpoints::PLACES;
-use wire::selectors::EV;
-use wire::selectors::FACE;
-use wire::selectors::HDR;
-use wire::selectors::METADATA;
-use wire::selectors::THROTTLE;
-use wire::uvc::MALFORMED_RECORD;
+use wire::endpoints;
+use wire::selectors;
+use wire::uvc;
 ghost use mathlib.Core.Path.{_≡_};
 ghost use mathlib.Core.Bool.{true};
 ghost use Rattle.snapshot.specs.Form.{wellFormed};
@@ -26,19 +18,19 @@ ghost use Rattle.camera.specs.Steps.{loadDone};
 fn selector_at(key: usize) -> u8
     ensures { λ r. ⌜ r ≡ selectorAt key ⌝ }
 {
-    if key == EV_KEY {
-        return EV;
+    if key == snapshot::EV_KEY {
+        return selectors::EV;
     }
-    if key <= PLACES {
-        return FACE;
+    if key <= endpoints::PLACES {
+        return selectors::FACE;
     }
-    if key == METADATA_KEY {
-        return METADATA;
+    if key == snapshot::METADATA_KEY {
+        return selectors::METADATA;
     }
-    if key == HDR_KEY {
-        return HDR;
+    if key == snapshot::HDR_KEY {
+        return selectors::HDR;
     }
-    THROTTLE
+    selectors::THROTTLE
 }
 
 // A record of a key, as a SET.
@@ -62,7 +54,7 @@ impl Camera {
         let mut settings = self.settings;
         let mut at = 0;
         let mut key = snapshot::key_at(s, 0);
-        while key < KEYS {
+        while key < snapshot::KEYS {
             let size = snapshot::record_length(key);
             let r = wire::part_at(s, Part { at, len: size });
             let item = record_item(self.profile, self.streaming, key, r);
@@ -86,7 +78,7 @@ impl Camera {
         ensures { λ r. ⌜ r ≡ loaded self (now (s .entry)) ⌝ }
     {
         if !self.settings.well_formed(self.profile) {
-            return self.refuse(MALFORMED_RECORD);
+            return self.refuse(uvc::MALFORMED_RECORD);
         }
         let form = snapshot::check(s);
         if form != 0 {

@@ -2,10 +2,8 @@
 use crate::calls::Outcome;
 use crate::record::Camera;
 use profile::Profile;
-use wire::selectors::THROTTLE;
-use wire::uvc::MALFORMED_RECORD;
-use wire::uvc::SET_CUR;
-use wire::uvc::WRONG_STATE;
+use wire::selectors;
+use wire::uvc;
 ghost use mathlib.Core.Path.{_≡_};
 ghost use lib.ListN.{length};
 ghost use Rattle.request.specs.Setup.{setupWLength};
@@ -18,8 +16,8 @@ ghost use Rattle.camera.specs.Steps.{setDone, getDone};
 fn state_refusal(streaming: bool, selector: u8, code: u8) -> u8
     ensures { λ r. ⌜ r ≡ stateRefusal streaming selector code ⌝ }
 {
-    if (selector == THROTTLE) & (code == SET_CUR) & !streaming {
-        return WRONG_STATE;
+    if (selector == selectors::THROTTLE) & (code == uvc::SET_CUR) & !streaming {
+        return uvc::WRONG_STATE;
     }
     0
 }
@@ -32,7 +30,7 @@ pub(crate) fn control_refusal(p: Profile, streaming: bool, selector: u8) -> u8
     if code != 0 {
         return code;
     }
-    state_refusal(streaming, selector, SET_CUR)
+    state_refusal(streaming, selector, uvc::SET_CUR)
 }
 
 impl Camera {
@@ -72,7 +70,7 @@ impl Camera {
         ensures { λ _. ⌜ now (reply .exit) ≡ requestedReply self (now (setup .entry)) (now (payload .entry)) (now (reply .entry)) ⌝ }
     {
         if !self.settings.well_formed(self.profile) {
-            return self.refuse(MALFORMED_RECORD);
+            return self.refuse(uvc::MALFORMED_RECORD);
         }
         let selector = request::selector(setup);
         let control = self.profile.control(selector, payload);

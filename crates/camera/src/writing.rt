@@ -1,8 +1,7 @@
 // Writing a snapshot of the camera's settings to a lent buffer.
 use crate::calls::Outcome;
 use crate::record::Camera;
-use wire::uvc::MALFORMED_RECORD;
-use wire::uvc::NO_ROOM;
+use wire::uvc;
 ghost use mathlib.Core.Path.{_≡_};
 ghost use lib.ListN.{length};
 ghost use Rattle.camera.specs.Writing.{written, writtenOut};
@@ -14,11 +13,11 @@ impl Camera {
         ensures { λ _. ⌜ now (out .exit) ≡ writtenOut self (now (out .entry)) ⌝ }
     {
         if !self.settings.well_formed(self.profile) {
-            return self.refuse(MALFORMED_RECORD);
+            return self.refuse(uvc::MALFORMED_RECORD);
         }
         let count = encoding::measure(self.settings);
         if out.len() < count {
-            return self.refuse(NO_ROOM);
+            return self.refuse(uvc::NO_ROOM);
         }
         encoding::write(self.settings, out);
         Outcome {

@@ -4,5 +4,5 @@ pub mod Refusals
 pub mod Answers
 pub mod Lists
 pub mod Loading
-pub mod Program
+pub mod Programs
 pub mod Table

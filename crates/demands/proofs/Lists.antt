@@ -6,7 +6,7 @@ use mathlib.Core.Bool.{Bool, true, not}
 use Prim.Native.Nat.{ℕ, _≤_}
 use lib.ListN.{length, take, drop}
 use lib.Seq.{take-at}
-use borrow.Author.Tests.{eq-eqb, le-ltb}
+use borrow.Author.Tests.{eq-eqb, le-ltb, not-false}
 use Rattle.wire.specs.Endpoints.{places}
 use Rattle.wire.specs.Rows.{_⇒_, firstOf}
 use Rattle.wire.specs.Uvc.{malformedRecord}
@@ -42,7 +42,7 @@ use Rattle.camera.proofs.Laws.Record.{formed-profile}
 use Rattle.camera.proofs.Laws.Loading.{codeBy, givenBy}
 use Rattle.demands.proofs.Laws.Kept.{held-good}
 use Rattle.demands.proofs.Laws.Fits.{held-fitting}
-use Rattle.demands.proofs.Laws.Steps.{step, outcome-code, gives-good, not-off}
+use Rattle.demands.proofs.Laws.Steps.{step, outcome-code, gives-good}
 use Rattle.demands.proofs.Laws.Lists.{given-append, run-ok, fresh-ok, held-after, flag-after}
 use Rattle.demands.proofs.Laws.Cameras.{rows, held-records, record-of-taken}
 use Rattle.demands.proofs.Laws.Loads.{Accepted, load-settings, load-accepted, accepted-load, merged-accepted, merged-settings}
@@ -107,8 +107,8 @@ module _ (p : Profile) (v : profileValid p ≡ true) where
         is-formed = w;
         is-snapshot = s;
         is-written = λ out h. subst (λ l. Written (run (fresh p f) (xs ++ ys)) l out) s (writes (run (fresh p f) (xs ++ ys)) out w (rw s h));
-        is-merged = m;
-        is-merge = merges-to _ _ _ (snapshot-formed first (formed f xs)) (snapshot-formed second (formed (first .streaming) ys)) m;
+        parts-merge = m;
+        program-merges-parts = merges-to _ _ _ (snapshot-formed first (formed f xs)) (snapshot-formed second (formed (first .streaming) ys)) m;
       }
 
 -- what an accepted load says of the camera and of the snapshot
@@ -122,7 +122,7 @@ load-says c s e =
     let done : Outcome = record { code = 0; count = 0; camera = puts c (loadGives (c .profile) (c .streaming) s) } in
     let z = sym (outcome-code (loadCode c s) c done refl) ∙ e in
     let q = quiet ((not (recordWellFormed c) ⇒ malformedRecord) ∷ []) (loadTests (c .profile) (c .streaming) s) refl z in
-    record { formed = not-off (recordWellFormed c) (q .0 .0); tests = q .1 }
+    record { formed = not-false (recordWellFormed c) (q .0 .0); tests = q .1 }
 
 says-load : (c : Camera) (s : List ℕ) → Load c s → loaded c s .code ≡ 0
 unfolding loaded loadCode

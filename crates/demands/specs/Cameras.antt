@@ -1,4 +1,4 @@
--- Records that the demands speak of.
+-- Camera records that the demands speak of: one that is not refused, one that a program holds, two that are the same, one that is written.
 use Prim.Native.Nat.{ℕ, _^_, _<_}
 use mathlib.Core.Path.{_≡_}
 use mathlib.Core.List.{List, _++_}

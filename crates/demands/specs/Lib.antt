@@ -5,6 +5,6 @@ pub mod Refusals
 pub mod Answers
 pub mod Lists
 pub mod Loading
-pub mod Program
+pub mod Programs
 pub mod Bench
 pub mod Table

@@ -35,12 +35,12 @@ pub record Whole (p : Profile) (streaming : Bool) (xs ys : List Call) : Type 0 w
   pub is-written : (out : List ℕ) → length (snapshotAfter p streaming (xs ++ ys)) ≤ length out
       → Written (run (fresh p streaming) (xs ++ ys)) (snapshotAfter p streaming (xs ++ ys)) out
   -- and the first part's merged with the one that the second part leaves on a fresh camera with the flag that the first part left
-  pub is-merged :
+  pub parts-merge :
       let first = run (fresh p streaming) xs in
       let second = run (fresh p (first .streaming)) ys in
       snapshot (run (fresh p streaming) (xs ++ ys)) ≡ merged (snapshot first) (snapshot second)
   -- which is what the program's merge gives
-  pub is-merge :
+  pub program-merges-parts :
       let first = run (fresh p streaming) xs in
       let second = run (fresh p (first .streaming)) ys in
       MergesTo (snapshot first) (snapshot second) (snapshot (run (fresh p streaming) (xs ++ ys)))

@@ -1,4 +1,4 @@
--- What the owner's demand 1 says of a refused call.
+-- What the owner's demand 1 says of a refused call, whichever it is.
 use mathlib.Core.Path.{_≡_}
 use Rattle.camera.specs.declared.record.Camera.{Camera}
 use Rattle.camera.specs.Calls.{Call, outcome, lent, left, next}

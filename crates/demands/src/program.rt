@@ -2,7 +2,7 @@
 // has four bytes; and with that the theorems that ask for it.
 use camera::Camera;
 use exposure::HeldEv;
-use wire::endpoints::PLACES;
+use wire::endpoints;
 ghost use mathlib.Core.Path.{_≡_};
 ghost use mathlib.Core.Option.{some};
 ghost use Prim.Native.Nat.{ℕ, _<_, _^_};
@@ -11,7 +11,7 @@ ghost use Rattle.wire.specs.Endpoints.{places};
 ghost use Rattle.controls.specs.declared.Setting.{Setting};
 ghost use Rattle.settings.specs.Held.{evHeld};
 ghost use Rattle.demands.specs.Cameras.{settingFlags};
-ghost use Rattle.demands.specs.Program.{OfProgram};
+ghost use Rattle.demands.specs.Programs.{OfProgram};
 
 fn ev_typed(held: HeldEv)
     ensures { λ _. ⌜ ((s : Setting) → evHeld held ≡ some s → settingFlags s < 2 ^ 8) ⌝ }
@@ -30,7 +30,7 @@ fn face_typed(held: &[u8])
     let _ = wire::byte(held, 0);
 }
 
-fn places_typed(held: [u8; PLACES])
+fn places_typed(held: [u8; endpoints::PLACES])
     ensures { λ _. ⌜ length held ≡ places ⌝ }
 {}
 

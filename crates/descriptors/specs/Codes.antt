@@ -25,21 +25,28 @@ badField = 0x34
 abbrev pub noProperty : ℕ
 noProperty = 0x35
 
--- types: the set's header, the two subsets, and features from the first to the last, of which the property is looked into
+-- Types (wDescriptorType) by the MS OS 2.0 paper's names: the set's header, the two subsets, and features from the first to the last, of which
+-- the property is looked into.
+-- MS_OS_20_SET_HEADER_DESCRIPTOR
 abbrev pub setHeader : ℕ
 setHeader = 0
 
+-- MS_OS_20_SUBSET_HEADER_CONFIGURATION
 abbrev pub configuration : ℕ
 configuration = 1
 
+-- MS_OS_20_SUBSET_HEADER_FUNCTION
 abbrev pub function : ℕ
 function = 2
 
+-- MS_OS_20_FEATURE_COMPATBLE_ID, as it is spelt there
 abbrev pub firstFeature : ℕ
 firstFeature = 3
 
+-- MS_OS_20_FEATURE_REG_PROPERTY
 abbrev pub property : ℕ
 property = 4
 
+-- MS_OS_20_FEATURE_VENDOR_REVISION
 abbrev pub lastFeature : ℕ
 lastFeature = 8

@@ -1,4 +1,4 @@
--- Steps of the code: what the walk of `src/walk.rt` answers, one number for what `specs/Reading.antt` finds: an offset below 65536 or a
+-- Steps of the code: what the walk of `src/walk.rt` answers, one number for what `specs/Set.antt` finds: an offset below 65536 or a
 -- refusal above it. No statement depends on this file.
 use Prim.Native.Nat.{ℕ, _+_, _*_, _≤_, _<_}
 use mathlib.Core.List.{List}

@@ -13,15 +13,23 @@ pub const BAD_FIELD: u8 = 0x34;
 // The set has fewer properties.
 pub const NO_PROPERTY: u8 = 0x35;
 
-// Types: the set's header, the two subsets, and features from the first to the last, of which the property is looked into.
+// Types (wDescriptorType) by the MS OS 2.0 paper's names: the set's header, the two subsets, and features from the first to the last, of which
+// the property is looked into.
+
+// MS_OS_20_SET_HEADER_DESCRIPTOR
 pub(crate) const SET_HEADER: usize = 0;
 
+// MS_OS_20_SUBSET_HEADER_CONFIGURATION
 pub(crate) const CONFIGURATION: usize = 1;
 
+// MS_OS_20_SUBSET_HEADER_FUNCTION
 pub(crate) const FUNCTION: usize = 2;
 
+// MS_OS_20_FEATURE_COMPATBLE_ID, as it is spelt there
 pub(crate) const FIRST_FEATURE: usize = 3;
 
+// MS_OS_20_FEATURE_REG_PROPERTY
 pub(crate) const PROPERTY: usize = 4;
 
+// MS_OS_20_FEATURE_VENDOR_REVISION; between them MS_OS_20_FEATURE_MIN_RESUME_TIME, _MODEL_ID and _CCGP_DEVICE
 pub(crate) const LAST_FEATURE: usize = 8;

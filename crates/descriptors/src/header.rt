@@ -1,13 +1,5 @@
 // One descriptor by itself: the first of the paper's tests that refuses it, or its bytes in all.
-use crate::codes::BAD_FIELD;
-use crate::codes::BAD_LENGTH;
-use crate::codes::BAD_TYPE;
-use crate::codes::CONFIGURATION;
-use crate::codes::FIRST_FEATURE;
-use crate::codes::FUNCTION;
-use crate::codes::LAST_FEATURE;
-use crate::codes::PAST_PARENT;
-use crate::codes::PROPERTY;
+use crate::codes;
 use crate::word::word;
 ghost use mathlib.Core.Path.{_≡_};
 ghost use Prim.Native.Nat.{_+_, _≤_, _<_};
@@ -40,12 +32,12 @@ pub enum Descriptor {
 fn allowed(p: Parent, t: usize) -> bool
     ensures { λ r. ⌜ r ≡ allowed p t ⌝ }
 {
-    if FIRST_FEATURE <= t {
-        return t <= LAST_FEATURE;
+    if codes::FIRST_FEATURE <= t {
+        return t <= codes::LAST_FEATURE;
     }
     match p {
-        Parent::Set => t == CONFIGURATION,
-        Parent::Configuration => t == FUNCTION,
+        Parent::Set => t == codes::CONFIGURATION,
+        Parent::Configuration => t == codes::FUNCTION,
         Parent::Function(_) => false,
     }
 }
@@ -68,17 +60,17 @@ fn subset_at(s: &[u8], p: Parent, at: usize, left: usize, len: usize) -> Descrip
     ensures { λ r. ⌜ r ≡ subsetAt (now (s .entry)) p at left ⌝ }
 {
     if len != 8 {
-        return Descriptor::Refused(BAD_LENGTH);
+        return Descriptor::Refused(codes::BAD_LENGTH);
     }
     let total = word(s, at + 6);
     if left < total {
-        return Descriptor::Refused(PAST_PARENT);
+        return Descriptor::Refused(codes::PAST_PARENT);
     }
     if total < 8 {
-        return Descriptor::Refused(BAD_LENGTH);
+        return Descriptor::Refused(codes::BAD_LENGTH);
     }
     if s[at + 5] != 0 {
-        return Descriptor::Refused(BAD_FIELD);
+        return Descriptor::Refused(codes::BAD_FIELD);
     }
     Descriptor::Subset(total, inner(s, p, at))
 }
@@ -90,23 +82,23 @@ pub(crate) fn look(s: &[u8], p: Parent, at: usize, end: usize) -> Descriptor
 {
     let left = end - at;
     if left < 4 {
-        return Descriptor::Refused(PAST_PARENT);
+        return Descriptor::Refused(codes::PAST_PARENT);
     }
     let len = word(s, at);
     if left < len {
-        return Descriptor::Refused(PAST_PARENT);
+        return Descriptor::Refused(codes::PAST_PARENT);
     }
     if len < 4 {
-        return Descriptor::Refused(BAD_LENGTH);
+        return Descriptor::Refused(codes::BAD_LENGTH);
     }
     let t = word(s, at + 2);
     if !allowed(p, t) {
-        return Descriptor::Refused(BAD_TYPE);
+        return Descriptor::Refused(codes::BAD_TYPE);
     }
-    if t == PROPERTY {
+    if t == codes::PROPERTY {
         return Descriptor::Property(len);
     }
-    if FUNCTION < t {
+    if codes::FUNCTION < t {
         return Descriptor::Opaque(len);
     }
     subset_at(s, p, at, left, len)

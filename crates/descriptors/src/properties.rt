@@ -1,6 +1,5 @@
 // Registry property k of a set. Its name and its data are handed back by their places: `wire::part_at` gives the bytes themselves.
-use crate::codes::BAD_SET_HEADER;
-use crate::codes::NO_PROPERTY;
+use crate::codes;
 use crate::header::Interface;
 use crate::header::Parent;
 use crate::scan::Cursor;
@@ -71,7 +70,7 @@ pub fn property(set: &[u8], k: usize) -> RegistryProperty
     ensures { λ r. ⌜ r ≡ propertyOf (now (set .entry)) k ⌝ }
 {
     if !good_header(set) {
-        return refused_property(BAD_SET_HEADER, 0);
+        return refused_property(codes::BAD_SET_HEADER, 0);
     }
     let mut c = Cursor::start(set.len());
     while c.at < set.len() {
@@ -82,7 +81,7 @@ pub fn property(set: &[u8], k: usize) -> RegistryProperty
         return refused_property((stop / 65536) as u8, stop % 65536);
     }
     if c.seen <= k {
-        return refused_property(NO_PROPERTY, 0);
+        return refused_property(codes::NO_PROPERTY, 0);
     }
     let holder = c.holder;
     found_at(set, c.hit, holder)

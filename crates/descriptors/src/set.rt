@@ -1,6 +1,5 @@
 // The whole set: its own header, and then the walk.
-use crate::codes::BAD_SET_HEADER;
-use crate::codes::SET_HEADER;
+use crate::codes;
 use crate::header::Parent;
 use crate::walk::walk;
 use crate::word::word;
@@ -23,7 +22,7 @@ pub(crate) fn good_header(set: &[u8]) -> bool
     if set.len() < 10 {
         return false;
     }
-    (word(set, 0) == 10) & (word(set, 2) == SET_HEADER) & (word(set, 8) == set.len())
+    (word(set, 0) == 10) & (word(set, 2) == codes::SET_HEADER) & (word(set, 8) == set.len())
 }
 
 // The first refusal of the set, lowest offset first.
@@ -32,7 +31,7 @@ pub fn check(set: &[u8]) -> Fault
 {
     if !good_header(set) {
         return Fault {
-            code: BAD_SET_HEADER,
+            code: codes::BAD_SET_HEADER,
             offset: 0,
         };
     }

@@ -6,17 +6,8 @@ use controls::HeldSetting;
 use controls::Setting;
 use controls::ThrottleSetting;
 use settings::Settings;
-use snapshot::EV_KEY;
-use snapshot::HDR_KEY;
-use snapshot::METADATA_KEY;
-use snapshot::THROTTLE_KEY;
-use wire::endpoints::FIRST;
-use wire::endpoints::PLACES;
-use wire::selectors::EV;
-use wire::selectors::FACE;
-use wire::selectors::HDR;
-use wire::selectors::METADATA;
-use wire::selectors::THROTTLE;
+use wire::endpoints;
+use wire::selectors;
 ghost use mathlib.Core.Path.{_≡_};
 ghost use mathlib.Core.Bool.{cond};
 ghost use lib.Dec.{eqb};
@@ -36,7 +27,7 @@ fn put_ev(out: &mut [u8], at: usize, s: EvSetting)
     let b = [
         15,
         0,
-        EV,
+        selectors::EV,
         0,
         e[0],
         e[1],
@@ -56,7 +47,21 @@ fn put_ev(out: &mut [u8], at: usize, s: EvSetting)
 fn put_face(out: &mut [u8], at: usize, address: u8, flags: u8)
     ensures { λ _. ⌜ now (out .exit) ≡ overlay (now (out .entry)) at (recordOf (Setting.Face address flags)) ⌝ }
 {
-    let b = [13, 0, FACE, 0, 1, address, flags, 0, 0, 0, 0, 0, 0];
+    let b = [
+        13,
+        0,
+        selectors::FACE,
+        0,
+        1,
+        address,
+        flags,
+        0,
+        0,
+        0,
+        0,
+        0,
+        0,
+    ];
     wire::copy(out, at, &b);
 }
 
@@ -76,7 +81,7 @@ fn put_throttle(out: &mut [u8], at: usize, s: ThrottleSetting)
     let b = [
         24,
         0,
-        THROTTLE,
+        selectors::THROTTLE,
         0,
         m[0],
         m[1],
@@ -113,10 +118,10 @@ fn put_setting(out: &mut [u8], at: usize, s: Setting)
             put_face(out, at, address, flags);
         }
         Setting::Metadata(n) => {
-            put_number(out, at, METADATA, n);
+            put_number(out, at, selectors::METADATA, n);
         }
         Setting::Hdr(n) => {
-            put_number(out, at, HDR, n);
+            put_number(out, at, selectors::HDR, n);
         }
         Setting::Throttle(t) => {
             put_throttle(out, at, t);
@@ -180,16 +185,16 @@ pub fn measure(s: Settings) -> usize
     ensures { λ r. ⌜ r ≡ length (encoded s) ⌝ }
 {
     let face = s.face;
-    let mut n = length_held(s.held(EV_KEY));
+    let mut n = length_held(s.held(snapshot::EV_KEY));
     let mut i = 0;
-    while i < PLACES {
+    while i < endpoints::PLACES {
         n += length_place(face[i]);
         i += 1;
     }
     n
-        + length_held(s.held(METADATA_KEY))
-        + length_held(s.held(HDR_KEY))
-        + length_held(s.held(THROTTLE_KEY))
+        + length_held(s.held(snapshot::METADATA_KEY))
+        + length_held(s.held(snapshot::HDR_KEY))
+        + length_held(s.held(snapshot::THROTTLE_KEY))
 }
 
 // Writes it over the start of out, as far as out reaches.
@@ -197,20 +202,20 @@ pub fn write(s: Settings, out: &mut [u8])
     ensures { λ _. ⌜ now (out .exit) ≡ overlay (now (out .entry)) 0 (encoded s) ⌝ }
 {
     let face = s.face;
-    let ev = s.held(EV_KEY);
+    let ev = s.held(snapshot::EV_KEY);
     put_held(out, 0, ev);
     let mut n = length_held(ev);
     let mut i = 0;
-    while i < PLACES {
-        put_place(out, n, FIRST + (i as u8), face[i]);
+    while i < endpoints::PLACES {
+        put_place(out, n, endpoints::FIRST + (i as u8), face[i]);
         n += length_place(face[i]);
         i += 1;
     }
-    let metadata = s.held(METADATA_KEY);
+    let metadata = s.held(snapshot::METADATA_KEY);
     put_held(out, n, metadata);
     n += length_held(metadata);
-    let hdr = s.held(HDR_KEY);
+    let hdr = s.held(snapshot::HDR_KEY);
     put_held(out, n, hdr);
     n += length_held(hdr);
-    put_held(out, n, s.held(THROTTLE_KEY));
+    put_held(out, n, s.held(snapshot::THROTTLE_KEY));
 }

@@ -8,11 +8,8 @@ use face::endpoints_of;
 use face::offers_of;
 use face::place_of;
 use flags::Choice;
-use wire::endpoints::FIRST;
-use wire::endpoints::LIMIT;
-use wire::endpoints::PLACES;
-use wire::uvc::INVALID_VALUE;
-use wire::uvc::OUT_OF_RANGE;
+use wire::endpoints;
+use wire::uvc;
 ghost use mathlib.Core.Path.{_≡_};
 ghost use mathlib.Core.Bool.{cond};
 ghost use Prim.Native.Nat.{ℕ, _<_, _+_, _^_};
@@ -40,14 +37,14 @@ fn entry_tests(offers: u8, seen: bool, flags: u64) -> u8
     ensures { λ r. ⌜ (r ≡ entryTests offers seen flags) × (r ≡ 0 → flags < 2 ^ 56 → flags < 256) ⌝ }
 {
     if offers == 0 {
-        return OUT_OF_RANGE;
+        return uvc::OUT_OF_RANGE;
     }
     if seen {
-        return INVALID_VALUE;
+        return uvc::INVALID_VALUE;
     }
     match flags::one_flag(flags, offers) {
         Choice::At(_) => 0,
-        Choice::Refused => INVALID_VALUE,
+        Choice::Refused => uvc::INVALID_VALUE,
     }
 }
 
@@ -71,8 +68,8 @@ pub fn item(l: FaceLimits, payload: &[u8]) -> Item
 fn lay(held: &mut [u8], address: u8, flags: u8)
     ensures { λ _. ⌜ now (held .exit) ≡ putFace (now (held .entry)) address flags ⌝ }
 {
-    if FIRST <= address {
-        let at = (address - FIRST) as usize;
+    if endpoints::FIRST <= address {
+        let at = (address - endpoints::FIRST) as usize;
         if at < held.len() {
             held[at] = flags;
         }
@@ -80,7 +77,7 @@ fn lay(held: &mut [u8], address: u8, flags: u8)
 }
 
 // Settings with one more.
-pub fn put(held: [u8; PLACES], address: u8, flags: u8) -> [u8; PLACES]
+pub fn put(held: [u8; endpoints::PLACES], address: u8, flags: u8) -> [u8; endpoints::PLACES]
     ensures { λ r. ⌜ r ≡ putFace held address flags ⌝ }
 {
     let mut next = held;
@@ -91,23 +88,23 @@ pub fn put(held: [u8; PLACES], address: u8, flags: u8) -> [u8; PLACES]
 // What a SET comes to: the first refusal of its entries, or 0 and the settings with all of them.
 pub struct Taken {
     pub code: u8,
-    pub held: [u8; PLACES],
+    pub held: [u8; endpoints::PLACES],
 }
 
-pub fn take(l: FaceLimits, held: [u8; PLACES], payload: &[u8]) -> Taken
+pub fn take(l: FaceLimits, held: [u8; endpoints::PLACES], payload: &[u8]) -> Taken
     ensures { λ r. ⌜ r ≡ facesTaken l held (now (payload .entry)) ⌝ }
 {
     let n = wire::byte(payload, 0);
-    let mut seen = [false; LIMIT];
+    let mut seen = [false; endpoints::LIMIT];
     let mut next = held;
     let mut i: u8 = 0;
     while i < n {
         let at = 1 + 8 * (i as usize);
         let address = wire::byte(payload, at);
         let place = place_of(l, address);
-        if LIMIT <= place {
+        if endpoints::LIMIT <= place {
             return Taken {
-                code: OUT_OF_RANGE,
+                code: uvc::OUT_OF_RANGE,
                 held,
             };
         }
@@ -127,10 +124,10 @@ pub fn take(l: FaceLimits, held: [u8; PLACES], payload: &[u8]) -> Taken
 }
 
 // What each address offers, by its place; nothing where the control is absent. Of places that list one address the first wins.
-fn offers_by_place(l: FaceLimits, present: bool) -> [u8; PLACES]
+fn offers_by_place(l: FaceLimits, present: bool) -> [u8; endpoints::PLACES]
     ensures { λ r. ⌜ ((i : ℕ) → i < places → getD r i 0 ≡ cond present (offersOf l (firstAddress + i)) 0) ⌝ }
 {
-    let mut table = [0u8; PLACES];
+    let mut table = [0u8; endpoints::PLACES];
     if !present {
         return table;
     }
@@ -152,13 +149,13 @@ fn flags_kept(offers: u8, flags: u8) -> bool
 }
 
 // Whether every setting held keeps its rules.
-pub fn kept(l: FaceLimits, present: bool, held: [u8; PLACES]) -> bool
+pub fn kept(l: FaceLimits, present: bool, held: [u8; endpoints::PLACES]) -> bool
     ensures { λ r. ⌜ r ≡ facesKept present l held ⌝ }
 {
     let offers = offers_by_place(l, present);
     let mut ok = true;
     let mut i = 0;
-    while i < PLACES {
+    while i < endpoints::PLACES {
         ok = ok & flags_kept(offers[i], held[i]);
         i += 1;
     }

@@ -5,12 +5,7 @@ use controls::Setting;
 use flags::Choice;
 use request::Answer;
 use request::answer_by;
-use wire::uvc::GET_CUR;
-use wire::uvc::GET_MAX;
-use wire::uvc::GET_MIN;
-use wire::uvc::GET_RES;
-use wire::uvc::INVALID_VALUE;
-use wire::uvc::OUT_OF_RANGE;
+use wire::uvc;
 ghost use mathlib.Core.Path.{_≡_};
 ghost use Rattle.exposure.specs.Exposure.{evValid, signed32, bits32, divisor, inRange, evRefusal, evItem, evBytes, evAttribute, evAnswer, scaled, sensorValue};
 ghost use Rattle.request.specs.Answers.{packed};
@@ -88,12 +83,12 @@ pub fn refusal(l: EvLimits, flags: u64, value: i32) -> u8
     ensures { λ r. ⌜ r ≡ evRefusal l flags value ⌝ }
 {
     match flags::one_flag(flags, l.steps) {
-        Choice::Refused => INVALID_VALUE,
+        Choice::Refused => uvc::INVALID_VALUE,
         Choice::At(place) => {
             if in_range(l, divisor(place), value) {
                 0
             } else {
-                OUT_OF_RANGE
+                uvc::OUT_OF_RANGE
             }
         }
     }
@@ -127,25 +122,25 @@ pub fn bytes(s: EvSetting) -> [u8; 11]
 fn attribute(l: EvLimits, held: HeldEv, code: u8) -> EvSetting
     ensures { λ r. ⌜ r ≡ evAttribute l held code ⌝ }
 {
-    if code == GET_MIN {
+    if code == uvc::GET_MIN {
         return EvSetting {
             flags: 16,
             value: l.minimum,
         };
     }
-    if code == GET_MAX {
+    if code == uvc::GET_MAX {
         return EvSetting {
             flags: 16,
             value: l.maximum,
         };
     }
-    if code == GET_RES {
+    if code == uvc::GET_RES {
         return EvSetting {
             flags: l.steps,
             value: 0,
         };
     }
-    if code == GET_CUR {
+    if code == uvc::GET_CUR {
         return match held {
             HeldEv::Unset => EvSetting {
                 flags: 16,

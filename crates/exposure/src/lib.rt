@@ -3,8 +3,8 @@
 // A setting is a step and a whole number of such steps, and what the sensor gets is exact: nothing here divides a setting.
 mod ev;
 
-pub use ev::HeldEv;
 pub use ev::EvLimits;
+pub use ev::HeldEv;
 pub use ev::answer;
 pub use ev::bytes;
 pub use ev::item;

@@ -1,6 +1,6 @@
 -- Document 01, "Face": the endpoints that a profile lists.
 use Prim.Native.Nat.{ℕ, zero, suc, _-_, _/_, min}
-use mathlib.Core.Bool.{Bool, true, cond, _&&_, _||_}
+use mathlib.Core.Bool.{Bool, cond, _&&_, _||_}
 use lib.Dec.{leb, ltb, eqb}
 use lib.ListN.{getD}
 use Rattle.wire.specs.Rows.{allBelow}

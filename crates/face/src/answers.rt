@@ -4,12 +4,8 @@ use crate::limits::endpoints_of;
 use request::Answer;
 use request::LONGEST_ANSWER;
 use request::answer_by;
-use wire::endpoints::FIRST;
-use wire::endpoints::PLACES;
-use wire::uvc::GET_CUR;
-use wire::uvc::GET_MAX;
-use wire::uvc::GET_MIN;
-use wire::uvc::GET_RES;
+use wire::endpoints;
+use wire::uvc;
 ghost use mathlib.Core.Path.{_≡_};
 ghost use Prim.Native.Nat.{_<_};
 ghost use Rattle.wire.specs.Endpoints.{endpointLimit};
@@ -30,29 +26,29 @@ fn default_of(offers: u8) -> u8
 }
 
 // The setting held of an endpoint's address, which is FIRST or above, or 0 for none.
-fn held_at(held: [u8; PLACES], address: u8) -> u8
+fn held_at(held: [u8; endpoints::PLACES], address: u8) -> u8
     ensures { λ r. ⌜ r ≡ heldAt held address ⌝ }
 {
-    if address <= FIRST {
+    if address <= endpoints::FIRST {
         return held[0];
     }
-    let i = (address - FIRST) as usize;
-    if i < PLACES {
+    let i = (address - endpoints::FIRST) as usize;
+    if i < endpoints::PLACES {
         return held[i];
     }
     0
 }
 
 // The flags of place i in an answer that lists every endpoint.
-fn flags_at(l: FaceLimits, held: [u8; PLACES], code: u8, i: usize) -> u8
+fn flags_at(l: FaceLimits, held: [u8; endpoints::PLACES], code: u8, i: usize) -> u8
     requires { ⌜ i < endpointLimit ⌝ }
     ensures { λ r. ⌜ r ≡ flagsAt l held code i ⌝ }
 {
     let offers = l.offers[i];
-    if code == GET_MAX {
+    if code == uvc::GET_MAX {
         return offers;
     }
-    if code != GET_CUR {
+    if code != uvc::GET_CUR {
         return default_of(offers);
     }
     let flags = held_at(held, l.addresses[i]);
@@ -63,11 +59,11 @@ fn flags_at(l: FaceLimits, held: [u8; PLACES], code: u8, i: usize) -> u8
 }
 
 // CUR, MIN, MAX, RES and DEF.
-fn value(l: FaceLimits, held: [u8; PLACES], code: u8) -> Answer
+fn value(l: FaceLimits, held: [u8; endpoints::PLACES], code: u8) -> Answer
     ensures { λ r. ⌜ r ≡ packed (faceValue l held code) ⌝ }
 {
     let mut bytes = [0u8; LONGEST_ANSWER];
-    if (code == GET_MIN) | (code == GET_RES) {
+    if (code == uvc::GET_MIN) | (code == uvc::GET_RES) {
         return Answer { bytes, len: 1 };
     }
     let n = endpoints_of(l);
@@ -84,7 +80,7 @@ fn value(l: FaceLimits, held: [u8; PLACES], code: u8) -> Answer
     }
 }
 
-pub fn answer(l: FaceLimits, held: [u8; PLACES], code: u8) -> Answer
+pub fn answer(l: FaceLimits, held: [u8; endpoints::PLACES], code: u8) -> Answer
     ensures { λ r. ⌜ r ≡ packed (faceAnswer l held code) ⌝ }
 {
     let v = value(l, held, code);

@@ -1,26 +1,24 @@
 // The endpoints that a profile lists, and the place of an address among them.
-use wire::endpoints::FIRST;
-use wire::endpoints::LIMIT;
-use wire::endpoints::PLACES;
+use wire::endpoints;
 ghost use mathlib.Core.Path.{_≡_};
 ghost use Prim.Native.Nat.{_<_, _≤_};
 ghost use Rattle.wire.specs.Endpoints.{endpointLimit};
 ghost use Rattle.face.specs.Limits.{endpointsOf, addressBefore, endpointValid, faceValid, placeOf, offersOf};
 
-const LAST: u8 = FIRST + (PLACES as u8) - 1;
+const LAST: u8 = endpoints::FIRST + (endpoints::PLACES as u8) - 1;
 
 // Endpoints in ascending order of their addresses, each with the flags that it offers; places behind the count are zero.
 pub struct FaceLimits {
     pub count: u8,
-    pub addresses: [u8; LIMIT],
-    pub offers: [u8; LIMIT],
+    pub addresses: [u8; endpoints::LIMIT],
+    pub offers: [u8; endpoints::LIMIT],
 }
 
 // How many it lists.
 pub fn endpoints_of(l: FaceLimits) -> usize
     ensures { λ r. ⌜ (r ≡ endpointsOf l) × (r ≤ endpointLimit) ⌝ }
 {
-    wire::min(l.count as usize, LIMIT)
+    wire::min(l.count as usize, endpoints::LIMIT)
 }
 
 // The address that place i's has to be above.
@@ -29,7 +27,7 @@ fn address_before(l: FaceLimits, i: usize) -> u8
     ensures { λ r. ⌜ r ≡ addressBefore l i ⌝ }
 {
     if i == 0 {
-        return FIRST - 1;
+        return endpoints::FIRST - 1;
     }
     let j = i - 1;
     l.addresses[j]
@@ -55,11 +53,11 @@ pub fn valid(l: FaceLimits) -> bool
 {
     let mut ok = true;
     let mut i = 0;
-    while i < LIMIT {
+    while i < endpoints::LIMIT {
         ok = ok & endpoint_valid(l, i);
         i += 1;
     }
-    (1 <= l.count) & ((l.count as usize) <= LIMIT) & ok
+    (1 <= l.count) & ((l.count as usize) <= endpoints::LIMIT) & ok
 }
 
 // The first place that lists an address, or LIMIT.
@@ -74,7 +72,7 @@ pub fn place_of(l: FaceLimits, address: u8) -> usize
         }
         i += 1;
     }
-    LIMIT
+    endpoints::LIMIT
 }
 
 // The flags that the endpoint at an address offers; 0 where it isn't listed.
@@ -82,7 +80,7 @@ pub fn offers_of(l: FaceLimits, address: u8) -> u8
     ensures { λ r. ⌜ r ≡ offersOf l address ⌝ }
 {
     let i = place_of(l, address);
-    if i < LIMIT {
+    if i < endpoints::LIMIT {
         return l.offers[i];
     }
     0

@@ -1,4 +1,5 @@
--- The metadata ids that document 01 knows: Microsoft's own, 1 to 6, and custom ids, from 0x80000000 on.
+-- The metadata ids that document 01 knows: Microsoft's own, MetadataId_Standard_Start 1 to MetadataId_Standard_End 6, and custom ids, from
+-- MetadataId_Custom_Start 0x80000000 on.
 use Prim.Native.Nat.{ℕ}
 use mathlib.Core.Bool.{Bool, _&&_, _||_}
 use lib.Dec.{leb}

@@ -1,4 +1,5 @@
--- Which items a metadata block holds, or its first fault: document 01's tests of an item, in its order.
+-- Which items a metadata block holds, or its first fault, by document 01's tests of an item in its order; and what asking for item k and for
+-- the number of items hand back.
 use Prim.Native.Nat.{ℕ, zero, suc, _-_}
 use mathlib.Core.List.{List, [], _∷_}
 use mathlib.Core.Bool.{not, cond}
@@ -31,7 +32,7 @@ pub data BlockReading : Type 0 where
   refused : ℕ → BlockReading
   sound : List MetadataItem → BlockReading
 
--- the fields of the item that bytes begin with: id (4), size of the whole item (4), both unsigned
+-- the fields of the item that bytes begin with, 001's KSCAMERA_METADATA_ITEMHEADER: id (4), size of the whole item (4), both unsigned
 abbrev pub itemId : List ℕ → ℕ
 itemId s = leAt 4 s 0
 
@@ -81,7 +82,6 @@ itemsFrom s = itemsIn (length s) s
 unfoldable pub blockItems : List ℕ → BlockReading
 blockItems s = cond (ltb longestBlock (length s)) (refused tooLong) (itemsFrom s)
 
-
 -- a refusal: id 0 and an empty part
 abbrev pub refusedItem : ℕ → Found
 refusedItem code = record { code = code; id = 0; payload = nowhere }
@@ -110,5 +110,3 @@ blockCount s = countIn (blockItems s)
 -- the bytes of item k's payload; none on a refusal
 unfoldable pub blockPayload : List ℕ → ℕ → List ℕ
 blockPayload s k = bytesAt s (blockItem s k .payload)
-
-

@@ -1,10 +1,5 @@
 // Reading a metadata block: the item asked for, with the place of its payload, and how many items there are.
-use crate::codes::ACCEPTED;
-use crate::codes::NO_ITEM;
-use crate::codes::SHORT_SIZE;
-use crate::codes::TOO_LONG;
-use crate::codes::TRUNCATED;
-use crate::codes::UNKNOWN_ID;
+use crate::codes;
 use crate::ids::is_known;
 use wire::Part;
 ghost use mathlib.Core.Path.{_≡_};
@@ -16,7 +11,7 @@ ghost use Rattle.frame.specs.Steps.{passItem, stoppedAt, surveyOf};
 // The most bytes a block may have.
 pub const LONGEST_BLOCK: usize = 65535;
 
-// The bytes of an item's id and size, which stand before its payload and count in its size.
+// The bytes of an item's id and size (001's KSCAMERA_METADATA_ITEMHEADER), which stand before its payload and count in its size.
 pub(crate) const ITEM_HEADER: usize = 8;
 
 // An item's id and the place of its payload, with code 0; or a refusal, with id 0 and an empty part.
@@ -49,18 +44,18 @@ fn first_item(rest: &[u8]) -> Head
     ensures { λ r. ⌜ r ≡ firstItem (now (rest .entry)) ⌝ }
 {
     if rest.len() < ITEM_HEADER {
-        return Head::Bad(TRUNCATED);
+        return Head::Bad(codes::TRUNCATED);
     }
     let id = wire::le32(rest, 0);
     if !is_known(id) {
-        return Head::Bad(UNKNOWN_ID);
+        return Head::Bad(codes::UNKNOWN_ID);
     }
     let size = wire::le32(rest, 4) as usize;
     if size < ITEM_HEADER {
-        return Head::Bad(SHORT_SIZE);
+        return Head::Bad(codes::SHORT_SIZE);
     }
     if rest.len() < size {
-        return Head::Bad(TRUNCATED);
+        return Head::Bad(codes::TRUNCATED);
     }
     Head::Whole(id, size)
 }
@@ -92,7 +87,7 @@ fn pass_item(found: Found, k: usize, n: usize, id: u32, at: usize, size: usize) 
 {
     if n == k {
         return Found {
-            code: ACCEPTED,
+            code: codes::ACCEPTED,
             id,
             payload: Part {
                 at: at + ITEM_HEADER,
@@ -108,11 +103,11 @@ fn walk(block: &[u8], k: usize) -> Survey
     ensures { λ r. ⌜ r ≡ surveyOf k (blockItems (now (block .entry))) ⌝ }
 {
     if LONGEST_BLOCK < block.len() {
-        return stopped(TOO_LONG);
+        return stopped(codes::TOO_LONG);
     }
     let mut at = 0;
     let mut n = 0;
-    let mut found = refused_item(NO_ITEM);
+    let mut found = refused_item(codes::NO_ITEM);
     while at < block.len() {
         match first_item(wire::tail(block, at)) {
             Head::Bad(code) => {
@@ -126,7 +121,7 @@ fn walk(block: &[u8], k: usize) -> Survey
         }
     }
     let counted = Counted {
-        code: ACCEPTED,
+        code: codes::ACCEPTED,
         items: n,
     };
     Survey { counted, found }

@@ -1,11 +1,9 @@
 // Writing one item at a place of a lent buffer. What stands before the place is not read.
-use crate::codes::ACCEPTED;
-use crate::codes::TOO_LONG;
-use crate::codes::UNKNOWN_ID;
+use crate::codes;
 use crate::ids::is_known;
 use crate::items::ITEM_HEADER;
 use crate::items::LONGEST_BLOCK;
-use wire::uvc::NO_ROOM;
+use wire::uvc;
 ghost use mathlib.Core.Path.{_≡_};
 ghost use Prim.Native.Nat.{_+_, _≤_};
 ghost use lib.ListN.{length};
@@ -23,22 +21,22 @@ fn append_refusal(room: usize, at: usize, id: u32, len: usize) -> u8
     ensures { λ r. ⌜ r ≡ appendRefusal room at id len ⌝ }
 {
     if !is_known(id) {
-        return UNKNOWN_ID;
+        return codes::UNKNOWN_ID;
     }
     if LONGEST_BLOCK < at {
-        return TOO_LONG;
+        return codes::TOO_LONG;
     }
     if LONGEST_BLOCK < len {
-        return TOO_LONG;
+        return codes::TOO_LONG;
     }
     let end = at + ITEM_HEADER + len;
     if LONGEST_BLOCK < end {
-        return TOO_LONG;
+        return codes::TOO_LONG;
     }
     if room < end {
-        return NO_ROOM;
+        return uvc::NO_ROOM;
     }
-    ACCEPTED
+    codes::ACCEPTED
 }
 
 // Writes the item where there is room.
@@ -58,12 +56,12 @@ pub fn append(buf: &mut [u8], at: usize, id: u32, payload: &[u8]) -> Appended
         × (now (buf .exit) ≡ writtenOf (now (buf .entry)) at id (now (payload .entry))) ⌝ }
 {
     let code = append_refusal(buf.len(), at, id, payload.len());
-    if code != ACCEPTED {
+    if code != codes::ACCEPTED {
         return Appended { code, end: 0 };
     }
     put_item(buf, at, id, payload);
     Appended {
-        code: ACCEPTED,
+        code: codes::ACCEPTED,
         end: at + ITEM_HEADER + payload.len(),
     }
 }

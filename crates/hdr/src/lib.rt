@@ -1,16 +1,13 @@
 // HDR: SET's value tests, the setting that a SET gives, and GET's answers. Document 01, "The five controls"; 001 decides.
 // Its payload is a number of four bytes: 0 off, 1 on and 2 auto. The maximum is a mask of modes and no largest mode.
-use controls::Item;
 use controls::HeldNumber;
+use controls::Item;
 use controls::Setting;
 use controls::item_of;
 use controls::number_or;
 use request::Answer;
 use request::answer_by;
-use wire::uvc::GET_CUR;
-use wire::uvc::GET_MAX;
-use wire::uvc::INVALID_VALUE;
-use wire::uvc::OUT_OF_RANGE;
+use wire::uvc;
 ghost use mathlib.Core.Path.{_≡_};
 ghost use Rattle.request.specs.Answers.{packed};
 ghost use Rattle.hdr.specs.Hdr.{hdrRefusal, hdrItem, hdrAttribute, hdrAnswer};
@@ -25,7 +22,7 @@ pub fn refusal(l: HdrLimits, n: u32) -> u8
     ensures { λ r. ⌜ r ≡ hdrRefusal l n ⌝ }
 {
     if 2 < n {
-        return OUT_OF_RANGE;
+        return uvc::OUT_OF_RANGE;
     }
     if n != 2 {
         return 0;
@@ -33,7 +30,7 @@ pub fn refusal(l: HdrLimits, n: u32) -> u8
     if l.auto {
         return 0;
     }
-    INVALID_VALUE
+    uvc::INVALID_VALUE
 }
 
 // What a SET's payload comes to.
@@ -48,13 +45,13 @@ pub fn item(l: HdrLimits, payload: &[u8]) -> Item
 fn attribute(l: HdrLimits, held: HeldNumber, code: u8) -> u32
     ensures { λ r. ⌜ r ≡ hdrAttribute l held code ⌝ }
 {
-    if code == GET_MAX {
+    if code == uvc::GET_MAX {
         if l.auto {
             return 3;
         }
         return 1;
     }
-    if code == GET_CUR {
+    if code == uvc::GET_CUR {
         return number_or(0, held);
     }
     0

@@ -1,12 +1,10 @@
 // Merging two snapshots: one record for each key that is in either, in ascending order, the second's where both have it.
 // Document 01, "Settings sheet", and demand 3's sentences on merging. Merging looks at form only, never at the values that records carry.
-use snapshot::KEYS;
 use snapshot::key_at;
 use snapshot::record_length;
 use snapshot::well_formed;
 use wire::Part;
-use wire::uvc::MALFORMED_SNAPSHOT;
-use wire::uvc::NO_ROOM;
+use wire::uvc;
 ghost use mathlib.Core.Path.{_≡_};
 ghost use mathlib.Core.Bool.{true};
 ghost use lib.ListN.{length};
@@ -43,7 +41,7 @@ fn write_merged(first: &[u8], second: &[u8], out: &mut [u8]) -> usize
     let mut b = 0;
     let mut y = key_at(second, 0);
     let mut n = 0;
-    while wire::min(x, y) < KEYS {
+    while wire::min(x, y) < snapshot::KEYS {
         if x < y {
             let size = record_length(x);
             wire::copy(out, n, wire::part_at(first, Part { at: a, len: size }));
@@ -87,13 +85,13 @@ pub fn merge(first: &[u8], second: &[u8], out: &mut [u8]) -> Merged
     ensures { λ _. ⌜ now (out .exit) ≡ mergeOut (now (first .entry)) (now (second .entry)) (now (out .entry)) ⌝ }
 {
     if !well_formed(first) {
-        return refused(MALFORMED_SNAPSHOT);
+        return refused(uvc::MALFORMED_SNAPSHOT);
     }
     if !well_formed(second) {
-        return refused(MALFORMED_SNAPSHOT);
+        return refused(uvc::MALFORMED_SNAPSHOT);
     }
     if !has_room(first, second, out.len()) {
-        return refused(NO_ROOM);
+        return refused(uvc::NO_ROOM);
     }
     let n = write_merged(first, second, out);
     Merged { code: 0, len: n }

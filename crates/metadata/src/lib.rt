@@ -1,17 +1,13 @@
 // Metadata: limits, SET's value tests, the setting that a SET gives, and GET's answers. Document 01, "The five controls"; 001 decides.
 // Its payload is a number of four bytes, the size of the buffer that frame metadata goes to; 0 turns it off and the maximum on.
-use controls::Item;
 use controls::HeldNumber;
+use controls::Item;
 use controls::Setting;
 use controls::item_of;
 use controls::number_or;
 use request::Answer;
 use request::answer_by;
-use wire::uvc::GET_CUR;
-use wire::uvc::GET_MAX;
-use wire::uvc::GET_RES;
-use wire::uvc::INVALID_VALUE;
-use wire::uvc::OUT_OF_RANGE;
+use wire::uvc;
 ghost use mathlib.Core.Path.{_≡_};
 ghost use Rattle.request.specs.Answers.{packed};
 ghost use Rattle.metadata.specs.Metadata.{metadataValid, metadataRefusal, metadataItem, metadataAttribute, metadataInfo, metadataAnswer};
@@ -32,7 +28,7 @@ pub fn refusal(l: MetadataLimits, n: u32) -> u8
     ensures { λ r. ⌜ r ≡ metadataRefusal l n ⌝ }
 {
     if l.maximum < n {
-        return OUT_OF_RANGE;
+        return uvc::OUT_OF_RANGE;
     }
     if n == 0 {
         return 0;
@@ -40,7 +36,7 @@ pub fn refusal(l: MetadataLimits, n: u32) -> u8
     if n == l.maximum {
         return 0;
     }
-    INVALID_VALUE
+    uvc::INVALID_VALUE
 }
 
 // What a SET's payload comes to.
@@ -56,15 +52,15 @@ fn attribute(l: MetadataLimits, held: HeldNumber, code: u8) -> u32
     ensures { λ r. ⌜ r ≡ metadataAttribute l held code ⌝ }
 {
     if !l.writable {
-        if code == GET_RES {
+        if code == uvc::GET_RES {
             return 0;
         }
         return l.maximum;
     }
-    if (code == GET_MAX) | (code == GET_RES) {
+    if (code == uvc::GET_MAX) | (code == uvc::GET_RES) {
         return l.maximum;
     }
-    if code == GET_CUR {
+    if code == uvc::GET_CUR {
         return number_or(0, held);
     }
     0

@@ -1,4 +1,5 @@
--- The payload header of a packet: byte 0 its length, byte 1 flags, the fields that PTS and SCR announce, and the metadata to its end.
+-- The payload header of a packet: byte 0 its length (bHeaderLength), byte 1 flags (bmHeaderInfo, the bit field header BFH), the fields that PTS
+-- (dwPresentationTime) and SCR (scrSourceClock) announce, and the metadata to its end.
 use Prim.Native.Nat.{ℕ, _+_, _-_}
 use mathlib.Core.List.{List, [], _∷_}
 use mathlib.Core.Bool.{Bool, cond}
@@ -19,7 +20,6 @@ cutHeader = 0x45
 -- a header that does not hold the fields its flags announce
 abbrev pub shortHeader : ℕ
 shortHeader = 0x46
-
 
 abbrev pub headerLength : List ℕ → ℕ
 headerLength p = getD p 0 0
@@ -67,5 +67,3 @@ headerOf p =
       metadata = record { at = fieldsLength (headerFlags p); len = headerLength p - fieldsLength (headerFlags p) };
     })
     (refusedHeader (headerRefusal p))
-
-

@@ -10,13 +10,8 @@ use metadata::MetadataLimits;
 use request::Control;
 use request::Unit;
 use throttle::ThrottleLimits;
-use wire::selectors::EV;
-use wire::selectors::FACE;
-use wire::selectors::HDR;
-use wire::selectors::METADATA;
-use wire::selectors::THROTTLE;
-use wire::uvc::INVALID_CONTROL;
-use wire::uvc::INVALID_REQUEST;
+use wire::selectors;
+use wire::uvc;
 ghost use mathlib.Core.Path.{_≡_};
 ghost use mathlib.Core.Bool.{cond};
 ghost use Prim.Native.Nat.{_≤_};
@@ -43,15 +38,15 @@ fn has(p: Profile, selector: u8) -> bool
 }
 
 // The controls' bits, of which that of selector s is bit s - 1.
-const EV_BIT: u32 = 1 << (EV - 1);
+const EV_BIT: u32 = 1 << (selectors::EV - 1);
 
-const FACE_BIT: u32 = 1 << (FACE - 1);
+const FACE_BIT: u32 = 1 << (selectors::FACE - 1);
 
-const METADATA_BIT: u32 = 1 << (METADATA - 1);
+const METADATA_BIT: u32 = 1 << (selectors::METADATA - 1);
 
-const HDR_BIT: u32 = 1 << (HDR - 1);
+const HDR_BIT: u32 = 1 << (selectors::HDR - 1);
 
-const THROTTLE_BIT: u32 = 1 << (THROTTLE - 1);
+const THROTTLE_BIT: u32 = 1 << (selectors::THROTTLE - 1);
 
 // What the bit of a selector adds to a number.
 fn bit_at(bits: u32, selector: u8, worth: u32) -> u32
@@ -69,33 +64,33 @@ fn presence_valid(bits: u32) -> bool
     ensures { λ r. ⌜ r ≡ presenceValid bits ⌝ }
 {
     bits
-        == bit_at(bits, EV, EV_BIT)
-            + bit_at(bits, FACE, FACE_BIT)
-            + bit_at(bits, METADATA, METADATA_BIT)
-            + bit_at(bits, HDR, HDR_BIT)
-            + bit_at(bits, THROTTLE, THROTTLE_BIT)
+        == bit_at(bits, selectors::EV, EV_BIT)
+            + bit_at(bits, selectors::FACE, FACE_BIT)
+            + bit_at(bits, selectors::METADATA, METADATA_BIT)
+            + bit_at(bits, selectors::HDR, HDR_BIT)
+            + bit_at(bits, selectors::THROTTLE, THROTTLE_BIT)
 }
 
 fn is_settable(p: Profile, selector: u8) -> bool
     ensures { λ r. ⌜ r ≡ isSettable p selector ⌝ }
 {
-    (selector != METADATA) | p.metadata.writable
+    (selector != selectors::METADATA) | p.metadata.writable
 }
 
 // The length that a SET of this payload must have.
 fn set_length(p: Profile, selector: u8, payload: &[u8]) -> usize
     ensures { λ r. ⌜ r ≡ setLength p selector (now (payload .entry)) ⌝ }
 {
-    if selector == FACE {
+    if selector == selectors::FACE {
         return entries::set_length(p.face, payload);
     }
-    if selector == EV {
+    if selector == selectors::EV {
         return 11;
     }
-    if selector == METADATA {
+    if selector == selectors::METADATA {
         return 4;
     }
-    if selector == HDR {
+    if selector == selectors::HDR {
         return 4;
     }
     20
@@ -107,10 +102,10 @@ impl Profile {
         ensures { λ r. ⌜ r ≡ profileValid self ⌝ }
     {
         presence_valid(self.controls)
-            & (!has(self, EV) | exposure::valid(self.ev))
-            & (!has(self, FACE) | face::valid(self.face))
-            & (!has(self, METADATA) | metadata::valid(self.metadata))
-            & (!has(self, THROTTLE) | throttle::valid(self.throttle))
+            & (!has(self, selectors::EV) | exposure::valid(self.ev))
+            & (!has(self, selectors::FACE) | face::valid(self.face))
+            & (!has(self, selectors::METADATA) | metadata::valid(self.metadata))
+            & (!has(self, selectors::THROTTLE) | throttle::valid(self.throttle))
     }
 
     // What a request's tests 2 to 6 go by.
@@ -138,10 +133,10 @@ impl Profile {
         ensures { λ r. ⌜ r ≡ profileRefusal self selector ⌝ }
     {
         if !has(self, selector) {
-            return INVALID_CONTROL;
+            return uvc::INVALID_CONTROL;
         }
         if !is_settable(self, selector) {
-            return INVALID_REQUEST;
+            return uvc::INVALID_REQUEST;
         }
         0
     }
@@ -150,16 +145,16 @@ impl Profile {
     pub fn item(self, selector: u8, payload: &[u8]) -> Item
         ensures { λ r. ⌜ r ≡ profileItem self selector (now (payload .entry)) 0 ⌝ }
     {
-        if selector == EV {
+        if selector == selectors::EV {
             return exposure::item(self.ev, payload);
         }
-        if selector == FACE {
+        if selector == selectors::FACE {
             return entries::item(self.face, payload);
         }
-        if selector == METADATA {
+        if selector == selectors::METADATA {
             return metadata::item(self.metadata, payload);
         }
-        if selector == HDR {
+        if selector == selectors::HDR {
             return hdr::item(self.hdr, payload);
         }
         throttle::item(self.throttle, payload)

@@ -1,12 +1,11 @@
 // A GET's full answer, before it is cut to wLength.
-use wire::endpoints::LIMIT;
-use wire::uvc::GET_INFO;
-use wire::uvc::GET_LEN;
+use wire::endpoints;
+use wire::uvc;
 ghost use mathlib.Core.Path.{_≡_};
 ghost use Rattle.request.specs.Answers.{packed, answerBy};
 
 // The longest answer: a count and an entry of eight bytes for each endpoint that a profile may list.
-pub const LONGEST_ANSWER: usize = 1 + 8 * LIMIT;
+pub const LONGEST_ANSWER: usize = 1 + 8 * endpoints::LIMIT;
 
 // The first len bytes are the answer, the others 0.
 pub struct Answer {
@@ -27,11 +26,11 @@ pub(crate) fn pack(answer: &[u8]) -> Answer
 pub fn answer_by(code: u8, len: usize, info: u8, value: &[u8]) -> Answer
     ensures { λ r. ⌜ r ≡ packed (answerBy code len info (now (value .entry))) ⌝ }
 {
-    if code == GET_LEN {
+    if code == uvc::GET_LEN {
         let b = wire::bytes16(len);
         return pack(&b);
     }
-    if code == GET_INFO {
+    if code == uvc::GET_INFO {
         let b = [info];
         return pack(&b);
     }

@@ -1,5 +1,5 @@
 // A GET's answer goes to the start of the reply buffer, cut to wLength.
-use wire::uvc::NO_ROOM;
+use wire::uvc;
 ghost use mathlib.Core.Path.{_≡_};
 ghost use lib.ListN.{length};
 ghost use Rattle.request.specs.Reply.{sentOf, replyOf};
@@ -18,7 +18,7 @@ pub fn send(answer: &[u8], wlength: usize, reply: &mut [u8]) -> Sent
     let count = wire::min(wlength, answer.len());
     if reply.len() < count {
         return Sent {
-            code: NO_ROOM,
+            code: uvc::NO_ROOM,
             count: 0,
         };
     }

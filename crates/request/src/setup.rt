@@ -1,7 +1,5 @@
 // The setup packet: bmRequestType, bRequest, wValue, wIndex and wLength. A byte past its end is 0.
-use wire::uvc::GET_CUR;
-use wire::uvc::GET_DEF;
-use wire::uvc::SET_CUR;
+use wire::uvc;
 ghost use mathlib.Core.Path.{_≡_};
 ghost use Prim.Native.Nat.{_<_};
 ghost use Rattle.request.specs.Setup.{setupCode, setupSelector, setupWLength, isSetRequest, isGetRequest};
@@ -29,7 +27,7 @@ pub fn wlength(setup: &[u8]) -> usize
 pub fn is_set_request(setup: &[u8]) -> bool
     ensures { λ r. ⌜ r ≡ isSetRequest (now (setup .entry)) ⌝ }
 {
-    (wire::byte(setup, 0) == 0x21) & (wire::byte(setup, 1) == SET_CUR)
+    (wire::byte(setup, 0) == 0x21) & (wire::byte(setup, 1) == uvc::SET_CUR)
 }
 
 // Type 0xA1 with one of the seven GET codes.
@@ -37,5 +35,5 @@ pub(crate) fn is_get_request(setup: &[u8]) -> bool
     ensures { λ r. ⌜ r ≡ isGetRequest (now (setup .entry)) ⌝ }
 {
     let code = wire::byte(setup, 1);
-    (wire::byte(setup, 0) == 0xA1) & (GET_CUR <= code) & (code <= GET_DEF)
+    (wire::byte(setup, 0) == 0xA1) & (uvc::GET_CUR <= code) & (code <= uvc::GET_DEF)
 }

@@ -3,10 +3,7 @@ use crate::setup::is_get_request;
 use crate::setup::is_set_request;
 use crate::setup::selector;
 use crate::setup::wlength;
-use wire::uvc::INVALID_CONTROL;
-use wire::uvc::INVALID_REQUEST;
-use wire::uvc::INVALID_UNIT;
-use wire::uvc::UNKNOWN;
+use wire::uvc;
 ghost use mathlib.Core.Path.{_≡_};
 ghost use Rattle.wire.specs.Rows.{firstOf};
 ghost use Rattle.request.specs.Table.{hasControl, tableOf};
@@ -70,19 +67,19 @@ pub fn refusal(u: Unit, c: Control, setup: &[u8], payload: &[u8]) -> u8
     ensures { λ r. ⌜ r ≡ firstOf (requestTests (tableOf u c) (now (setup .entry)) (now (payload .entry))) ⌝ }
 {
     if setup.len() != 8 {
-        return UNKNOWN;
+        return uvc::UNKNOWN;
     }
     if !is_addressed(u, setup) {
-        return INVALID_UNIT;
+        return uvc::INVALID_UNIT;
     }
     if !has_control(u.present, selector(setup)) {
-        return INVALID_CONTROL;
+        return uvc::INVALID_CONTROL;
     }
     if !is_understood(c.settable, setup) {
-        return INVALID_REQUEST;
+        return uvc::INVALID_REQUEST;
     }
     if !is_sized(c.len, setup, payload) {
-        return UNKNOWN;
+        return uvc::UNKNOWN;
     }
     0
 }

@@ -1,4 +1,4 @@
--- TODO head
+-- The setting that is held of each control, of each endpoint, and of each key of a snapshot.
 use Prim.Native.Nat.{ℕ, _+_, _-_}
 use mathlib.Core.Option.{Option, none, some}
 use mathlib.Core.Bool.{cond}
@@ -53,4 +53,3 @@ settingsHeld s k =
 abbrev pub heldSetting : Option Setting → HeldSetting
 heldSetting none = H.Unset
 heldSetting (some s) = H.Held s
-

@@ -1,4 +1,4 @@
--- TODO head
+-- Document 01, "Profile and camera record": which settings keep their rules, each by its own SET's.
 use Prim.Native.Nat.{ℕ}
 use mathlib.Core.Option.{Option, none, some}
 use mathlib.Core.Bool.{Bool, true, _&&_}
@@ -34,5 +34,3 @@ kept p (some s) = eqb (profileRefusal p (settingSelector s)) 0 && eqb (valueRefu
 -- the profile is valid, and every setting keeps its rules; a record with any other is 0x21
 unfoldable pub settingsWellFormed : Profile → Settings → Bool
 settingsWellFormed p s = profileValid p && allBelow keys (λ k. kept p (settingsHeld s k))
-
-

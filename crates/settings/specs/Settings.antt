@@ -1,4 +1,4 @@
--- Document 01, "Profile and camera record": the settings that a camera holds, and which of them keep their rules.
+-- Document 01, "Profile and camera record": the settings of the five controls, their keys, and the settings with one more.
 use Prim.Native.Nat.{ℕ}
 use lib.ListN.{replicate}
 use Rattle.wire.specs.Endpoints.{places}
@@ -38,4 +38,3 @@ put h (S.Face address flags) =
 put h (S.Metadata n) = record { ev = h .ev; face = h .face; metadata = N.Held n; hdr = h .hdr; throttle = h .throttle }
 put h (S.Hdr n) = record { ev = h .ev; face = h .face; metadata = h .metadata; hdr = N.Held n; throttle = h .throttle }
 put h (S.Throttle s) = record { ev = h .ev; face = h .face; metadata = h .metadata; hdr = h .hdr; throttle = T.Held s }
-

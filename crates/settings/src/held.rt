@@ -1,21 +1,16 @@
 // The settings that are held, key by key, as a snapshot's records have them.
 use crate::settings::Settings;
-use controls::HeldSetting;
 use controls::HeldNumber;
+use controls::HeldSetting;
 use controls::Setting;
 use exposure::HeldEv;
-use snapshot::EV_KEY;
-use snapshot::HDR_KEY;
-use snapshot::METADATA_KEY;
-use snapshot::THROTTLE_KEY;
 use throttle::HeldThrottle;
-use wire::endpoints::FIRST;
-use wire::endpoints::PLACES;
+use wire::endpoints;
 ghost use mathlib.Core.Path.{_≡_};
 ghost use Rattle.settings.specs.Held.{evHeld, faceHeld, metadataHeld, hdrHeld, throttleHeld, settingsHeld, heldSetting};
 
 fn held_ev(held: HeldEv) -> HeldSetting
-    ensures { λ r. ⌜ r ≡ heldSetting (evHeld settingsHeld) ⌝ }
+    ensures { λ r. ⌜ r ≡ heldSetting (evHeld held) ⌝ }
 {
     match held {
         HeldEv::Unset => HeldSetting::Unset,
@@ -33,7 +28,7 @@ fn held_face(address: u8, flags: u8) -> HeldSetting
 }
 
 fn held_metadata(held: HeldNumber) -> HeldSetting
-    ensures { λ r. ⌜ r ≡ heldSetting (metadataHeld settingsHeld) ⌝ }
+    ensures { λ r. ⌜ r ≡ heldSetting (metadataHeld held) ⌝ }
 {
     match held {
         HeldNumber::Unset => HeldSetting::Unset,
@@ -42,7 +37,7 @@ fn held_metadata(held: HeldNumber) -> HeldSetting
 }
 
 fn held_hdr(held: HeldNumber) -> HeldSetting
-    ensures { λ r. ⌜ r ≡ heldSetting (hdrHeld settingsHeld) ⌝ }
+    ensures { λ r. ⌜ r ≡ heldSetting (hdrHeld held) ⌝ }
 {
     match held {
         HeldNumber::Unset => HeldSetting::Unset,
@@ -51,7 +46,7 @@ fn held_hdr(held: HeldNumber) -> HeldSetting
 }
 
 fn held_throttle(held: HeldThrottle) -> HeldSetting
-    ensures { λ r. ⌜ r ≡ heldSetting (throttleHeld settingsHeld) ⌝ }
+    ensures { λ r. ⌜ r ≡ heldSetting (throttleHeld held) ⌝ }
 {
     match held {
         HeldThrottle::Unset => HeldSetting::Unset,
@@ -64,20 +59,20 @@ impl Settings {
     pub fn held(self, key: usize) -> HeldSetting
         ensures { λ r. ⌜ r ≡ heldSetting (settingsHeld self key) ⌝ }
     {
-        if key == EV_KEY {
+        if key == snapshot::EV_KEY {
             return held_ev(self.ev);
         }
-        if key <= PLACES {
+        if key <= endpoints::PLACES {
             let at = key - 1;
-            return held_face(FIRST + (at as u8), self.face[at]);
+            return held_face(endpoints::FIRST + (at as u8), self.face[at]);
         }
-        if key == METADATA_KEY {
+        if key == snapshot::METADATA_KEY {
             return held_metadata(self.metadata);
         }
-        if key == HDR_KEY {
+        if key == snapshot::HDR_KEY {
             return held_hdr(self.hdr);
         }
-        if key == THROTTLE_KEY {
+        if key == snapshot::THROTTLE_KEY {
             return held_throttle(self.throttle);
         }
         HeldSetting::Unset

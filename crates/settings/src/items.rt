@@ -3,7 +3,7 @@ use crate::settings::Settings;
 use controls::Item;
 use controls::item_code;
 use profile::Profile;
-use wire::selectors::FACE;
+use wire::selectors;
 ghost use mathlib.Core.Path.{_≡_};
 ghost use Rattle.settings.specs.Items.{givenOf, putAll, setTaken};
 
@@ -28,7 +28,7 @@ impl Settings {
     pub fn set(self, p: Profile, selector: u8, payload: &[u8]) -> Taken
         ensures { λ r. ⌜ r ≡ setTaken p self selector (now (payload .entry)) ⌝ }
     {
-        if selector == FACE {
+        if selector == selectors::FACE {
             let held = self.face;
             let taken = entries::take(p.face, held, payload);
             let next = taken.held;

@@ -5,11 +5,7 @@ use exposure::HeldEv;
 use profile::Profile;
 use request::has_control;
 use throttle::HeldThrottle;
-use wire::selectors::EV;
-use wire::selectors::FACE;
-use wire::selectors::HDR;
-use wire::selectors::METADATA;
-use wire::selectors::THROTTLE;
+use wire::selectors;
 ghost use mathlib.Core.Path.{_≡_};
 ghost use Rattle.settings.specs.Held.{evHeld, metadataHeld, hdrHeld, throttleHeld};
 ghost use Rattle.settings.specs.Kept.{kept, settingsWellFormed};
@@ -19,7 +15,7 @@ fn ev_kept(p: Profile, held: HeldEv) -> bool
 {
     match held {
         HeldEv::Unset => true,
-        HeldEv::Held(s) => has_control(p.controls, EV)
+        HeldEv::Held(s) => has_control(p.controls, selectors::EV)
             & (exposure::refusal(p.ev, s.flags as u64, s.value) == 0),
     }
 }
@@ -29,7 +25,7 @@ fn metadata_kept(p: Profile, held: HeldNumber) -> bool
 {
     match held {
         HeldNumber::Unset => true,
-        HeldNumber::Held(n) => has_control(p.controls, METADATA)
+        HeldNumber::Held(n) => has_control(p.controls, selectors::METADATA)
             & p.metadata.writable
             & (metadata::refusal(p.metadata, n) == 0),
     }
@@ -40,7 +36,8 @@ fn hdr_kept(p: Profile, held: HeldNumber) -> bool
 {
     match held {
         HeldNumber::Unset => true,
-        HeldNumber::Held(n) => has_control(p.controls, HDR) & (hdr::refusal(p.hdr, n) == 0),
+        HeldNumber::Held(n) => has_control(p.controls, selectors::HDR)
+            & (hdr::refusal(p.hdr, n) == 0),
     }
 }
 
@@ -49,7 +46,7 @@ fn throttle_kept(p: Profile, held: HeldThrottle) -> bool
 {
     match held {
         HeldThrottle::Unset => true,
-        HeldThrottle::Held(t) => has_control(p.controls, THROTTLE)
+        HeldThrottle::Held(t) => has_control(p.controls, selectors::THROTTLE)
             & (throttle::refusal(p.throttle, t.mode, t.percent) == 0),
     }
 }
@@ -66,7 +63,7 @@ impl Settings {
         let throttle = self.throttle;
         p.valid()
             & ev_kept(p, ev)
-            & entries::kept(p.face, has_control(p.controls, FACE), face)
+            & entries::kept(p.face, has_control(p.controls, selectors::FACE), face)
             & metadata_kept(p, metadata)
             & hdr_kept(p, hdr)
             & throttle_kept(p, throttle)

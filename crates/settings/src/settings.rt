@@ -3,14 +3,14 @@ use controls::HeldNumber;
 use controls::Setting;
 use exposure::HeldEv;
 use throttle::HeldThrottle;
-use wire::endpoints::PLACES;
+use wire::endpoints;
 ghost use mathlib.Core.Path.{_≡_};
 ghost use Rattle.settings.specs.Settings.{noSettings, put};
 
 // Face settings stand by address, that of 0x81 first: the flag chosen, or 0 for none.
 pub struct Settings {
     pub ev: HeldEv,
-    pub face: [u8; PLACES],
+    pub face: [u8; endpoints::PLACES],
     pub metadata: HeldNumber,
     pub hdr: HeldNumber,
     pub throttle: HeldThrottle,
@@ -22,7 +22,7 @@ impl Settings {
     {
         Settings {
             ev: HeldEv::Unset,
-            face: [0; PLACES],
+            face: [0; endpoints::PLACES],
             metadata: HeldNumber::Unset,
             hdr: HeldNumber::Unset,
             throttle: HeldThrottle::Unset,

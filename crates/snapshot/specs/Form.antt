@@ -72,5 +72,3 @@ wellFormed s = formed (length s) 0 s
 -- the verdict on the form: accepted, or a form fault
 unfoldable pub formCode : List ℕ → ℕ
 formCode s = cond (wellFormed s) 0 malformedSnapshot
-
-

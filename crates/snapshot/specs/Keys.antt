@@ -1,4 +1,4 @@
--- TODO head
+-- The keys of a snapshot's records, and how long the records of each are.
 use Prim.Native.Nat.{ℕ, _+_, _-_}
 use mathlib.Core.Bool.{cond}
 use lib.Dec.{leb, eqb}
@@ -50,4 +50,3 @@ keyFor kind address =
     (cond (eqb kind metadata) metadataKey
     (cond (eqb kind hdr) hdrKey
     throttleKey)))
-

@@ -1,7 +1,7 @@
 // The form of a snapshot.
 use crate::keys::KEYS;
 use crate::records::start_of;
-use wire::uvc::MALFORMED_SNAPSHOT;
+use wire::uvc;
 ghost use mathlib.Core.Path.{_≡_};
 ghost use Rattle.snapshot.specs.Form.{wellFormed, formCode};
 
@@ -19,5 +19,5 @@ pub fn check(snapshot: &[u8]) -> u8
     if well_formed(snapshot) {
         return 0;
     }
-    MALFORMED_SNAPSHOT
+    uvc::MALFORMED_SNAPSHOT
 }

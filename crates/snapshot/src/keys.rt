@@ -1,7 +1,6 @@
 // The keys of a snapshot's records, numbered by kind, then address: exposure compensation, face authentication at each address, metadata,
 // HDR, throttle.
 use wire::endpoints;
-use wire::endpoints::PLACES;
 use wire::selectors;
 ghost use mathlib.Core.Path.{_≡_};
 ghost use mathlib.Core.Bool.{cond};
@@ -11,14 +10,14 @@ ghost use Rattle.snapshot.specs.Steps.{keyBy};
 
 pub const EV_KEY: usize = 0;
 
-pub const METADATA_KEY: usize = PLACES + 1;
+pub const METADATA_KEY: usize = endpoints::PLACES + 1;
 
-pub const HDR_KEY: usize = PLACES + 2;
+pub const HDR_KEY: usize = endpoints::PLACES + 2;
 
-pub const THROTTLE_KEY: usize = PLACES + 3;
+pub const THROTTLE_KEY: usize = endpoints::PLACES + 3;
 
 // How many keys there are; as a key, none.
-pub const KEYS: usize = PLACES + 4;
+pub const KEYS: usize = endpoints::PLACES + 4;
 
 // The kinds, and the addresses of face authentication.
 const EV: usize = selectors::EV as usize;
@@ -33,7 +32,7 @@ const THROTTLE: usize = selectors::THROTTLE as usize;
 
 const FIRST: usize = endpoints::FIRST as usize;
 
-const LAST: usize = FIRST + PLACES - 1;
+const LAST: usize = FIRST + endpoints::PLACES - 1;
 
 // The length of a record of a key; 0 where there is no such key.
 pub fn record_length(key: usize) -> usize
@@ -42,7 +41,7 @@ pub fn record_length(key: usize) -> usize
     if key == EV_KEY {
         return 15;
     }
-    if key <= PLACES {
+    if key <= endpoints::PLACES {
         return 13;
     }
     if key <= HDR_KEY {

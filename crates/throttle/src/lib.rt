@@ -6,12 +6,7 @@ use controls::ThrottleSetting;
 use controls::item_of;
 use request::Answer;
 use request::answer_by;
-use wire::uvc::GET_CUR;
-use wire::uvc::GET_MAX;
-use wire::uvc::GET_MIN;
-use wire::uvc::GET_RES;
-use wire::uvc::INVALID_VALUE;
-use wire::uvc::OUT_OF_RANGE;
+use wire::uvc;
 ghost use mathlib.Core.Path.{_≡_};
 ghost use Rattle.request.specs.Answers.{packed};
 ghost use Rattle.throttle.specs.Throttle.{divides, throttleValid, throttleRefusal, throttleItem, throttleAttribute, throttleBytes, throttleAnswer};
@@ -53,18 +48,18 @@ pub fn refusal(l: ThrottleLimits, mode: u32, percent: u32) -> u8
     ensures { λ r. ⌜ r ≡ throttleRefusal l mode percent ⌝ }
 {
     if percent < l.minimum {
-        return OUT_OF_RANGE;
+        return uvc::OUT_OF_RANGE;
     }
     if l.maximum < percent {
-        return OUT_OF_RANGE;
+        return uvc::OUT_OF_RANGE;
     }
     if 1 < mode {
-        return INVALID_VALUE;
+        return uvc::INVALID_VALUE;
     }
     if divides(l.step, percent) {
         return 0;
     }
-    INVALID_VALUE
+    uvc::INVALID_VALUE
 }
 
 // What a SET's payload comes to.
@@ -83,25 +78,25 @@ pub fn item(l: ThrottleLimits, payload: &[u8]) -> Item
 fn attribute(l: ThrottleLimits, held: HeldThrottle, code: u8) -> ThrottleSetting
     ensures { λ r. ⌜ r ≡ throttleAttribute l held code ⌝ }
 {
-    if code == GET_MIN {
+    if code == uvc::GET_MIN {
         return ThrottleSetting {
             mode: 0,
             percent: l.minimum,
         };
     }
-    if code == GET_MAX {
+    if code == uvc::GET_MAX {
         return ThrottleSetting {
             mode: 1,
             percent: l.maximum,
         };
     }
-    if code == GET_RES {
+    if code == uvc::GET_RES {
         return ThrottleSetting {
             mode: 0,
             percent: l.step,
         };
     }
-    if code == GET_CUR {
+    if code == uvc::GET_CUR {
         return match held {
             HeldThrottle::Unset => ThrottleSetting {
                 mode: 0,

@@ -8,7 +8,7 @@ use native.Mathlib.Omega.{arith}
 use lib.Dec.{eqb, leb}
 use lib.ListN.{getD, drop}
 use lib.Seq.{getD-drop}
-use borrow.Author.Tests.{eq-eqb, ne-eqb, eqb-true, eqb-false, leb-true, leb-false}
+use borrow.Author.Tests.{eq-eqb, ne-eqb, eqb-true, eqb-false, leb-true, leb-false, not-false}
 use Rattle.wire.specs.Endpoints.{firstAddress}
 use Rattle.wire.specs.Rows.{_⇒_, answers, firstOf}
 use Rattle.wire.specs.Uvc.{malformedSnapshot}
@@ -43,7 +43,7 @@ use Rattle.profile.specs.KnownControl.{KnownControl, ev, face, metadata, hdr, t
 use Rattle.camera.specs.Loading.{selectorAt, recordItem, loadRefusal, loadTests, loadGives}
 use Rattle.camera.proofs.Laws.Loading.{codeBy, givenBy}
 use Rattle.demands.proofs.Laws.Sets.{is-kind}
-use Rattle.demands.proofs.Laws.Steps.{not-off, isGiven, key-control}
+use Rattle.demands.proofs.Laws.Steps.{isGiven, key-control}
 
 -- settings under the number of what gives them
 abbrev Keyed : (ℕ → List (ℕ × Setting)) → Type 0
@@ -163,7 +163,7 @@ module _ (p : Profile) (streaming : Bool) where
   load-accepted s e =
       let n = loadRefusal p streaming s in
       let q = quiet ((not (wellFormed s) ⇒ malformedSnapshot) ∷ []) (answers n ∷ []) refl e in
-      record { formed = not-off (wellFormed s) (q .0 .0); each = λ k. go (sym (answers-number n) ∙ q .1) k (leb keys k) refl }
+      record { formed = not-false (wellFormed s) (q .0 .0); each = λ k. go (sym (answers-number n) ∙ q .1) k (leb keys k) refl }
     where
       go : loadRefusal p streaming s ≡ 0 → (k : ℕ) (b : Bool) → leb keys k ≡ b → codeBy p streaming k (decode s k) ≡ 0
       go z k true q = ap (codeBy p streaming k) (load-end s k (leb-true keys k q))

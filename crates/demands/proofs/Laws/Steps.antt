@@ -6,7 +6,7 @@ use mathlib.Core.Bool.{Bool, true, false, cond, not, _&&_, true≢false, and-eq-
 use Prim.Native.Nat.{ℕ}
 use lib.Dec.{eqb, ltb, leb}
 use lib.ListN.{length, drop}
-use borrow.Author.Tests.{ne-eqb, eqb-true}
+use borrow.Author.Tests.{ne-eqb, eqb-true, not-false}
 use Rattle.wire.specs.Endpoints.{places}
 use Rattle.wire.specs.Rows.{Row, _⇒_, firstOf, Quiet}
 use Rattle.wire.specs.Selectors as selectors
@@ -138,10 +138,6 @@ write-next c out = go (eqb (writeCode c (length out)) 0)
     go true = refl
     go false = refl
 
-pub not-off : (b : Bool) → not b ≡ false → b ≡ true
-not-off true e = refl
-not-off false e = absurd (true≢false e)
-
 -- what tests 2 to 8 of an accepted SET say
 module _ (p : Profile) (streaming : Bool) (s payload : List ℕ) (a : acceptsSet p streaming s payload ≡ true) where
   abbrev t : Table
@@ -166,14 +162,14 @@ module _ (p : Profile) (streaming : Bool) (s payload : List ℕ) (a : acceptsSet
   unfolding requestTests
   accepted-control =
       let q = accepted-quiet .0 .1 .1 in
-      let u = and-eq-true-iff (eqb (setupValueLow s) 0) _ .0 (not-off _ (q .1 .0)) .1 in
-      (not-off _ (q .0), rw accepted-set at u)
+      let u = and-eq-true-iff (eqb (setupValueLow s) 0) _ .0 (not-false _ (q .1 .0)) .1 in
+      (not-false _ (q .0), rw accepted-set at u)
 
   -- the payload has the control's length
   pub accepted-length : length payload ≡ setLength p selector payload
   unfolding requestTests
   accepted-length =
-      let z = rw accepted-set at (not-off (isSized (setLength p selector payload) s payload) (accepted-quiet .0 .1 .1 .1 .1 .0)) in
+      let z = rw accepted-set at (not-false (isSized (setLength p selector payload) s payload) (accepted-quiet .0 .1 .1 .1 .1 .0)) in
       eqb-true (length payload) _ (and-eq-true-iff (eqb (length payload) (setupWLength s)) _ .0 z .1)
 
   -- and no value test refuses it

@@ -1,4 +1,4 @@
--- Laws of the walk's number (`specs/Stops.antt`). Assumes nothing.
+-- Laws of the walk's number (`specs/Walk.antt`). Assumes nothing.
 use Prim.Native.Nat.{ℕ, _+_, _≤_, _<_}
 use mathlib.Core.Path.{_≡_, refl, sym, ap, _∙_}
 use mathlib.Core.List.{List}

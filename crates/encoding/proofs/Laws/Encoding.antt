@@ -130,7 +130,7 @@ module _ (s : Settings) (old : List ℕ) {out after l : List ℕ} {n k : ℕ} (w
 -- a key's own record: by what it holds, or of a place by its address and flags
 module _ (s : Settings) (k : ℕ) {h : HeldSetting} (is-held : h ≡ heldSetting (settingsHeld s k)) where
   held-row : recordHeld (settingHeld h) ≡ piece s k
-  held-row = ap (λ j. recordHeld (settingHeld j)) is-held ∙ ap (recordHeld 0) (setting-held (settingsHeld s k)) ∙ piece-held s k
+  held-row = ap (λ j. recordHeld (settingHeld j)) is-held ∙ ap recordHeld (setting-held (settingsHeld s k)) ∙ piece-held s k
 
   module _ {n len : ℕ} (is-len : len ≡ length (recordHeld (settingHeld h))) where
     pub held-measured : Measured s n k → Measured s (n + len) (k + 1)
@@ -144,7 +144,7 @@ module _ (s : Settings) (k : ℕ) {h : HeldSetting} (is-held : h ≡ heldSetting
 
 module _ (s : Settings) (i : ℕ) (h : i < places) {face : List ℕ} (is-face : face ≡ s .face) {len : ℕ} (is-len : len ≡ cond (eqb (getD face i 0) 0) 0 13) where
   place-row : recordHeld (faceHeld (firstAddress + i) (getD face i 0)) ≡ piece s (i + 1)
-  place-row = ap (λ (l : List ℕ). recordHeld (faceHeld (firstAddress + i) (getD l i 0))) is-face ∙ ap (recordHeld 0) (sym (held-place s i h)) ∙ piece-held s (i + 1)
+  place-row = ap (λ (l : List ℕ). recordHeld (faceHeld (firstAddress + i) (getD l i 0))) is-face ∙ ap recordHeld (sym (held-place s i h)) ∙ piece-held s (i + 1)
 
   place-length-is : len ≡ length (piece s (i + 1))
   place-length-is = is-len ∙ place-length (firstAddress + i) (getD face i 0) ∙ ap length place-row

@@ -1,16 +1,15 @@
 -- The endpoints that a profile lists: what a valid one says of each, and where an address stands among them. Assumes nothing.
-use mathlib.Core.Path.{_≡_, refl, ap, _∙_}
+use mathlib.Core.Path.{_≡_, refl, _∙_}
 use mathlib.Core.Bool.{Bool, true, false, cond, _||_, and-eq-true-iff}
 use Prim.Native.Nat.{ℕ, zero, suc, _+_, _-_, _/_, _≤_, _<_}
 use native.Mathlib.Numerals.{add-one, sub-one}
 use native.Mathlib.Omega.{arith}
 use lib.Dec.{ltb, eqb}
-use borrow.Author.Tests.{eq-eqb, ne-eqb, eqb-true, eqb-false, lt-ltb, le-ltb, ltb-true, leb-true}
+use borrow.Author.Tests.{eq-eqb, ne-eqb, eqb-true, lt-ltb, le-ltb, ltb-true, leb-true}
 use Rattle.wire.proofs.Laws.Below.{all-at}
 use Rattle.wire.specs.Endpoints.{firstAddress, lastAddress, endpointLimit}
 use Rattle.face.specs.declared.limits.FaceLimits.{FaceLimits}
 use Rattle.face.specs.Limits.{endpointsOf, addressAt, offersAt, offersValid, addressBefore, endpointValid, faceValid, offersFrom, offersOf, placeFrom, placeOf}
-use Rattle.wire.specs.Rows.{allBelow}
 
 -- a place behind the first comes after the one before it
 pub before-next : (l : FaceLimits) (i : ℕ) → (i ≡ 0 → ⊥) → addressAt l (i - 1) ≡ addressBefore l i

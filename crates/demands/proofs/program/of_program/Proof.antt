@@ -1,5 +1,5 @@
 use Rattle.demands.proofs.Laws.Typed.{held-typed}
-use Rattle.demands.proofs.Program.{of-program}
+use Rattle.demands.proofs.Programs.{of-program}
 use borrow.Author.Needs.{needs}
 use Rattle.demands.proofs.program.of_program.Statement.{statement}
 use Rattle.demands.proofs.program.of_program.Tie as tie
