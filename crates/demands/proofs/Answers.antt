@@ -29,8 +29,8 @@ use Rattle.controls.specs.declared.HeldNumber.the-variants as N
 use Rattle.controls.specs.declared.Setting.the-variants as S
 use Rattle.throttle.specs.declared.HeldThrottle.{HeldThrottle}
 use Rattle.throttle.specs.declared.HeldThrottle.the-variants as T
-use Rattle.exposure.specs.declared.ev.HeldEv.{HeldEv}
-use Rattle.exposure.specs.declared.ev.HeldEv.the-variants as E
+use Rattle.exposure.specs.declared.HeldEv.{HeldEv}
+use Rattle.exposure.specs.declared.HeldEv.the-variants as E
 use Rattle.face.specs.declared.limits.FaceLimits.{FaceLimits}
 use Rattle.controls.specs.Controls.{numberOr}
 use Rattle.exposure.specs.Exposure.{sensorValue, divisor, evAttribute, evBytes, evCurrent, scaled}

@@ -1,11 +1,11 @@
 -- The one claim of the table in specs/Table: what the definitions come to is what the paper says, row by row.
 use mathlib.Core.Path.{_≡_, refl}
 use mathlib.Core.List.{map}
-use Rattle.wire.specs.Numbers.{number, leAt, bytesOf}
+use Rattle.wire.specs.Numbers.{number, leAt, bytesOf, signed32, bits32}
 use Rattle.flags.specs.Flags.{isSet, bitsOf, count, first, oneFlag}
 use Rattle.request.specs.Tests.{requestTests, valueTests, requestRows, requestCode}
 use Rattle.controls.specs.Controls.{itemOf, itemCode, firstRefusal}
-use Rattle.exposure.specs.Exposure.{signed32, bits32, inRange, refusalAt, evRefusal, evItem, evBytes, scaledAt, scaled, sensorValue}
+use Rattle.exposure.specs.Exposure.{inRange, refusalAt, evRefusal, evItem, evBytes, scaledAt, scaled, sensorValue}
 use Rattle.face.specs.Limits.{addressBefore, endpointValid, faceValid}
 use Rattle.wire.specs.Rows.{allBelow}
 use Rattle.hdr.specs.Hdr.{hdrRefusal, hdrItem}
@@ -28,8 +28,8 @@ use Rattle.demands.specs.Bench.{benchProfile}
 use Rattle.demands.specs.Table.{rows, defined, paperAnswer}
 
 table-holds : map defined rows ≡ map paperAnswer rows
-unfolding benchProfile number leAt bytesOf isSet bitsOf count first oneFlag requestTests itemOf
-    signed32 bits32 inRange refusalAt evRefusal evItem evBytes scaledAt scaled sensorValue
+unfolding benchProfile number leAt bytesOf signed32 bits32 isSet bitsOf count first oneFlag requestTests itemOf
+    inRange refusalAt evRefusal evItem evBytes scaledAt scaled sensorValue
     allBelow addressBefore endpointValid faceValid hdrRefusal hdrItem throttleRefusal throttleItem throttleBytes
     records encode presenceValid profileValid noSettings settingsHeld put valueRefusal profileRefusal kept settingsWellFormed
     itemCode givenOf firstRefusal allGiven putAll profileItem setRefusal setGives

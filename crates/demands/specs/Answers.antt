@@ -20,7 +20,7 @@ use Rattle.snapshot.specs.Form.{wellFormed}
 use Rattle.snapshot.specs.Records.{decode}
 use Rattle.snapshot.specs.Given.{over, lastOf}
 use Rattle.controls.specs.declared.EvSetting.{EvSetting}
-use Rattle.exposure.specs.declared.ev.HeldEv.the-variants as E
+use Rattle.exposure.specs.declared.HeldEv.the-variants as E
 use Rattle.controls.specs.declared.ThrottleSetting.{ThrottleSetting}
 use Rattle.controls.specs.declared.Item.the-variants.{Given}
 use Rattle.controls.specs.declared.Setting.the-variants as S

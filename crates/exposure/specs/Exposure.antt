@@ -1,20 +1,20 @@
 -- Document 01, "EV": limits, SET's value tests, answers, and the number handed to the sensor.
-use Prim.Native.Nat.{ℕ, suc, _-_, _/_, _^_}
+use Prim.Native.Nat.{ℕ, _/_}
 use mathlib.Core.List.{List, [], _∷_, _++_}
 use mathlib.Core.Bool.{Bool, cond, _&&_}
 use lib.Dec.{leb, ltb, eqb}
 use lib.ListN.{getD}
-use lib.IntN.{ℤ, pos, negsuc, _-ℤ_, _*ℤ_}
+use lib.IntN.{ℤ, pos, negsuc, _*ℤ_}
 use lib.Signed.{leZ}
-use Rattle.wire.specs.Numbers.{leAt, bytesOf}
+use Rattle.wire.specs.Numbers.{leAt, bytesOf, signed32, bits32}
 use Rattle.flags.specs.Flags.{oneFlag}
 use Rattle.flags.specs.declared.Choice.{Choice}
 use Rattle.flags.specs.declared.Choice.the-variants.{At, Refused}
 use Rattle.wire.specs.Uvc.{getCur, getMax, getMin, getRes, invalidValue, outOfRange}
-use Rattle.exposure.specs.declared.ev.EvLimits.{EvLimits}
+use Rattle.exposure.specs.declared.EvLimits.{EvLimits}
 use Rattle.controls.specs.declared.EvSetting.{EvSetting}
-use Rattle.exposure.specs.declared.ev.HeldEv.{HeldEv}
-use Rattle.exposure.specs.declared.ev.HeldEv.the-variants as E
+use Rattle.exposure.specs.declared.HeldEv.{HeldEv}
+use Rattle.exposure.specs.declared.HeldEv.the-variants as E
 use Rattle.controls.specs.declared.Item.{Item}
 use Rattle.controls.specs.declared.Setting.the-variants as S
 use Rattle.request.specs.Answers.{answerBy}
@@ -25,15 +25,6 @@ abbrev pub evValid : EvLimits → Bool
 evValid l =
     leZ (negsuc 127) (l .minimum) && leZ (l .minimum) (pos 0) && leZ (pos 0) (l .maximum) && leZ (l .maximum) (pos 127)
     && leb 16 (l .steps) && ltb (l .steps) 32
-
--- 32 bits as a signed number: the bits' own number, or 2 ^ 32 less where the top bit is set
-unfoldable pub signed32 : ℕ → ℤ
-signed32 n = cond (ltb n (2 ^ 31)) (pos n) (pos n -ℤ pos (2 ^ 32))
-
--- a signed number's 32 bits
-unfoldable pub bits32 : ℤ → ℕ
-bits32 (pos n) = n
-bits32 (negsuc n) = 2 ^ 32 - suc n
 
 -- how many steps make a stop: D0..D4 are steps of 1/6, 1/4, 1/3, 1/2 and 1 stop
 abbrev pub divisor : ℕ → ℕ

@@ -6,8 +6,8 @@ use lib.Dec.{leb, eqb}
 use lib.ListN.{getD}
 use Rattle.wire.specs.Endpoints.{firstAddress, places}
 use Rattle.snapshot.specs.Keys.{evKey, metadataKey, hdrKey, throttleKey}
-use Rattle.exposure.specs.declared.ev.HeldEv.{HeldEv}
-use Rattle.exposure.specs.declared.ev.HeldEv.the-variants as E
+use Rattle.exposure.specs.declared.HeldEv.{HeldEv}
+use Rattle.exposure.specs.declared.HeldEv.the-variants as E
 use Rattle.throttle.specs.declared.HeldThrottle.{HeldThrottle}
 use Rattle.throttle.specs.declared.HeldThrottle.the-variants as T
 use Rattle.controls.specs.declared.HeldNumber.{HeldNumber}

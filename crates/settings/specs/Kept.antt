@@ -15,8 +15,8 @@ use Rattle.throttle.specs.Throttle.{throttleRefusal}
 use Rattle.profile.specs.declared.Profile.{Profile}
 use Rattle.settings.specs.declared.settings.Settings.{Settings}
 use Rattle.profile.specs.Profile.{profileValid, profileRefusal}
-use Rattle.settings.specs.Settings.{settingSelector}
 use Rattle.settings.specs.Held.{settingsHeld}
+use Rattle.settings.specs.Settings.{settingSelector}
 
 -- SET's value tests of one setting
 unfoldable pub valueRefusal : Profile → Setting → ℕ

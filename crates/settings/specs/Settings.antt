@@ -4,7 +4,7 @@ use lib.ListN.{replicate}
 use Rattle.wire.specs.Endpoints.{places}
 use Rattle.wire.specs.Selectors as selector
 use Rattle.snapshot.specs.Keys.{keyFor}
-use Rattle.exposure.specs.declared.ev.HeldEv.the-variants as E
+use Rattle.exposure.specs.declared.HeldEv.the-variants as E
 use Rattle.throttle.specs.declared.HeldThrottle.the-variants as T
 use Rattle.controls.specs.declared.HeldNumber.the-variants as N
 use Rattle.controls.specs.declared.Setting.{Setting}

@@ -2,7 +2,6 @@
 use crate::words::decode;
 use crate::words::number;
 use crate::words::octet;
-use crate::words::signed;
 use crate::words::word;
 use camera::Camera;
 use controls::EvSetting;
@@ -17,6 +16,7 @@ use profile::Profile;
 use settings::Settings;
 use throttle::HeldThrottle;
 use throttle::ThrottleLimits;
+use wire::signed32;
 
 fn flag(w: &[u8]) -> bool {
     octet(w, 0) != 0
@@ -36,8 +36,8 @@ fn fifteen(w: &[u8]) -> [u8; 15] {
 
 fn ev_limits(w: &[u8]) -> EvLimits {
     EvLimits {
-        minimum: signed(number(w, 0)),
-        maximum: signed(number(w, 4)),
+        minimum: signed32(number(w, 0)),
+        maximum: signed32(number(w, 4)),
         steps: octet(w, 8),
     }
 }
@@ -90,7 +90,7 @@ fn ev(w: &[u8]) -> HeldEv {
     }
     HeldEv::Held(EvSetting {
         flags: octet(w, 0),
-        value: signed(number(w, 1)),
+        value: signed32(number(w, 1)),
     })
 }
 

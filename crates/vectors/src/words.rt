@@ -103,15 +103,6 @@ pub(crate) fn place(s: &[u8]) -> usize {
     number(s, 4) as usize * 0x1_0000_0000 + number(s, 0) as usize
 }
 
-// 32 bits as a signed number.
-pub(crate) fn signed(n: u32) -> i32 {
-    if n < 0x8000_0000 {
-        n as i32
-    } else {
-        -1 - ((0xFFFF_FFFF - n) as i32)
-    }
-}
-
 // All bytes of a word in hex, as far as out reaches, and how many.
 pub(crate) fn decode(s: &[u8], out: &mut [u8]) -> usize {
     let n = s.len() / 2;

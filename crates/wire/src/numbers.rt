@@ -1,9 +1,9 @@
-// Little-endian numbers.
+// Little-endian numbers, and signed ones by their 32 bits.
 use crate::parts::tail;
 ghost use mathlib.Core.Path.{_≡_};
 ghost use Prim.Native.Nat.{_≤_, _<_, _^_, min};
 ghost use lib.ListN.{getD};
-ghost use Rattle.wire.specs.Numbers.{leAt, bytesOf};
+ghost use Rattle.wire.specs.Numbers.{leAt, bytesOf, signed32, bits32};
 
 // The byte at i, 0 past the end.
 pub fn byte(s: &[u8], i: usize) -> u8
@@ -85,4 +85,23 @@ pub fn flag_word(s: &[u8], i: usize) -> u64
     ensures { λ r. ⌜ (r ≡ leAt 7 (now (s .entry)) i) × (r < 2 ^ 56) ⌝ }
 {
     number(s, i, 7)
+}
+
+// 32 bits as a signed number, and back.
+pub fn signed32(n: u32) -> i32
+    ensures { λ r. ⌜ r ≡ signed32 n ⌝ }
+{
+    if n < 0x8000_0000 {
+        return n as i32;
+    }
+    -1 - ((0xFFFF_FFFF - n) as i32)
+}
+
+pub fn bits32(v: i32) -> u32
+    ensures { λ r. ⌜ r ≡ bits32 v ⌝ }
+{
+    if v < 0 {
+        return 0xFFFF_FFFF - ((-1 - v) as u32);
+    }
+    v as u32
 }

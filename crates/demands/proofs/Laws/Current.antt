@@ -17,7 +17,7 @@ use Rattle.settings.specs.Settings.{settingKey}
 use Rattle.settings.specs.Held.{faceHeld}
 use Rattle.settings.specs.Held.{settingsHeld}
 use Rattle.controls.specs.declared.Setting.the-variants as S
-use Rattle.exposure.specs.declared.ev.HeldEv.the-variants as E
+use Rattle.exposure.specs.declared.HeldEv.the-variants as E
 use Rattle.controls.specs.declared.EvSetting.{EvSetting}
 use Rattle.controls.specs.declared.HeldNumber.the-variants as N
 use Rattle.throttle.specs.declared.HeldThrottle.the-variants as T

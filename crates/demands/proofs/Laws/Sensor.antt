@@ -6,7 +6,7 @@ use native.Mathlib.Nat.{mul-assoc, mul-comm}
 use native.Mathlib.Omega.{arith}
 use lib.IntN.{ℤ, pos, negsuc, negℤ, _*ℤ_}
 use borrow.Author.Tests.{ltb-true}
-use Rattle.exposure.specs.declared.ev.EvLimits.{EvLimits}
+use Rattle.exposure.specs.declared.EvLimits.{EvLimits}
 use Rattle.exposure.specs.Exposure.{evValid, divisor}
 
 -- every step is a whole number of twelfths

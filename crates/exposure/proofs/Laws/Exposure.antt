@@ -13,18 +13,19 @@ use lib.Signed.{mag, leZ}
 use mir.Syntax.{w32}
 use mir.Val.{SFits}
 use Rattle.wire.specs.Uvc.{invalidValue, outOfRange}
-use Rattle.wire.specs.Numbers.{leAt, bytesOf}
+use Rattle.wire.specs.Numbers.{leAt, bytesOf, signed32, bits32}
 use Rattle.flags.specs.Flags.{oneFlag}
 use Rattle.flags.specs.declared.Choice.{Choice}
 use Rattle.flags.specs.declared.Choice.the-variants.{At, Refused}
 use Rattle.flags.proofs.Laws.Bits.{chosen-below}
 use Rattle.wire.proofs.Laws.Numbers.{Bytes, below}
-use Rattle.exposure.specs.declared.ev.EvLimits.{EvLimits}
+use Rattle.exposure.specs.declared.EvLimits.{EvLimits}
 use Rattle.controls.specs.declared.EvSetting.{EvSetting}
 use Rattle.controls.specs.declared.Setting.the-variants as S
 use Rattle.controls.specs.Controls.{itemOf}
-use Rattle.exposure.specs.Exposure.{evValid, signed32, bits32, divisor, inRange, refusalAt, evRefusal, evFlags, evValue, evItem, evBytes, unitsPerStop, scaledAt, scaled}
-use Rattle.exposure.proofs.Laws.Signed.{mag-mul, between, bits-below, signed-bits, bits-signed}
+use Rattle.exposure.specs.Exposure.{evValid, divisor, inRange, refusalAt, evRefusal, evFlags, evValue, evItem, evBytes, unitsPerStop, scaledAt, scaled}
+use Rattle.exposure.proofs.Laws.Bounds.{mag-mul, between}
+use Rattle.wire.proofs.Laws.Signed.{bits-below, signed-bits, bits-signed}
 use Rattle.wire.proofs.Laws.Bytes.{number-bytes, bytes-at, first-part, second-part}
 
 -- between 1 and 6 steps make a stop
