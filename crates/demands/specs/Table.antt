@@ -17,24 +17,24 @@ use Rattle.demands.specs.Runs.{run}
 use Rattle.demands.specs.Bench.{bench}
 
 -- what a row tells
-pub data Answer : Type 0 where
+pub data Told : Type 0 where
   -- of a request: its number and count, and then the sensor's twelfths and the snapshot
-  answer : (number count : ℕ) (twelfths : ℤ) (saved : List ℕ) → Answer
+  answer : (number count : ℕ) (twelfths : ℤ) (saved : List ℕ) → Told
   -- of a setup packet: whether it is a SET, and its selector, unit, interface and wLength
-  setup : Bool → (control unit interface wLength : ℕ) → Answer
+  setup : Bool → (control unit interface wLength : ℕ) → Told
   -- of a list of requests: the snapshot that it leaves
-  saved : List ℕ → Answer
+  saved : List ℕ → Told
   -- of a metadata block: its number and how many items it has, and the payload of the first
-  block : Counted → List ℕ → Answer
+  block : Counted → List ℕ → Told
 
 infix 10 _is_
 pub data Line : Type 0 where
-  _is_ : (defined paperAnswer : Answer) → Line
+  _is_ : (defined paperAnswer : Told) → Line
 
-abbrev pub defined : Line → Answer
+abbrev pub defined : Line → Told
 defined (a is b) = a
 
-abbrev pub paperAnswer : Line → Answer
+abbrev pub paperAnswer : Line → Told
 paperAnswer (a is b) = b
 
 -- a request: its setup packet and its payload
@@ -57,7 +57,7 @@ abbrev pub setThrottle : (percent : ℕ) → Request
 setThrottle percent = set selector.throttle (1 ∷ 0 ∷ 0 ∷ 0 ∷ percent ∷ 0 ∷ 0 ∷ 0 ∷ replicate 12 0)
 
 -- a request to the bench camera, which has no reply buffer to lend, and what the next record then holds
-abbrev pub after : Request → Answer
+abbrev pub after : Request → Told
 after r =
     let done = requested bench (r .0) (r .1) 0 in
     answer (done .code) (done .count) (sensed (done .camera) .value) (snapshot (done .camera))
@@ -83,7 +83,7 @@ abbrev pub leave : List Request → List ℕ → Line
 leave rs bytes = saved (snapshot (run bench (map call rs))) is saved bytes
 
 -- a metadata block has so many items, and the first this payload; or it is refused
-abbrev pub read : List ℕ → Answer
+abbrev pub read : List ℕ → Told
 read s = block (blockCount s) (blockPayload s 0)
 
 abbrev pub holds : List ℕ → (items : ℕ) → (payload : List ℕ) → Line

@@ -17,7 +17,7 @@ use Rattle.controls.specs.Controls.{itemOf, firstRefusal}
 use Rattle.face.specs.declared.limits.FaceLimits.{FaceLimits}
 use Rattle.face.specs.Limits.{offersOf}
 use Rattle.wire.specs.Rows.{allBelow}
-use Rattle.entries.specs.declared.Taken.{Taken}
+use Rattle.entries.specs.declared.FacesTaken.{FacesTaken}
 
 -- entry i of a payload
 abbrev pub entryAddress : List ℕ → ℕ → ℕ
@@ -101,7 +101,7 @@ entriesPut held payload zero = held
 entriesPut held payload (suc n) = putFace (entriesPut held payload n) (entryAddress payload n) (entryFlags payload n)
 
 -- what a SET's payload comes to: the first refusal of its entries, or 0 and the settings with all of them
-unfoldable pub facesTaken : FaceLimits → List ℕ → List ℕ → Taken
+unfoldable pub facesTaken : FaceLimits → List ℕ → List ℕ → FacesTaken
 facesTaken l held payload =
     let n = getD payload 0 0 in
     let code = firstRefusal n 0 (entryRefusal l payload) in

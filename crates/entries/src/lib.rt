@@ -86,12 +86,12 @@ pub fn put(held: [u8; endpoints::PLACES], address: u8, flags: u8) -> [u8; endpoi
 }
 
 // What a SET comes to: the first refusal of its entries, or 0 and the settings with all of them.
-pub struct Taken {
+pub struct FacesTaken {
     pub code: u8,
     pub held: [u8; endpoints::PLACES],
 }
 
-pub fn take(l: FaceLimits, held: [u8; endpoints::PLACES], payload: &[u8]) -> Taken
+pub fn take(l: FaceLimits, held: [u8; endpoints::PLACES], payload: &[u8]) -> FacesTaken
     ensures { λ r. ⌜ r ≡ facesTaken l held (now (payload .entry)) ⌝ }
 {
     let n = wire::byte(payload, 0);
@@ -103,7 +103,7 @@ pub fn take(l: FaceLimits, held: [u8; endpoints::PLACES], payload: &[u8]) -> Tak
         let address = wire::byte(payload, at);
         let place = place_of(l, address);
         if endpoints::LIMIT <= place {
-            return Taken {
+            return FacesTaken {
                 code: uvc::OUT_OF_RANGE,
                 held,
             };
@@ -111,13 +111,13 @@ pub fn take(l: FaceLimits, held: [u8; endpoints::PLACES], payload: &[u8]) -> Tak
         let flags = wire::flag_word(payload, at + 1);
         let code = entry_tests(l.offers[place], seen[place], flags);
         if code != 0 {
-            return Taken { code, held };
+            return FacesTaken { code, held };
         }
         seen[place] = true;
         lay(&mut next, address, flags as u8);
         i += 1;
     }
-    Taken {
+    FacesTaken {
         code: 0,
         held: next,
     }

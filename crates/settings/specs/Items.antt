@@ -9,7 +9,7 @@ use Rattle.controls.specs.declared.Setting.{Setting}
 use Rattle.profile.specs.declared.Profile.{Profile}
 use Rattle.profile.specs.Items.{itemCount, profileItem, setRefusal}
 use Rattle.settings.specs.declared.settings.Settings.{Settings}
-use Rattle.settings.specs.declared.items.Taken.{Taken}
+use Rattle.settings.specs.declared.items.SetTaken.{SetTaken}
 use Rattle.settings.specs.Settings.{settingKey, put}
 
 -- the settings that an item gives, each with its key
@@ -32,7 +32,7 @@ unfoldable pub setGives : Profile → ℕ → List ℕ → List (ℕ × Setting)
 setGives p selector payload = allGiven (itemCount selector payload) 0 (λ i. givenOf (profileItem p selector payload i))
 
 -- a SET's number, and the settings with all of it or as they were
-unfoldable pub setTaken : Profile → Settings → ℕ → List ℕ → Taken
+unfoldable pub setTaken : Profile → Settings → ℕ → List ℕ → SetTaken
 setTaken p h selector payload =
     let code = setRefusal p selector payload in
     record { code = code; settings = cond (eqb code 0) (putAll h (setGives p selector payload)) h }

@@ -8,7 +8,7 @@ ghost use mathlib.Core.Path.{_≡_};
 ghost use Rattle.settings.specs.Items.{givenOf, putAll, setTaken};
 
 // Document 01's number, and the settings; on a refusal they are as they came in.
-pub struct Taken {
+pub struct SetTaken {
     pub code: u8,
     pub settings: Settings,
 }
@@ -25,7 +25,7 @@ impl Settings {
     }
 
     // SET's value tests, and its settings: all of them or none.
-    pub fn set(self, p: Profile, selector: u8, payload: &[u8]) -> Taken
+    pub fn set(self, p: Profile, selector: u8, payload: &[u8]) -> SetTaken
         ensures { λ r. ⌜ r ≡ setTaken p self selector (now (payload .entry)) ⌝ }
     {
         if selector == selectors::FACE {
@@ -34,13 +34,13 @@ impl Settings {
             let next = taken.held;
             let mut settings = self;
             settings.face = next;
-            return Taken {
+            return SetTaken {
                 code: taken.code,
                 settings,
             };
         }
         let one = p.item(selector, payload);
-        Taken {
+        SetTaken {
             code: item_code(one),
             settings: self.put_item(one),
         }

@@ -6,5 +6,5 @@ mod items;
 mod kept;
 mod settings;
 
-pub use items::Taken;
+pub use items::SetTaken;
 pub use settings::Settings;

@@ -10,7 +10,7 @@ use Rattle.snapshot.specs.Form.{recordTests}
 use Rattle.snapshot.specs.Records.{from}
 
 -- the records of the keys below k of s end at `at`
-pub record Cursor (s : List ℕ) (at k : ℕ) : Type 0 where
+pub record EndsBelow (s : List ℕ) (at k : ℕ) : Type 0 where
   pub within : at ≤ length s
   pub here : drop at s ≡ from s k
 

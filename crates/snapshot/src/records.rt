@@ -9,7 +9,7 @@ ghost use lib.ListN.{drop};
 ghost use Rattle.wire.specs.Parts.{PartOf};
 ghost use Rattle.snapshot.specs.Form.{throttleTail, zeros};
 ghost use Rattle.snapshot.specs.Records.{keyAt, decode, recordBytes, recordPlace};
-ghost use Rattle.snapshot.specs.Steps.{Cursor};
+ghost use Rattle.snapshot.specs.Steps.{EndsBelow};
 
 // No record has fewer bytes.
 const SHORTEST: usize = 8;
@@ -48,7 +48,7 @@ pub fn key_at(s: &[u8], at: usize) -> usize
 
 // Where the records of the keys below this one end. It goes from record to record while their keys ascend.
 pub(crate) fn start_of(s: &[u8], key: usize) -> usize
-    ensures { λ r. ⌜ Cursor (now (s .entry)) r key ⌝ }
+    ensures { λ r. ⌜ EndsBelow (now (s .entry)) r key ⌝ }
 {
     let mut at = 0;
     let mut low = 0;

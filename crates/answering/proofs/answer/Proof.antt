@@ -1,3 +1,4 @@
+-- `answer` meets its contract. Assumes nothing.
 use borrow.Author.Tests.{ne-eqb}
 use Rattle.exposure.specs.Exposure.{evAnswer}
 use Rattle.face.specs.Answers.{faceAnswer}

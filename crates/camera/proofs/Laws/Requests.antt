@@ -17,7 +17,7 @@ use Rattle.request.specs.Reply.{replyOf}
 use Rattle.request.specs.Requests.{replied}
 use Rattle.request.proofs.Laws.Tests.{at-unformed, at-tests, at-state, at-set, at-get, set-replied, get-sent}
 use Rattle.profile.specs.declared.Profile.{Profile}
-use Rattle.settings.specs.declared.items.Taken.{Taken}
+use Rattle.settings.specs.declared.items.SetTaken.{SetTaken}
 use Rattle.profile.specs.Profile.{has, isSettable}
 use Rattle.profile.specs.Profile.{profileRefusal}
 use Rattle.profile.specs.Items.{setRefusal}
@@ -56,7 +56,7 @@ module _ (p : Profile) (streaming : Bool) (selector : ℕ) where
   control-state e z = sym (by-profile ∙ rw (eq-eqb own 0 (sym e ∙ z)))
 
 -- a SET that passed tests 1 to 7
-pub set-done : (c : Camera) (selector : ℕ) (payload : List ℕ) {t : Taken} → t ≡ setTaken (c .profile) (c .settings) selector payload
+pub set-done : (c : Camera) (selector : ℕ) (payload : List ℕ) {t : SetTaken} → t ≡ setTaken (c .profile) (c .settings) selector payload
     → _≡_ {A = Outcome} (record { code = t .code; count = 0; camera = withSettings c (t .settings) }) (setDone c selector payload)
 unfolding setTaken setDone
 set-done c selector payload {t} is = rw is (go (eqb code 0) refl)

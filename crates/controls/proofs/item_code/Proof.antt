@@ -1,3 +1,4 @@
+-- `item_code` meets its contract. Assumes nothing.
 use mathlib.Core.Path.{ap, sym}
 use borrow.Author.Needs.{needs}
 use Rattle.controls.specs.Controls.{itemCode}

@@ -1,3 +1,4 @@
+-- `item_of` meets its contract. Assumes nothing.
 use mathlib.Core.Path.{sym}
 use Rattle.controls.proofs.Laws.Controls.{item-given, item-refused}
 use Rattle.controls.proofs.item_of.Statement.{statement}

@@ -1,3 +1,4 @@
+-- `number_or` meets its contract. Assumes nothing.
 use mathlib.Core.Path.{ap, sym}
 use borrow.Author.Needs.{needs}
 use Rattle.controls.specs.Controls.{numberOr}

@@ -1,3 +1,4 @@
+-- `length_held` meets its contract. Assumes nothing.
 use mathlib.Core.Path.{ap, sym, _∙_}
 use lib.ListN.{length}
 use Rattle.controls.specs.declared.HeldSetting.{HeldSetting}

@@ -1,3 +1,4 @@
+-- `length_of` meets its contract. Assumes nothing.
 use mathlib.Core.Path.{ap, sym}
 use lib.ListN.{length}
 use Rattle.wire.specs.Numbers.{bytesOf}

@@ -1,3 +1,4 @@
+-- `length_place` meets its contract. Assumes nothing.
 use borrow.Author.Tests.{eq-eqb, ne-eqb}
 use Rattle.encoding.proofs.length_place.Statement.{statement}
 use Rattle.encoding.proofs.length_place.Tie as tie

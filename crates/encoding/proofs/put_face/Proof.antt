@@ -1,3 +1,4 @@
+-- `put_face` meets its contract. Assumes nothing.
 use mathlib.Core.List.{List, _∷_}
 use Prim.Native.Nat.{ℕ}
 use Rattle.wire.specs.Writes.{overlay}

@@ -1,3 +1,4 @@
+-- `put_number` meets its contract. Assumes nothing.
 use mathlib.Core.Path.{ap₂, sym, _∙_}
 use mathlib.Core.List.{List, [], _∷_, _++_}
 use Rattle.wire.proofs.Laws.Bytes.{bytes-byte}

@@ -1,3 +1,4 @@
+-- `put_place` meets its contract. Assumes nothing.
 use mathlib.Core.Path.{sym, _∙_}
 use borrow.Author.Tests.{eq-eqb, ne-eqb}
 use Rattle.encoding.proofs.Laws.Encoding.{nothing-laid}

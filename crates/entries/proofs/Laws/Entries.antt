@@ -18,7 +18,7 @@ use Rattle.controls.specs.Controls.{itemCode, firstRefusal}
 use Rattle.controls.proofs.Laws.Controls as controls
 use Rattle.controls.proofs.Laws.Items.{none-refused, stops, passes}
 use Rattle.face.specs.declared.limits.FaceLimits.{FaceLimits}
-use Rattle.entries.specs.declared.Taken.{Taken}
+use Rattle.entries.specs.declared.FacesTaken.{FacesTaken}
 use Rattle.face.specs.Limits.{addressAt, offersAt, offersOf, placeOf}
 use Rattle.entries.specs.Entries.{entryAddress, entryFlags, seenIn, seenBefore, entryTests, entryRefusal, faceItem, putFace, entriesPut, facesTaken}
 use Rattle.face.proofs.Laws.Limits.{offers-none, offers-placed, address-placed}
@@ -124,13 +124,13 @@ module _ (l : FaceLimits) (held s : List ℕ) (i : ℕ) (seen : List Bool) (next
 
 -- what a SET comes to: refused at entry i, or all of it taken
 module _ (l : FaceLimits) (held s : List ℕ) (n i : ℕ) (seen : List Bool) (next : List ℕ) (hn : n ≡ getD s 0 0) (w : Walked l held s i seen next) where
-  pub taken-refused : i < n → (code : ℕ) → code ≡ entryRefusal l s i → (code ≡ 0 → ⊥) → _≡_ {A = Taken} (record { code = code; held = held }) (facesTaken l held s)
+  pub taken-refused : i < n → (code : ℕ) → code ≡ entryRefusal l s i → (code ≡ 0 → ⊥) → _≡_ {A = FacesTaken} (record { code = code; held = held }) (facesTaken l held s)
   unfolding facesTaken
   taken-refused h code e bad =
       let r : firstRefusal (getD s 0 0) 0 (entryRefusal l s) ≡ code = rw (← hn) (stops (entryRefusal l s) n i (w .passed) h (λ z. bad (e ∙ z)) ∙ sym e) in
       rw (r, ne-eqb code 0 bad)
 
-  pub taken-all : i ≡ n → _≡_ {A = Taken} (record { code = 0; held = next }) (facesTaken l held s)
+  pub taken-all : i ≡ n → _≡_ {A = FacesTaken} (record { code = 0; held = next }) (facesTaken l held s)
   unfolding facesTaken
   taken-all e =
       let r : firstRefusal (getD s 0 0) 0 (entryRefusal l s) ≡ 0 = rw (← hn) (passes (entryRefusal l s) n (rw e at (w .passed))) in

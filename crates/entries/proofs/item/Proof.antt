@@ -1,3 +1,4 @@
+-- `item` meets its contract. Assumes nothing.
 use mathlib.Core.Path.{sym}
 use Rattle.entries.proofs.Laws.Entries.{first-refused, first-given}
 use borrow.Author.Needs.{needs}

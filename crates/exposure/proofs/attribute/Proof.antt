@@ -1,3 +1,4 @@
+-- `attribute` meets its contract. Assumes nothing.
 use mathlib.Core.Path.{ap, sym, _∙_, _≡_}
 use lib.IntN.{ℤ}
 use mir.Syntax.{w32}

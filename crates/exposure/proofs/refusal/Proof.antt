@@ -1,3 +1,4 @@
+-- `refusal` meets its contract. Assumes nothing.
 use mathlib.Core.Path.{_≡_, ap₂, sym, _∙_}
 use Prim.Native.Nat.{ℕ}
 use lib.IntN.{ℤ}

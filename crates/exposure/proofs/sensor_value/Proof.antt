@@ -1,3 +1,4 @@
+-- `sensor_value` meets its contract. Assumes nothing.
 use mathlib.Core.Path.{ap, sym, _∙_}
 use mir.Syntax.{w32}
 use mir.Val.{SFits}

@@ -1,3 +1,4 @@
+-- `valid` meets its contract. Assumes nothing.
 use borrow.Author.Needs.{needs}
 use Rattle.exposure.proofs.valid.Statement.{statement}
 use Rattle.exposure.proofs.valid.Tie as tie

@@ -1,3 +1,4 @@
+-- `one_flag` meets its contract. Assumes nothing.
 use Rattle.flags.proofs.Laws.Bits.{not-one, one}
 use Rattle.flags.specs.declared.Choice.the-variants.{At, Refused}
 use Rattle.flags.specs.Flags.{oneFlag}

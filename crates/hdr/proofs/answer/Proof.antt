@@ -1,3 +1,4 @@
+-- `answer` meets its contract. Assumes nothing.
 use borrow.Author.Needs.{needs}
 use Rattle.hdr.specs.Hdr.{hdrAnswer}
 use Rattle.hdr.proofs.answer.Statement.{statement}

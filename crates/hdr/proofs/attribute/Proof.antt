@@ -1,3 +1,4 @@
+-- `attribute` meets its contract. Assumes nothing.
 use borrow.Author.Tests.{eq-eqb, ne-eqb}
 use borrow.Author.Needs.{needs}
 use Rattle.wire.specs.Uvc.{getCur, getMax}

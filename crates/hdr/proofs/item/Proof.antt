@@ -1,3 +1,4 @@
+-- `item` meets its contract. Assumes nothing.
 use borrow.Author.Needs.{needs}
 use Rattle.hdr.specs.Hdr.{hdrItem}
 use Rattle.hdr.proofs.item.Statement.{statement}

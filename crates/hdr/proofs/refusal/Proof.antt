@@ -1,3 +1,4 @@
+-- `refusal` meets its contract. Assumes nothing.
 use borrow.Author.Tests.{lt-ltb, le-ltb, eq-eqb, ne-eqb}
 use Rattle.hdr.specs.Hdr.{hdrRefusal}
 use Rattle.hdr.proofs.refusal.Statement.{statement}

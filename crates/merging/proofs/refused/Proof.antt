@@ -1,3 +1,4 @@
+-- `refused` meets its contract. Assumes nothing.
 use mathlib.Core.Path.{refl}
 use Rattle.merging.proofs.refused.Statement.{statement}
 use Rattle.merging.proofs.refused.Tie as tie

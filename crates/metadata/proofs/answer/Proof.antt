@@ -1,3 +1,4 @@
+-- `answer` meets its contract. Assumes nothing.
 use borrow.Author.Needs.{needs}
 use Rattle.metadata.specs.Metadata.{metadataAnswer}
 use Rattle.metadata.proofs.answer.Statement.{statement}

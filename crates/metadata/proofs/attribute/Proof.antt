@@ -1,3 +1,4 @@
+-- `attribute` meets its contract. Assumes nothing.
 use borrow.Author.Tests.{eq-eqb, ne-eqb, not-true, not-false}
 use borrow.Author.Needs.{needs}
 use Rattle.wire.specs.Uvc.{getCur, getRes}

@@ -1,3 +1,4 @@
+-- `info` meets its contract. Assumes nothing.
 use Rattle.metadata.specs.Metadata.{metadataInfo}
 use Rattle.metadata.proofs.info.Statement.{statement}
 use Rattle.metadata.proofs.info.Tie as tie

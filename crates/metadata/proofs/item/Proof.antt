@@ -1,3 +1,4 @@
+-- `item` meets its contract. Assumes nothing.
 use borrow.Author.Needs.{needs}
 use Rattle.metadata.specs.Metadata.{metadataItem}
 use Rattle.metadata.proofs.item.Statement.{statement}

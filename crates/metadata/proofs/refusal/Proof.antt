@@ -1,3 +1,4 @@
+-- `refusal` meets its contract. Assumes nothing.
 use borrow.Author.Tests.{lt-ltb, le-ltb, eq-eqb, ne-eqb}
 use Rattle.metadata.specs.Metadata.{metadataRefusal}
 use Rattle.metadata.proofs.refusal.Statement.{statement}

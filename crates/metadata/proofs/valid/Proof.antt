@@ -1,3 +1,4 @@
+-- `valid` meets its contract. Assumes nothing.
 use mathlib.Core.Path.{refl}
 use Rattle.metadata.proofs.valid.Statement.{statement}
 use Rattle.metadata.proofs.valid.Tie as tie

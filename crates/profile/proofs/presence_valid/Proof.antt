@@ -1,3 +1,4 @@
+-- `presence_valid` meets its contract. Assumes nothing.
 use borrow.Author.Needs.{needs}
 use Rattle.profile.specs.Profile.{presenceValid}
 use Rattle.profile.proofs.presence_valid.Statement.{statement}

@@ -1,3 +1,4 @@
+-- `set_length` meets its contract. Assumes nothing.
 use borrow.Author.Tests.{eq-eqb, ne-eqb}
 use borrow.Author.Needs.{needs}
 use Rattle.profile.proofs.set_length.Statement.{statement}

@@ -15,12 +15,12 @@ use Rattle.controls.specs.declared.Item.the-variants.{Refused, Given}
 use Rattle.controls.specs.declared.Setting.{Setting}
 use Rattle.controls.specs.declared.Setting.the-variants as S
 use Rattle.controls.specs.Controls.{itemCode, firstRefusal}
-use Rattle.entries.specs.declared.Taken.{Taken}
+use Rattle.entries.specs.declared.FacesTaken.{FacesTaken}
 use Rattle.entries.specs.Entries.{entryAddress, entryFlags, entryRefusal, faceItem, entriesPut, facesTaken}
 use Rattle.entries.proofs.Laws.Entries.{entry-code, taken-entries}
 use Rattle.profile.specs.declared.Profile.{Profile}
 use Rattle.settings.specs.declared.settings.Settings.{Settings}
-use Rattle.settings.specs.declared.items.Taken as own
+use Rattle.settings.specs.declared.items.SetTaken.{SetTaken}
 use Rattle.settings.specs.Settings.{put}
 use Rattle.profile.specs.Items.{profileItem, setRefusal}
 use Rattle.settings.specs.Items.{givenOf, allGiven, putAll, setGives, setTaken}
@@ -67,7 +67,7 @@ one-given h (Refused code) = go (eqb code 0)
 one-given h (Given s) = refl
 
 pub one-item : (p : Profile) (h : Settings) (selector : ℕ) (payload : List ℕ) → (selector ≡ face → ⊥)
-    → _≡_ {A = own.Taken} (record { code = itemCode (profileItem p selector payload 0); settings = putAll h (givenOf (profileItem p selector payload 0)) }) (setTaken p h selector payload)
+    → _≡_ {A = SetTaken} (record { code = itemCode (profileItem p selector payload 0); settings = putAll h (givenOf (profileItem p selector payload 0)) }) (setTaken p h selector payload)
 unfolding setTaken setRefusal setGives firstRefusal allGiven
 one-item p h selector payload n =
     let i = profileItem p selector payload 0 in
@@ -95,8 +95,8 @@ unfolding setRefusal profileItem
 face-refusal p payload = ap (firstRefusal (getD payload 0 0) 0) (fun-ext λ i. entry-code (p .face) payload i)
 
 -- a SET of face authentication, by what taking its entries comes to
-pub face-set : (p : Profile) (h : Settings) (payload : List ℕ) {taken : Taken} → taken ≡ facesTaken (p .face) (h .face) payload
-    → _≡_ {A = own.Taken} (record { code = taken .code; settings = withFace h (taken .held) }) (setTaken p h face payload)
+pub face-set : (p : Profile) (h : Settings) (payload : List ℕ) {taken : FacesTaken} → taken ≡ facesTaken (p .face) (h .face) payload
+    → _≡_ {A = SetTaken} (record { code = taken .code; settings = withFace h (taken .held) }) (setTaken p h face payload)
 unfolding setTaken setGives facesTaken profileItem
 face-set p h payload {taken} is = rw (is, face-refusal p payload) (ap (λ s. record { code = code; settings = s }) (go (eqb code 0) refl))
   where

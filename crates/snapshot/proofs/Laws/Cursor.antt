@@ -15,7 +15,7 @@ use Rattle.wire.specs.Parts.{nowhere}
 use Rattle.snapshot.specs.Keys.{keys, recordLength}
 use Rattle.snapshot.specs.Form.{soundRecord, statedKey, isEmpty, wellFormed}
 use Rattle.snapshot.specs.Records.{stands, keyAt, passed, skip, from, recordAt, decode, recordBytes, recordPlace}
-use Rattle.snapshot.specs.Steps.{Cursor}
+use Rattle.snapshot.specs.Steps.{EndsBelow}
 use Rattle.snapshot.proofs.Laws.Sound.{and-left, and-right, stands-long}
 use Rattle.snapshot.proofs.Laws.Form.{formed-from}
 use Rattle.snapshot.proofs.Laws.Stay.{other-stands, stay}
@@ -57,11 +57,11 @@ pub not-passed : (k : ℕ) (t : List ℕ) → (keyAt t ≡ k → ⊥) → 0 ≡ 
 unfolding passed
 not-passed k t e = simp (other-stands k t e)
 
-pub start : (s : List ℕ) → Cursor s 0 0
+pub start : (s : List ℕ) → EndsBelow s 0 0
 unfolding from
 start s = record { within = omega arith; here = refl }
 
-module _ (s : List ℕ) (at k : ℕ) (c : Cursor s at k) where
+module _ (s : List ℕ) (at k : ℕ) (c : EndsBelow s at k) where
   -- the record that is passed is that of key k
   pub cursor-record : take (passed k (drop at s)) (drop at s) ≡ recordBytes (decode s k)
   unfolding decode
@@ -70,7 +70,7 @@ module _ (s : List ℕ) (at k : ℕ) (c : Cursor s at k) where
   pub cursor-within : at + passed k (drop at s) ≤ length s
   cursor-within = omega (arith, c .within, passed-long k (drop at s), length-drop at s)
 
-  pub next : Cursor s (at + passed k (drop at s)) (k + 1)
+  pub next : EndsBelow s (at + passed k (drop at s)) (k + 1)
   unfolding from
   next = record {
     within = cursor-within;
@@ -78,7 +78,7 @@ module _ (s : List ℕ) (at k : ℕ) (c : Cursor s at k) where
   }
 
   -- where no record of a key from k up to j stands at the cursor, nothing is passed
-  pub cursor-stay : (j : ℕ) → k ≤ j → ((i : ℕ) → k ≤ i → i < j → keyAt (drop at s) ≡ i → ⊥) → Cursor s at j
+  pub cursor-stay : (j : ℕ) → k ≤ j → ((i : ℕ) → k ≤ i → i < j → keyAt (drop at s) ≡ i → ⊥) → EndsBelow s at j
   cursor-stay j h n = record {
     within = c .within;
     here = c .here ∙ sym (stay s k j h (λ i p q. rw (← (c .here)) (other-stands i (drop at s) (n i p q))));
@@ -97,7 +97,7 @@ unfolding recordPlace
 no-place s k h = simp (le-leb keys k h)
 
 -- behind the last key, the bytes are well formed where nothing is left
-pub end : (s : List ℕ) (at : ℕ) → Cursor s at keys → eqb at (length s) ≡ wellFormed s
+pub end : (s : List ℕ) (at : ℕ) → EndsBelow s at keys → eqb at (length s) ≡ wellFormed s
 end s at c = go (drop at s) (length-drop at s) ∙ ap isEmpty (c .here) ∙ sym (formed-from s)
   where
     go : (t : List ℕ) → length t ≡ length s - at → eqb at (length s) ≡ isEmpty t
@@ -105,14 +105,14 @@ end s at c = go (drop at s) (length-drop at s) ∙ ap isEmpty (c .here) ∙ sym 
     go (b ∷ t) e = ne-eqb at (length s) (omega arith)
 
 -- going from record to record, with the lowest key that may follow: on to the next while it ascends and is below the key, and else done
-module _ (s : List ℕ) (at low k key : ℕ) (c : Cursor s at low) (e : k ≡ keyAt (drop at s)) where
-  pub cursor-on : (leb low k && ltb k key) ≡ true → (low ≤ k) × ((k < key) × Cursor s (at + recordLength k) (k + 1))
+module _ (s : List ℕ) (at low k key : ℕ) (c : EndsBelow s at low) (e : k ≡ keyAt (drop at s)) where
+  pub cursor-on : (leb low k && ltb k key) ≡ true → (low ≤ k) × ((k < key) × EndsBelow s (at + recordLength k) (k + 1))
   cursor-on h =
       let l = leb-true low k (and-left _ (ltb k key) h) in
       let d = cursor-stay s at low c k l (λ i p q f. omega arith) in
       (l, (ltb-true k key (and-right (leb low k) _ h), rw (is-passed k (drop at s) (sym e)) (next s at k d)))
 
-  pub cursor-done : (leb low k && ltb k key) ≡ false → low ≤ key → Cursor s at key
+  pub cursor-done : (leb low k && ltb k key) ≡ false → low ≤ key → EndsBelow s at key
   cursor-done h l =
       cursor-stay s at low c key l
       (λ i p q f.

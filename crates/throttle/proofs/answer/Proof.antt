@@ -1,3 +1,4 @@
+-- `answer` meets its contract. Assumes nothing.
 use borrow.Author.Needs.{needs}
 use Rattle.throttle.specs.Throttle.{throttleAnswer}
 use Rattle.throttle.proofs.answer.Statement.{statement}

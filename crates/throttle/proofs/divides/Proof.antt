@@ -1,3 +1,4 @@
+-- `divides` meets its contract. Assumes nothing.
 use native.Mathlib.Nat.{mod-zero}
 use borrow.Author.Needs.{needs}
 use Rattle.throttle.proofs.divides.Statement.{statement}

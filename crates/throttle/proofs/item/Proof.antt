@@ -1,3 +1,4 @@
+-- `item` meets its contract. Assumes nothing.
 use borrow.Author.Needs.{needs}
 use Rattle.throttle.specs.Throttle.{throttleItem}
 use Rattle.throttle.proofs.item.Statement.{statement}

@@ -1,3 +1,4 @@
+-- `refusal` meets its contract. Assumes nothing.
 use mathlib.Core.Path.{_≡_}
 use mathlib.Core.Bool.{not, cond}
 use borrow.Author.Tests.{lt-ltb, le-ltb}

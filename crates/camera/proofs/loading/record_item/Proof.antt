@@ -1,3 +1,4 @@
+-- `record_item` meets its contract. Assumes nothing.
 use borrow.Author.Needs.{needs}
 use Rattle.wire.proofs.Laws.Parts.{rest}
 use Rattle.camera.proofs.Laws.Loading.{record-refused, record-tested}

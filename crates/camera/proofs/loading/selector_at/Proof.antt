@@ -1,3 +1,4 @@
+-- `selector_at` meets its contract. Assumes nothing.
 use borrow.Author.Tests.{ne-eqb, le-leb, lt-leb}
 use Rattle.camera.proofs.loading.selector_at.Statement.{statement}
 use Rattle.camera.proofs.loading.selector_at.Tie as tie

@@ -1,3 +1,4 @@
+-- `control_refusal` meets its contract. Assumes nothing.
 use mathlib.Core.Path.{_∙_}
 use borrow.Author.Needs.{needs}
 use Rattle.camera.proofs.Laws.Requests.{control-refused, control-state}

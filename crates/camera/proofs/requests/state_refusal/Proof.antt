@@ -1,3 +1,4 @@
+-- `state_refusal` meets its contract. Assumes nothing.
 use Rattle.camera.proofs.requests.state_refusal.Statement.{statement}
 use Rattle.camera.proofs.requests.state_refusal.Tie as tie
 

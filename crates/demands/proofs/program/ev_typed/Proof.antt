@@ -1,3 +1,4 @@
+-- `ev_typed` meets its contract. Assumes nothing.
 use mathlib.Core.Path.{ap, sym, _∙_}
 use Prim.Native.Nat.{_^_, _<_}
 use mir.Syntax.{w8}

@@ -1,3 +1,4 @@
+-- `face_typed` meets its contract. Assumes nothing.
 use borrow.Author.Needs.{needs}
 use Rattle.demands.proofs.program.face_typed.Statement.{statement}
 use Rattle.demands.proofs.program.face_typed.Tie as tie

@@ -1,3 +1,4 @@
+-- `of_program` meets its contract. Assumes nothing.
 use Rattle.demands.proofs.Laws.Typed.{held-typed}
 use Rattle.demands.proofs.Programs.{of-program}
 use borrow.Author.Needs.{needs}

@@ -1,3 +1,4 @@
+-- `default_of` meets its contract. Assumes nothing.
 use borrow.Author.Tests.{eq-eqb, ne-eqb}
 use Rattle.face.specs.Answers.{defaultOf}
 use Rattle.face.proofs.answers.default_of.Statement.{statement}

@@ -1,3 +1,4 @@
+-- `entry_of` meets its contract. Assumes nothing.
 use mathlib.Core.Path.{sym}
 use Rattle.face.proofs.Laws.Answers.{entry-small}
 use Rattle.face.proofs.answers.entry_of.Statement.{statement}

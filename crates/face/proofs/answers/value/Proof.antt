@@ -1,3 +1,4 @@
+-- `value` meets its contract. Assumes nothing.
 use mathlib.Core.Path.{_≡_, refl, ap, sym, _∙_}
 use mathlib.Core.List.{_∷_}
 use Prim.Native.Nat.{ℕ, _≤_, _-_, _+_, _*_}

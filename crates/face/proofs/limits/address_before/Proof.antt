@@ -1,3 +1,4 @@
+-- `address_before` meets its contract. Assumes nothing.
 use mathlib.Core.Path.{ap, sym}
 use borrow.Author.Needs.{needs}
 use Rattle.face.specs.Limits.{addressBefore}

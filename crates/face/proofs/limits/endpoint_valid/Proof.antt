@@ -1,3 +1,4 @@
+-- `endpoint_valid` meets its contract. Assumes nothing.
 use borrow.Author.Tests.{lt-ltb, le-ltb}
 use borrow.Author.Needs.{needs}
 use Rattle.face.specs.Limits.{endpointValid}

@@ -1,3 +1,4 @@
+-- `endpoints_of` meets its contract. Assumes nothing.
 use borrow.Author.Needs.{needs}
 use Rattle.face.proofs.limits.endpoints_of.Statement.{statement}
 use Rattle.face.proofs.limits.endpoints_of.Tie as tie

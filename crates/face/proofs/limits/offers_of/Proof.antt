@@ -1,3 +1,4 @@
+-- `offers_of` meets its contract. Assumes nothing.
 use mathlib.Core.Path.{sym}
 use Rattle.face.proofs.Laws.Limits.{offers-none, offers-placed}
 use borrow.Author.Needs.{needs}

@@ -1,3 +1,4 @@
+-- `control` meets its contract. Assumes nothing.
 use borrow.Author.Needs.{needs}
 use Rattle.profile.specs.Profile.{profileControl}
 use Rattle.profile.proofs.Profile.control.Statement.{statement}

@@ -1,3 +1,4 @@
+-- `extension_unit` meets its contract. Assumes nothing.
 use mathlib.Core.Path.{refl}
 use Rattle.profile.specs.Profile.{extensionUnit}
 use Rattle.profile.proofs.Profile.extension_unit.Statement.{statement}

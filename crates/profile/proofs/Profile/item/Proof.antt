@@ -1,3 +1,4 @@
+-- `item` meets its contract. Assumes nothing.
 use borrow.Author.Tests.{eq-eqb, ne-eqb}
 use borrow.Author.Needs.{needs}
 use Rattle.profile.specs.Items.{profileItem}

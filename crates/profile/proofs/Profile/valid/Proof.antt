@@ -1,3 +1,4 @@
+-- `valid` meets its contract. Assumes nothing.
 use mathlib.Core.Bool.{not, _||_}
 use borrow.Author.Needs.{needs}
 use Rattle.wire.specs.Selectors.{ev, face, metadata, throttle}

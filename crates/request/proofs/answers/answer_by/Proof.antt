@@ -1,3 +1,4 @@
+-- `answer_by` meets its contract. Assumes nothing.
 use mathlib.Core.Path.{ap, sym, _∙_}
 use borrow.Author.Needs.{needs}
 use Rattle.request.specs.Answers.{packed}

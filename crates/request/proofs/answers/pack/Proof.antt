@@ -1,3 +1,4 @@
+-- `pack` meets its contract. Assumes nothing.
 use mathlib.Core.Path.{ap₂}
 use mathlib.Core.List.{List}
 use Prim.Native.Nat.{ℕ}

@@ -1,3 +1,4 @@
+-- `code` meets its contract. Assumes nothing.
 use borrow.Author.Needs.{needs}
 use Rattle.request.proofs.setup.code.Statement.{statement}
 use Rattle.request.proofs.setup.code.Tie as tie

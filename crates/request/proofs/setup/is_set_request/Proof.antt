@@ -1,3 +1,4 @@
+-- `is_set_request` meets its contract. Assumes nothing.
 use borrow.Author.Needs.{needs}
 use Rattle.request.proofs.setup.is_set_request.Statement.{statement}
 use Rattle.request.proofs.setup.is_set_request.Tie as tie

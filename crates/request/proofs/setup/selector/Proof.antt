@@ -1,3 +1,4 @@
+-- `selector` meets its contract. Assumes nothing.
 use borrow.Author.Needs.{needs}
 use Rattle.request.proofs.setup.selector.Statement.{statement}
 use Rattle.request.proofs.setup.selector.Tie as tie

@@ -1,3 +1,4 @@
+-- `wlength` meets its contract. Assumes nothing.
 use borrow.Author.Needs.{needs}
 use Rattle.request.proofs.setup.wlength.Statement.{statement}
 use Rattle.request.proofs.setup.wlength.Tie as tie

@@ -1,3 +1,4 @@
+-- `is_addressed` meets its contract. Assumes nothing.
 use borrow.Author.Needs.{needs}
 use Rattle.request.proofs.tests.is_addressed.Statement.{statement}
 use Rattle.request.proofs.tests.is_addressed.Tie as tie

@@ -1,3 +1,4 @@
+-- `is_sized` meets its contract. Assumes nothing.
 use mathlib.Core.Path.{sym, _∙_}
 use borrow.Author.Needs.{needs}
 use Rattle.request.proofs.tests.is_sized.Statement.{statement}

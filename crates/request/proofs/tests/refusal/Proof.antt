@@ -1,3 +1,4 @@
+-- `refusal` meets its contract. Assumes nothing.
 use mathlib.Core.Bool.{not, cond, true}
 use mathlib.Core.Path.{_≡_, ap, sym, _∙_}
 use native.Mathlib.Omega.{arith}

@@ -1,3 +1,4 @@
+-- `held_ev` meets its contract. Assumes nothing.
 use mathlib.Core.Path.{ap, sym}
 use borrow.Author.Needs.{needs}
 use Rattle.settings.specs.Held.{evHeld, heldSetting}

@@ -1,3 +1,4 @@
+-- `held_face` meets its contract. Assumes nothing.
 use borrow.Author.Tests.{eq-eqb, ne-eqb}
 use Rattle.settings.proofs.held.held_face.Statement.{statement}
 use Rattle.settings.proofs.held.held_face.Tie as tie

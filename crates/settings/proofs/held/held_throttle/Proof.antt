@@ -1,3 +1,4 @@
+-- `held_throttle` meets its contract. Assumes nothing.
 use mathlib.Core.Path.{ap, sym}
 use borrow.Author.Needs.{needs}
 use Rattle.settings.specs.Held.{throttleHeld, heldSetting}

@@ -1,3 +1,4 @@
+-- `ev_kept` meets its contract. Assumes nothing.
 use mathlib.Core.Path.{refl, ap, sym, _∙_}
 use mir.Syntax.{w32}
 use mir.Val.{SFits}

@@ -1,3 +1,4 @@
+-- `metadata_kept` meets its contract. Assumes nothing.
 use mathlib.Core.Path.{ap, sym, _∙_}
 use Rattle.settings.specs.Held.{metadataHeld}
 use Rattle.settings.specs.Kept.{valueRefusal, kept}

@@ -1,3 +1,4 @@
+-- `throttle_kept` meets its contract. Assumes nothing.
 use mathlib.Core.Path.{refl, ap, sym, _∙_}
 use Rattle.controls.specs.declared.Setting.the-variants as S
 use Rattle.settings.specs.Held.{throttleHeld}

@@ -1,3 +1,4 @@
+-- `check` meets its contract. Assumes nothing.
 use mathlib.Core.Path.{sym, _∙_}
 use borrow.Author.Needs.{needs}
 use Rattle.snapshot.specs.Form.{formCode}

@@ -1,3 +1,4 @@
+-- `well_formed` meets its contract. Assumes nothing.
 use borrow.Author.Needs.{needs}
 use Rattle.snapshot.proofs.Laws.Cursor.{end}
 use Rattle.snapshot.proofs.form.well_formed.Statement.{statement}

@@ -1,3 +1,4 @@
+-- `key_by` meets its contract. Assumes nothing.
 use Prim.Native.Nat.{_+_, _≤_}
 use mathlib.Core.Path.{_∙_}
 use mathlib.Core.Bool.{_&&_, and-false}

@@ -1,3 +1,4 @@
+-- `record_length` meets its contract. Assumes nothing.
 use Prim.Native.Nat.{_+_}
 use borrow.Author.Tests.{ne-eqb, le-leb, lt-leb}
 use Rattle.wire.specs.Endpoints.{places}

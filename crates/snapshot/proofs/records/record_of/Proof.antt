@@ -1,3 +1,4 @@
+-- `record_of` meets its contract. Assumes nothing.
 use Prim.Native.Nat.{ℕ, _<_}
 use mathlib.Core.Path.{_≡_, sym, ap, subst, _∙_}
 use borrow.Author.Needs.{needs}
@@ -7,14 +8,14 @@ use lib.ListN.{take, drop}
 use Rattle.wire.specs.Parts.{PartOf}
 use Rattle.snapshot.specs.Keys.{keys}
 use Rattle.snapshot.specs.Records.{passed, decode, recordBytes, recordPlace}
-use Rattle.snapshot.specs.Steps.{Cursor}
+use Rattle.snapshot.specs.Steps.{EndsBelow}
 use Rattle.snapshot.proofs.Laws.Maps.{decode-good, none-above}
 use Rattle.snapshot.proofs.Laws.Cursor.{is-passed, not-passed, cursor-record, cursor-place, no-place}
 use Rattle.snapshot.proofs.records.record_of.Statement.{statement}
 use Rattle.snapshot.proofs.records.record_of.Tie as tie
 
 -- as many bytes as are passed at the cursor are the record, where it stands
-found : (s r : RefT (List ℕ)) (at key n : ℕ) → Cursor (now s) at key → key < keys → n ≡ passed key (drop at (now s))
+found : (s r : RefT (List ℕ)) (at key n : ℕ) → EndsBelow (now s) at key → key < keys → n ≡ passed key (drop at (now s))
     → PartOf s record { at = at; len = n } r → (now r ≡ recordBytes (decode (now s) key)) × PartOf s (recordPlace (now s) key) r
 found s r at key n c h e p = (
   p .bytes ∙ ap (λ n. take n (drop at (now s))) e ∙ cursor-record (now s) at key c,

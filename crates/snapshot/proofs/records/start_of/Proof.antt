@@ -1,3 +1,4 @@
+-- `start_of` meets its contract. Assumes nothing.
 use Prim.Native.Nat.{_+_, _-_, _≤_, _<_}
 use mathlib.Core.Path.{_≡_}
 use native.Mathlib.Omega.{arith}
@@ -5,13 +6,13 @@ use lib.ListN.{drop}
 use borrow.Author.Needs.{needs}
 use Rattle.snapshot.specs.Keys.{recordLength}
 use Rattle.snapshot.specs.Records.{keyAt}
-use Rattle.snapshot.specs.Steps.{Cursor}
+use Rattle.snapshot.specs.Steps.{EndsBelow}
 use Rattle.snapshot.proofs.Laws.Cursor.{start, cursor-on, cursor-done}
 use Rattle.snapshot.proofs.records.start_of.Statement.{statement}
 use Rattle.snapshot.proofs.records.start_of.Tie as tie
 
 abbrev Inv-loop : tie.InvT-loop
-Inv-loop s key at₀ low₀ k₀ at low k = (low ≤ key) × (Cursor s at low × (k ≡ keyAt (drop at s)))
+Inv-loop s key at₀ low₀ k₀ at low k = (low ≤ key) × (EndsBelow s at low × (k ≡ keyAt (drop at s)))
 
 abbrev μ-loop : tie.MeasureT-loop
 μ-loop s key at₀ low₀ k₀ at low k = key - low
@@ -19,7 +20,7 @@ abbrev μ-loop : tie.MeasureT-loop
 -- a turn
 on : (d : tie.In-loop Inv-loop μ-loop) → let l = d .before .loop in
     let a = d .before .before .before .before .args in
-    (l .low ≤ l .k) × ((l .k < a .key) × Cursor (a .s .now) (l .at + recordLength (l .k)) (l .k + 1))
+    (l .low ≤ l .k) × ((l .k < a .key) × EndsBelow (a .s .now) (l .at + recordLength (l .k)) (l .k + 1))
 on d = let i = d .before .loop .inv .1 in cursor-on _ _ _ _ _ (i .0) (i .1) (d .loop-test .taken)
 
 key-at-requires : tie.Need-key-at-requires Inv-loop μ-loop

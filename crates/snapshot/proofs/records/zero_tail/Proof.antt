@@ -1,3 +1,4 @@
+-- `zero_tail` meets its contract. Assumes nothing.
 use borrow.Author.Needs.{needs}
 use Rattle.snapshot.proofs.Laws.Told.{zero-words}
 use Rattle.snapshot.proofs.records.zero_tail.Statement.{statement}

@@ -1,3 +1,4 @@
+-- `keys` meets its contract. Assumes nothing.
 use Prim.Native.Nat.{_≤_, _-_}
 use borrow.Author.Needs.{needs}
 use Rattle.vectors.proofs.snapshots.keys.Statement.{statement}

@@ -1,3 +1,4 @@
+-- `number` meets its contract. Assumes nothing.
 use mathlib.Core.Path.{ap₂, _≡_, _∙_}
 use lib.ListN.{getD}
 use mathlib.Core.List.{List}

@@ -1,3 +1,4 @@
+-- `tail` meets its contract. Assumes nothing.
 use mathlib.Core.Path.{refl, sym, _∙_}
 use Prim.Native.Nat.{_-_, _≤_}
 use lib.Seq.{take-nil, drop-length}

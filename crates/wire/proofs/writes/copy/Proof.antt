@@ -1,3 +1,4 @@
+-- `copy` meets its contract. Assumes nothing.
 use lib.ListN.{length, length-take}
 use mathlib.Core.Path.{ap, sym, _∙_}
 use native.Mathlib.Omega.{arith}

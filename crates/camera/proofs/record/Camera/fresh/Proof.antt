@@ -1,3 +1,4 @@
+-- `fresh` meets its contract. Assumes nothing.
 use mathlib.Core.Path.{ap}
 use borrow.Author.Needs.{needs}
 use Rattle.settings.specs.declared.settings.Settings.{Settings}

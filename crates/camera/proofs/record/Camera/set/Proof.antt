@@ -1,3 +1,4 @@
+-- `set` meets its contract. Assumes nothing.
 use borrow.Author.Needs.{needs}
 use Rattle.camera.proofs.Laws.Requests.{set-done}
 use Rattle.camera.proofs.record.Camera.set.Statement.{statement}

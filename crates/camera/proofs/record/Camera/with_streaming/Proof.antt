@@ -1,3 +1,4 @@
+-- `with_streaming` meets its contract. Assumes nothing.
 use mathlib.Core.Path.{refl}
 use Rattle.camera.specs.Record.{withStreaming}
 use Rattle.camera.proofs.record.Camera.with_streaming.Statement.{statement}

@@ -1,3 +1,4 @@
+-- `held` meets its contract. Assumes nothing.
 use borrow.Author.Tests.{eq-eqb, ne-eqb, le-leb, lt-leb}
 use borrow.Author.Needs.{needs}
 use Rattle.settings.specs.Held.{settingsHeld}

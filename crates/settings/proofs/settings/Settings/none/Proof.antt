@@ -1,3 +1,4 @@
+-- `none` meets its contract. Assumes nothing.
 use mathlib.Core.Path.{refl}
 use Rattle.settings.specs.Settings.{noSettings}
 use Rattle.settings.proofs.settings.Settings.none.Statement.{statement}

@@ -1,3 +1,4 @@
+-- `put` meets its contract. Assumes nothing.
 use mathlib.Core.Path.{ap, sym, _∙_}
 use Rattle.settings.specs.Settings.{put}
 use borrow.Author.Needs.{needs}

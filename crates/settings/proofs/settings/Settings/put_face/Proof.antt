@@ -1,3 +1,4 @@
+-- `put_face` meets its contract. Assumes nothing.
 use Rattle.settings.specs.Settings.{put}
 use borrow.Author.Needs.{needs}
 use Rattle.settings.proofs.settings.Settings.put_face.Statement.{statement}

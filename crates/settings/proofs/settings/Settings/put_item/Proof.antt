@@ -1,3 +1,4 @@
+-- `put_item` meets its contract. Assumes nothing.
 use mathlib.Core.Path.{ap, sym, _∙_}
 use borrow.Author.Needs.{needs}
 use Rattle.controls.specs.declared.Item.{Item}

@@ -1,3 +1,4 @@
+-- `set` meets its contract. Assumes nothing.
 use Rattle.settings.proofs.Laws.Items.{one-item, face-set}
 use borrow.Author.Needs.{needs}
 use Rattle.settings.proofs.settings.Settings.set.Statement.{statement}

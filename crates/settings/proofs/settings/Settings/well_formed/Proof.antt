@@ -1,3 +1,4 @@
+-- `well_formed` meets its contract. Assumes nothing.
 use Rattle.settings.proofs.Laws.Kept.{formed-controls}
 use borrow.Author.Needs.{needs}
 use Rattle.settings.proofs.settings.Settings.well_formed.Statement.{statement}
