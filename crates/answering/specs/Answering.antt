@@ -1,19 +1,16 @@
 -- Document 01, "The five controls": what a GET of a control answers, by profile and settings.
 use Prim.Native.Nat.{ℕ}
-use mathlib.Core.List.{List}
-use mathlib.Core.Bool.{cond}
+use mathlib.Core.{List.{List}, Bool.{cond}}
 use lib.Dec.{eqb}
-use Rattle.wire.specs.Numbers.{bytesOf}
-use Rattle.wire.specs.Selectors.{ev, face, metadata, hdr}
+use Rattle.wire.specs.{Numbers.{bytesOf}, Selectors.{ev, face, metadata, hdr}}
 use Rattle.request.specs.Answers.{answerBy}
 use Rattle.exposure.specs.Exposure.{evAttribute, evBytes}
 use Rattle.face.specs.Answers.{faceValue}
 use Rattle.metadata.specs.Metadata.{metadataAttribute, metadataInfo}
 use Rattle.hdr.specs.Hdr.{hdrAttribute}
 use Rattle.throttle.specs.Throttle.{throttleAttribute, throttleBytes}
-use Rattle.profile.specs.declared.Profile.{Profile}
+use Rattle.profile.specs.{declared.Profile.{Profile}, Profile.{payloadLength}}
 use Rattle.settings.specs.declared.settings.Settings.{Settings}
-use Rattle.profile.specs.Profile.{payloadLength}
 
 -- INFO's byte
 abbrev pub infoOf : Profile → ℕ → ℕ

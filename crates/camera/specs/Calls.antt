@@ -1,17 +1,11 @@
 -- The calls that take the camera record, all at once: what each answers, reports, leaves of the record and writes to what it is lent.
 use Prim.Native.Nat.{ℕ}
-use mathlib.Core.List.{List, []}
-use mathlib.Core.Bool.{Bool, cond}
-use lib.IntN.{pos}
-use lib.ListN.{length}
+use mathlib.Core.{List.{List, []}, Bool.{Bool, cond}}
+use lib.{IntN.{pos}, ListN.{length}}
 use Rattle.wire.specs.Uvc.{malformedRecord}
 use Rattle.exposure.specs.Exposure.{sensorValue}
-use Rattle.camera.specs.declared.record.Camera.{Camera}
-use Rattle.camera.specs.declared.calls.Outcome.{Outcome}
-use Rattle.camera.specs.declared.calls.Sensed.{Sensed}
-use Rattle.camera.specs.Record.{withStreaming, recordWellFormed}
-use Rattle.camera.specs.Requests.{outcomeBy, requested, requestedReply}
-use Rattle.camera.specs.Loading.{loaded}
+use Rattle.camera.specs.declared.{record.Camera.{Camera}, calls.Outcome.{Outcome}, calls.Sensed.{Sensed}}
+use Rattle.camera.specs.{Record.{withStreaming, recordWellFormed}, Requests.{outcomeBy, requested, requestedReply}, Loading.{loaded}}
 use Rattle.camera.specs.Writing.{written, writtenOut}
 
 -- the test that every call begins with

@@ -1,27 +1,14 @@
 -- Document 01, "Settings sheet": loading a snapshot, its form and then record by record, each as a SET; all or nothing.
 use Prim.Native.Nat.{ℕ}
-use mathlib.Core.List.{List, [], _∷_, _++_}
-use mathlib.Core.Option.{Option, Option·map, Option·elim}
-use mathlib.Core.Bool.{Bool, cond, not}
-use lib.Dec.{leb, eqb}
-use lib.ListN.{drop}
-use Rattle.wire.specs.Rows.{Row, _⇒_, answers, firstOf}
-use Rattle.wire.specs.Endpoints.{places}
+use mathlib.Core.{List.{List, [], _∷_, _++_}, Option.{Option, Option·map, Option·elim}, Bool.{Bool, cond, not}}
+use lib.{Dec.{leb, eqb}, ListN.{drop}}
+use Rattle.wire.specs.{Rows.{Row, _⇒_, answers, firstOf}, Endpoints.{places}, Uvc.{malformedRecord, malformedSnapshot}}
 use Rattle.wire.specs.Selectors as selector
-use Rattle.wire.specs.Uvc.{malformedRecord, malformedSnapshot}
-use Rattle.snapshot.specs.Keys.{evKey, hdrKey, keys, metadataKey}
-use Rattle.snapshot.specs.Form.{wellFormed}
-use Rattle.snapshot.specs.Records.{decode}
-use Rattle.controls.specs.declared.Item.{Item}
-use Rattle.controls.specs.declared.Item.the-variants.{Refused}
-use Rattle.controls.specs.declared.Setting.{Setting}
-use Rattle.controls.specs.Controls.{itemCode, firstRefusal}
-use Rattle.profile.specs.declared.Profile.{Profile}
-use Rattle.profile.specs.Items.{profileItem}
+use Rattle.snapshot.specs.{Keys.{evKey, hdrKey, keys, metadataKey}, Form.{wellFormed}, Records.{decode}}
+use Rattle.controls.specs.{declared.{Item.{Item}, Item.the-variants.{Refused}, Setting.{Setting}}, Controls.{itemCode, firstRefusal}}
+use Rattle.profile.specs.{declared.Profile.{Profile}, Items.{profileItem}}
 use Rattle.settings.specs.Items.{givenOf, allGiven}
-use Rattle.camera.specs.declared.record.Camera.{Camera}
-use Rattle.camera.specs.declared.calls.Outcome.{Outcome}
-use Rattle.camera.specs.Record.{puts, recordWellFormed}
+use Rattle.camera.specs.{declared.{record.Camera.{Camera}, calls.Outcome.{Outcome}}, Record.{puts, recordWellFormed}}
 use Rattle.camera.specs.Requests.{controlRefusal, outcomeBy}
 
 -- the selector of a key, which is the kind of its records

@@ -1,14 +1,9 @@
 -- Document 01, "Profile and camera record": the record.
 use Prim.Native.Nat.{ℕ}
-use mathlib.Core.List.{List}
-use mathlib.Core.Option.{Option}
-use mathlib.Core.Bool.{Bool}
+use mathlib.Core.{List.{List}, Option.{Option}, Bool.{Bool}}
 use Rattle.controls.specs.declared.Setting.{Setting}
 use Rattle.profile.specs.declared.Profile.{Profile}
-use Rattle.settings.specs.declared.settings.Settings.{Settings}
-use Rattle.settings.specs.Settings.{noSettings}
-use Rattle.settings.specs.Held.{settingsHeld}
-use Rattle.settings.specs.Kept.{settingsWellFormed}
+use Rattle.settings.specs.{declared.settings.Settings.{Settings}, Settings.{noSettings}, Held.{settingsHeld}, Kept.{settingsWellFormed}}
 use Rattle.settings.specs.Items.{putAll}
 use Rattle.camera.specs.declared.record.Camera.{Camera}
 

@@ -1,25 +1,14 @@
 -- Document 01, "Requests and the order of tests", on a camera: `request` has the tests, over the camera's table.
 use Prim.Native.Nat.{ℕ}
-use mathlib.Core.List.{List}
-use mathlib.Core.Bool.{Bool, cond, not, _&&_}
+use mathlib.Core.{List.{List}, Bool.{Bool, cond, not, _&&_}}
 use lib.Dec.{eqb}
-use Rattle.wire.specs.Selectors.{throttle}
-use Rattle.wire.specs.Uvc.{setCur, wrongState}
-use Rattle.request.specs.Setup.{isSetRequest, setupSelector}
-use Rattle.request.specs.Table.{Table}
-use Rattle.request.specs.Tests.{fullAnswer, tableRefusal, requestCode, sentCount}
+use Rattle.wire.specs.{Selectors.{throttle}, Uvc.{setCur, wrongState}}
+use Rattle.request.specs.{Setup.{isSetRequest, setupSelector}, Table.{Table}, Tests.{fullAnswer, tableRefusal, requestCode, sentCount}}
 use Rattle.request.specs.Requests.{replied}
-use Rattle.profile.specs.declared.Profile.{Profile}
-use Rattle.settings.specs.declared.settings.Settings.{Settings}
-use Rattle.profile.specs.Profile.{has, isSettable, setLength, payloadLength}
-use Rattle.settings.specs.Settings.{noSettings}
-use Rattle.settings.specs.Kept.{settingsWellFormed}
-use Rattle.profile.specs.Items.{setRefusal}
-use Rattle.settings.specs.Items.{setGives}
+use Rattle.profile.specs.{declared.Profile.{Profile}, Profile.{has, isSettable, setLength, payloadLength}, Items.{setRefusal}}
+use Rattle.settings.specs.{declared.settings.Settings.{Settings}, Settings.{noSettings}, Kept.{settingsWellFormed}, Items.{setGives}}
 use Rattle.answering.specs.Answering.{infoOf, valueOf}
-use Rattle.camera.specs.declared.record.Camera.{Camera}
-use Rattle.camera.specs.declared.calls.Outcome.{Outcome}
-use Rattle.camera.specs.Record.{puts}
+use Rattle.camera.specs.{declared.{record.Camera.{Camera}, calls.Outcome.{Outcome}}, Record.{puts}}
 
 -- test 7: a SET of the throttle while the stream is stopped
 abbrev pub stateRefusal : (streaming : Bool) → (selector code : ℕ) → ℕ

@@ -1,15 +1,10 @@
 -- What the code's steps go by, which its private functions' promises cite. No statement and no public promise depends on this file.
 use Prim.Native.Nat.{ℕ}
 use mathlib.Core.List.{List}
-use Rattle.request.specs.Setup.{setupWLength}
-use Rattle.request.specs.Reply.{sentOf}
-use Rattle.request.specs.Tests.{asked}
+use Rattle.request.specs.{Setup.{setupWLength}, Reply.{sentOf}, Tests.{asked}}
 use Rattle.profile.specs.Items.{setRefusal}
 use Rattle.settings.specs.Items.{setGives}
-use Rattle.camera.specs.declared.record.Camera.{Camera}
-use Rattle.camera.specs.declared.calls.Outcome.{Outcome}
-use Rattle.camera.specs.Record.{puts}
-use Rattle.camera.specs.Requests.{table, outcomeBy}
+use Rattle.camera.specs.{declared.{record.Camera.{Camera}, calls.Outcome.{Outcome}}, Record.{puts}, Requests.{table, outcomeBy}}
 use Rattle.camera.specs.Loading.{loadRefusal, loadGives}
 
 -- past test 7: a SET of a selector, and a GET

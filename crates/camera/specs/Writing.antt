@@ -1,16 +1,10 @@
 -- Document 01, "Settings sheet": writing a camera's snapshot.
 use Prim.Native.Nat.{ℕ}
-use mathlib.Core.List.{List, [], _∷_, _++_}
-use mathlib.Core.Bool.{cond, not}
-use lib.Dec.{ltb, eqb}
-use lib.ListN.{length, drop}
-use Rattle.wire.specs.Rows.{_⇒_, firstOf}
-use Rattle.wire.specs.Uvc.{malformedRecord, noRoom}
+use mathlib.Core.{List.{List, [], _∷_, _++_}, Bool.{cond, not}}
+use lib.{Dec.{ltb, eqb}, ListN.{length, drop}}
+use Rattle.wire.specs.{Rows.{_⇒_, firstOf}, Uvc.{malformedRecord, noRoom}}
 use Rattle.encoding.specs.Encoding.{encoded}
-use Rattle.camera.specs.declared.record.Camera.{Camera}
-use Rattle.camera.specs.declared.calls.Outcome.{Outcome}
-use Rattle.camera.specs.Record.{recordWellFormed}
-use Rattle.camera.specs.Requests.{outcomeBy}
+use Rattle.camera.specs.{declared.{record.Camera.{Camera}, calls.Outcome.{Outcome}}, Record.{recordWellFormed}, Requests.{outcomeBy}}
 
 -- a camera's snapshot
 unfoldable pub snapshot : Camera → List ℕ

@@ -2,8 +2,7 @@
 use crate::record::Camera;
 use wire::uvc;
 ghost use mathlib.Core.Path.{_≡_};
-ghost use Rattle.camera.specs.Requests.{refused};
-ghost use Rattle.camera.specs.Calls.{streamed, sensed};
+ghost use Rattle.camera.specs.{Requests.{refused}, Calls.{streamed, sensed}};
 
 // Document 01's number, how many bytes were written, and the next record. A refusal has a count of 0 and the record as it
 // came in.

@@ -9,11 +9,9 @@ use wire::Part;
 use wire::endpoints;
 use wire::selectors;
 use wire::uvc;
-ghost use mathlib.Core.Path.{_≡_};
-ghost use mathlib.Core.Bool.{true};
+ghost use mathlib.Core.{Path.{_≡_}, Bool.{true}};
 ghost use Rattle.snapshot.specs.Form.{wellFormed};
-ghost use Rattle.camera.specs.Loading.{selectorAt, recordItem, loaded};
-ghost use Rattle.camera.specs.Steps.{loadDone};
+ghost use Rattle.camera.specs.{Loading.{selectorAt, recordItem, loaded}, Steps.{loadDone}};
 
 fn selector_at(key: usize) -> u8
     ensures { λ r. ⌜ r ≡ selectorAt key ⌝ }

@@ -6,11 +6,8 @@ use wire::selectors;
 use wire::uvc;
 ghost use mathlib.Core.Path.{_≡_};
 ghost use lib.ListN.{length};
-ghost use Rattle.request.specs.Setup.{setupWLength};
-ghost use Rattle.request.specs.Reply.{replyOf};
-ghost use Rattle.request.specs.Tests.{asked};
-ghost use Rattle.camera.specs.Requests.{stateRefusal, controlRefusal, table, requested, requestedReply};
-ghost use Rattle.camera.specs.Steps.{setDone, getDone};
+ghost use Rattle.request.specs.{Setup.{setupWLength}, Reply.{replyOf}, Tests.{asked}};
+ghost use Rattle.camera.specs.{Requests.{stateRefusal, controlRefusal, table, requested, requestedReply}, Steps.{setDone, getDone}};
 
 // Test 7: the throttle is set only while streaming.
 fn state_refusal(streaming: bool, selector: u8, code: u8) -> u8

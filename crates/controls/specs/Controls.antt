@@ -1,14 +1,9 @@
 -- Settings, whichever control they are of.
 use Prim.Native.Nat.{ℕ, zero, suc}
-use mathlib.Core.Option.{Option, none, some}
-use mathlib.Core.Bool.{cond}
+use mathlib.Core.{Option.{Option, none, some}, Bool.{cond}}
 use lib.Dec.{eqb}
-use Rattle.controls.specs.declared.HeldNumber.{HeldNumber}
-use Rattle.controls.specs.declared.HeldNumber.the-variants.{Unset, Held}
-use Rattle.controls.specs.declared.Setting.{Setting}
-use Rattle.controls.specs.declared.Item.{Item}
-use Rattle.controls.specs.declared.Item.the-variants.{Refused, Given}
-use Rattle.controls.specs.declared.HeldSetting.{HeldSetting}
+use Rattle.controls.specs.declared.{HeldNumber.{HeldNumber}, HeldNumber.the-variants.{Unset, Held}, Setting.{Setting}, Item.{Item}}
+use Rattle.controls.specs.declared.{Item.the-variants.{Refused, Given}, HeldSetting.{HeldSetting}}
 use Rattle.controls.specs.declared.HeldSetting.the-variants as H
 
 -- what an item comes to by the number that its tests give: 0 is acceptance

@@ -1,71 +1,48 @@
 -- The owner's demand 2 on the camera: new settings, the sensor's number, GET_CUR, LEN, and what is written reads back. Assumes nothing.
-use mathlib.Core.Path.{_≡_, refl, ap, ap₂, sym, _∙_, subst}
-use mathlib.Core.List.{List, []}
-use mathlib.Core.Option.{none, Option·map}
+use mathlib.Core.{Path.{_≡_, refl, ap, ap₂, sym, _∙_, subst}, List.{List, []}, Option.{none, Option·map}}
 use mathlib.Core.Bool.{Bool, true, false, cond, not, _&&_, and-eq-true-iff}
 use Prim.Native.Nat.{ℕ, _+_, _*_, _≤_, _<_, min}
 use native.Mathlib.Omega.{arith}
-use lib.Dec.{eqb}
-use lib.IntN.{pos, _*ℤ_}
-use lib.ListN.{length, getD}
+use lib.{Dec.{eqb}, IntN.{pos, _*ℤ_}, ListN.{length, getD}}
 use borrow.Author.Tests.{eq-eqb, ne-eqb, eqb-true, le-ltb, leb-true}
 use Rattle.snapshot.specs.Keys.{metadataKey, hdrKey, throttleKey}
-use Rattle.wire.specs.Endpoints.{firstAddress, places}
-use Rattle.wire.specs.Numbers.{bytesOf}
-use Rattle.wire.specs.Rows.{firstOf}
-use Rattle.wire.specs.Selectors as selector
+use Rattle.wire.specs.{Endpoints.{firstAddress, places}, Numbers.{bytesOf}, Rows.{firstOf}}
 use Rattle.wire.specs.Uvc.{setCur, getCur, getLen, getDef, wrongState}
+use Rattle.wire.specs.Selectors as selector
 use Rattle.wire.proofs.Laws.Numbers.{Bytes}
 use Rattle.flags.proofs.Laws.Bits.{chosen-is}
 use Rattle.request.specs.Setup.{setupType, setupCode, setupValueLow, setupSelector, setupWLength, isSetRequest, isGetRequest}
-use Rattle.request.specs.Answers.{answerBy}
-use Rattle.request.specs.Tests.{fullAnswer, asked, requestTests, sentCount}
+use Rattle.request.specs.{Answers.{answerBy}, Tests.{fullAnswer, asked, requestTests, sentCount}}
 use Rattle.request.proofs.Laws.Tests.{at-get}
 use Rattle.request.proofs.Theorems.{len-answers}
 use Rattle.request.proofs.Theorems as requests
-use Rattle.controls.specs.declared.EvSetting.{EvSetting}
-use Rattle.controls.specs.declared.HeldNumber.{HeldNumber}
+use Rattle.controls.specs.{declared.{EvSetting.{EvSetting}, HeldNumber.{HeldNumber}}, Controls.{numberOr}}
 use Rattle.controls.specs.declared.HeldNumber.the-variants as N
 use Rattle.controls.specs.declared.Setting.the-variants as S
-use Rattle.throttle.specs.declared.HeldThrottle.{HeldThrottle}
+use Rattle.throttle.specs.{declared.HeldThrottle.{HeldThrottle}, Throttle.{throttleAttribute, throttleBytes, throttleCurrent}}
 use Rattle.throttle.specs.declared.HeldThrottle.the-variants as T
-use Rattle.exposure.specs.declared.HeldEv.{HeldEv}
+use Rattle.exposure.specs.{declared.HeldEv.{HeldEv}, Exposure.{sensorValue, divisor, evAttribute, evBytes, evCurrent, scaled}}
 use Rattle.exposure.specs.declared.HeldEv.the-variants as E
-use Rattle.face.specs.declared.limits.FaceLimits.{FaceLimits}
-use Rattle.controls.specs.Controls.{numberOr}
-use Rattle.exposure.specs.Exposure.{sensorValue, divisor, evAttribute, evBytes, evCurrent, scaled}
-use Rattle.face.specs.Limits.{endpointsOf, addressAt}
+use Rattle.face.specs.{declared.limits.FaceLimits.{FaceLimits}, Limits.{endpointsOf, addressAt}}
 use Rattle.face.specs.Answers.{entryOf, heldAt, flagsAt, faceAnswer}
 use Rattle.entries.specs.Entries.{entryAddress, entryFlags, entriesPut}
 use Rattle.metadata.specs.Metadata.{metadataAttribute}
 use Rattle.hdr.specs.Hdr.{hdrAttribute}
-use Rattle.throttle.specs.Throttle.{throttleAttribute, throttleBytes, throttleCurrent}
 use Rattle.exposure.proofs.Laws.Exposure.{accepts, scaled-is}
-use Rattle.face.proofs.Laws.Limits.{place-listed}
-use Rattle.face.proofs.Laws.Answers.{fresh-answer}
+use Rattle.face.proofs.Laws.{Limits.{place-listed}, Answers.{fresh-answer}}
 use Rattle.entries.proofs.Laws.Payload.{len-taken, len-longest}
-use Rattle.profile.specs.declared.Profile.{Profile}
-use Rattle.profile.specs.KnownControl.{KnownControl}
-use Rattle.profile.specs.KnownControl as selectors
-use Rattle.profile.specs.Profile.{has, setLength, profileRefusal}
-use Rattle.settings.specs.Held.{evHeld, metadataHeld, hdrHeld, throttleHeld}
-use Rattle.settings.specs.Kept.{valueRefusal}
-use Rattle.settings.specs.Held.{settingsHeld}
-use Rattle.settings.specs.Settings.{noSettings}
+use Rattle.profile.specs.{declared.Profile.{Profile}, KnownControl.{KnownControl}, Profile.{has, setLength, profileRefusal}}
 use Rattle.profile.specs.Items.{setRefusal}
-use Rattle.settings.specs.Items.{allGiven, setGives}
-use Rattle.settings.specs.Items.{putAll}
+use Rattle.profile.specs.KnownControl as selectors
+use Rattle.settings.specs.{Held.{evHeld, metadataHeld, hdrHeld, throttleHeld, settingsHeld}, Kept.{valueRefusal}, Settings.{noSettings}}
+use Rattle.settings.specs.Items.{allGiven, setGives, putAll}
 use Rattle.answering.specs.Answering.{valueOf}
-use Rattle.profile.proofs.Laws.Profile.{valid-presence, valid-ev, valid-face}
-use Rattle.profile.proofs.Laws.KnownControl.{control-known}
-use Rattle.camera.specs.declared.record.Camera.{Camera}
-use Rattle.camera.specs.Record.{fresh, held, puts, recordWellFormed}
+use Rattle.profile.proofs.Laws.{Profile.{valid-presence, valid-ev, valid-face}, KnownControl.{control-known}}
+use Rattle.camera.specs.{declared.record.Camera.{Camera}, Record.{fresh, held, puts, recordWellFormed}}
 use Rattle.camera.specs.Requests.{stateRefusal, table, cameraAnswer, requestedCode, requestDone, requested}
-use Rattle.camera.specs.Loading.{selectorAt, recordItem, loadGives}
-use Rattle.camera.specs.Calls.{sensed, Call, request, load, outcome, left, next}
+use Rattle.camera.specs.{Loading.{selectorAt, recordItem, loadGives}, Calls.{sensed, Call, request, load, outcome, left, next}}
 use Rattle.camera.proofs.Laws.Record.{formed-profile}
-use Rattle.demands.specs.Runs.{acceptsSet, gives, run}
-use Rattle.demands.specs.Cameras.{Ok, Typed, Same}
+use Rattle.demands.specs.{Runs.{acceptsSet, gives, run}, Cameras.{Ok, Typed, Same}}
 use Rattle.demands.specs.Answers.{NewSettings, Twelfths, SensorExact, CurrentIsHeld, SameAnswers, FaceLength, FaceReadsBack, ReadsBack, bytesBack, CameraSends, Gets, SnapshotReadsBack, WriteSuffices}
 use Rattle.demands.proofs.Laws.Longest.{snapshot-short}
 use Rattle.demands.proofs.Laws.Held.{none-never, none-held}

@@ -1,45 +1,27 @@
 -- The owner's demand 3. Assumes nothing.
-use mathlib.Core.Path.{_≡_, refl, ap, ap₂, sym, _∙_, subst}
-use mathlib.Core.List.{List, [], _∷_, _++_}
-use mathlib.Core.Option.{Option, none, some, Option·map, Option·elim}
-use mathlib.Core.Bool.{Bool, true, not}
+use mathlib.Core.{Path.{_≡_, refl, ap, ap₂, sym, _∙_, subst}, List.{List, [], _∷_, _++_}}
+use mathlib.Core.{Option.{Option, none, some, Option·map, Option·elim}, Bool.{Bool, true, not}}
 use Prim.Native.Nat.{ℕ, _≤_}
-use lib.ListN.{length, take, drop}
-use lib.Seq.{take-at}
+use lib.{ListN.{length, take, drop}, Seq.{take-at}}
 use borrow.Author.Tests.{eq-eqb, le-ltb, not-false}
-use Rattle.wire.specs.Endpoints.{places}
-use Rattle.wire.specs.Rows.{_⇒_, firstOf}
-use Rattle.wire.specs.Uvc.{malformedRecord}
+use Rattle.wire.specs.{Endpoints.{places}, Rows.{_⇒_, firstOf}, Uvc.{malformedRecord}}
 use Rattle.wire.proofs.Laws.Rows.{quiet}
-use Rattle.snapshot.specs.Form.{wellFormed}
-use Rattle.snapshot.specs.Records.{decode}
-use Rattle.snapshot.specs.Given.{over, lastOf, snapshotOf}
+use Rattle.snapshot.specs.{Form.{wellFormed}, Records.{decode}, Given.{over, lastOf, snapshotOf}}
 use Rattle.merging.specs.Merging.{merged}
-use Rattle.snapshot.proofs.Laws.Maps.{decode-encode}
-use Rattle.snapshot.proofs.Laws.Form.{encode-formed}
-use Rattle.snapshot.proofs.Laws.Given.{over-assoc, over-none, EachRecord, records-append}
-use Rattle.merging.proofs.Laws.Answers.{Answer}
+use Rattle.snapshot.proofs.Laws.{Maps.{decode-encode}, Form.{encode-formed}, Given.{over-assoc, over-none, EachRecord, records-append}}
+use Rattle.merging.proofs.Laws.{Answers.{Answer}, Given.{snapshot-append}}
 use Rattle.merging.proofs.Laws.Answers as answers
-use Rattle.merging.proofs.Laws.Given.{snapshot-append}
-use Rattle.controls.specs.declared.Setting.{Setting}
-use Rattle.controls.specs.declared.Item.the-variants.{Given}
-use Rattle.controls.specs.Controls.{itemCode}
+use Rattle.controls.specs.{declared.{Setting.{Setting}, Item.the-variants.{Given}}, Controls.{itemCode}}
 use Rattle.settings.specs.Items.{givenOf}
-use Rattle.profile.specs.declared.Profile.{Profile}
-use Rattle.profile.specs.Profile.{profileValid}
-use Rattle.camera.specs.declared.record.Camera.{Camera}
-use Rattle.camera.specs.declared.calls.Outcome.{Outcome}
-use Rattle.camera.specs.Record.{fresh, held, recordWellFormed, puts}
-use Rattle.encoding.specs.Encoding.{recordOf}
-use Rattle.camera.specs.Loading.{recordItem, loadTests, loadCode, loadGives, loaded}
-use Rattle.camera.specs.Writing.{snapshot, writeCode, written, writtenOut}
+use Rattle.profile.specs.{declared.Profile.{Profile}, Profile.{profileValid}}
+use Rattle.camera.specs.{declared.{record.Camera.{Camera}, calls.Outcome.{Outcome}}, Record.{fresh, held, recordWellFormed, puts}}
+use Rattle.camera.specs.{Loading.{recordItem, loadTests, loadCode, loadGives, loaded}, Writing.{snapshot, writeCode, written, writtenOut}}
 use Rattle.camera.specs.Calls.{Call, load}
-use Rattle.demands.specs.Runs.{gives, leaves, flagAfter, given, snapshotAfter, run}
-use Rattle.demands.specs.Cameras.{Ok, Typed, handedSnapshot, Written}
+use Rattle.encoding.specs.Encoding.{recordOf}
+use Rattle.demands.specs.{Runs.{gives, leaves, flagAfter, given, snapshotAfter, run}, Cameras.{Ok, Typed, handedSnapshot, Written}}
 use Rattle.demands.specs.Lists.{MergesTo, Whole, LoadsMerged, AcceptedInTurn, Restores}
 use Rattle.demands.proofs.Laws.Held.{none-held}
-use Rattle.camera.proofs.Laws.Record.{formed-profile}
-use Rattle.camera.proofs.Laws.Loading.{codeBy, givenBy}
+use Rattle.camera.proofs.Laws.{Record.{formed-profile}, Loading.{codeBy, givenBy}}
 use Rattle.demands.proofs.Laws.Kept.{held-good}
 use Rattle.demands.proofs.Laws.Fits.{held-fitting}
 use Rattle.demands.proofs.Laws.Steps.{step, outcome-code, gives-good}

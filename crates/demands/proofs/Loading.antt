@@ -1,37 +1,23 @@
 -- Loading a snapshot counts as its records' SETs, and a record is well formed by its settings' own. Assumes nothing.
-use mathlib.Core.Path.{_≡_, refl, ap, ap₂, sym, _∙_, subst}
-use mathlib.Core.List.{List, [], _∷_, _++_}
-use mathlib.Core.Option.{Option, none, some, Option·elim}
+use mathlib.Core.{Path.{_≡_, refl, ap, ap₂, sym, _∙_, subst}, List.{List, [], _∷_, _++_}, Option.{Option, none, some, Option·elim}}
 use mathlib.Core.Bool.{Bool, true, false, cond}
 use Prim.Native.Nat.{ℕ, zero, suc}
-use lib.Dec.{eqb}
-use lib.ListN.{drop}
+use lib.{Dec.{eqb}, ListN.{drop}}
 use borrow.Author.Tests.{eq-eqb, eqb-false}
 use Rattle.wire.specs.Rows.{firstOf}
 use Rattle.request.specs.Tests.{setAccepted}
-use Rattle.snapshot.specs.Keys.{keys}
-use Rattle.snapshot.specs.Form.{wellFormed}
-use Rattle.snapshot.specs.Records.{decode, GoodAt, IsRecord, KeyedRecord, recordsOf}
+use Rattle.snapshot.specs.{Keys.{keys}, Form.{wellFormed}, Records.{decode, GoodAt, IsRecord, KeyedRecord, recordsOf}}
 use Rattle.snapshot.specs.Records as records
-use Rattle.snapshot.proofs.Laws.Maps.{decode-good}
-use Rattle.snapshot.proofs.Laws.Entries.{entryAt, entries, records-entries}
-use Rattle.controls.specs.declared.Setting.{Setting}
-use Rattle.controls.specs.Controls.{firstRefusal}
-use Rattle.profile.specs.declared.Profile.{Profile}
-use Rattle.profile.specs.Profile.{profileValid}
-use Rattle.settings.specs.Kept.{kept}
-use Rattle.settings.specs.Items.{putAll}
-use Rattle.settings.specs.Items.{givenOf, allGiven}
+use Rattle.snapshot.proofs.Laws.{Maps.{decode-good}, Entries.{entryAt, entries, records-entries}}
+use Rattle.controls.specs.{declared.Setting.{Setting}, Controls.{firstRefusal}}
+use Rattle.profile.specs.{declared.Profile.{Profile}, Profile.{profileValid}}
+use Rattle.settings.specs.{Kept.{kept}, Items.{putAll, givenOf, allGiven}}
 use Rattle.settings.proofs.Laws.Items.{puts-append}
-use Rattle.camera.specs.declared.record.Camera.{Camera}
-use Rattle.camera.specs.Record.{held, recordWellFormed, puts, withSettings}
+use Rattle.camera.specs.{declared.record.Camera.{Camera}, Record.{held, recordWellFormed, puts, withSettings}}
+use Rattle.camera.specs.{Loading.{loadRefusal, loadTests, loadGives, loaded}, Calls.{request, load, next}}
 use Rattle.encoding.specs.Encoding.{recordOf}
-use Rattle.camera.specs.Loading.{loadRefusal, loadTests, loadGives, loaded}
-use Rattle.camera.specs.Calls.{request, load, next}
-use Rattle.camera.proofs.Laws.Record.{formed-profile}
-use Rattle.camera.proofs.Laws.Loading.{codeBy, givenBy}
-use Rattle.demands.specs.Runs.{gives, given, run}
-use Rattle.demands.specs.Cameras.{Ok, Typed}
+use Rattle.camera.proofs.Laws.{Record.{formed-profile}, Loading.{codeBy, givenBy}}
+use Rattle.demands.specs.{Runs.{gives, given, run}, Cameras.{Ok, Typed}}
 use Rattle.demands.specs.Loading.{recordSet, setCode, AsSet, recordSets, firstFault, EachAccepted, CountsAsSets, OwnSet, KeepsSetRules}
 use Rattle.demands.proofs.Laws.Held.{Each}
 use Rattle.demands.proofs.Laws.Kept.{Good, good-kept, kept-formed, held-good}

@@ -3,8 +3,7 @@ use mathlib.Core.Path.{_≡_, refl}
 use lib.ListN.{length}
 use Rattle.wire.specs.Endpoints.{places}
 use Rattle.camera.specs.declared.record.Camera.{Camera}
-use Rattle.demands.specs.Cameras.{Typed}
-use Rattle.demands.specs.Programs.{OfProgram}
+use Rattle.demands.specs.{Cameras.{Typed}, Programs.{OfProgram}}
 use Rattle.demands.proofs.Answers.{set-then-get, snapshot-read-back}
 use Rattle.demands.proofs.Lists.{load-merged, load-in-turn, load-written}
 use Rattle.demands.proofs.Loading.{own-sets}

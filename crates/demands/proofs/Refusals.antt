@@ -1,22 +1,15 @@
 -- The owner's demand 1 on the calls that take the record, all at once. Assumes nothing.
-use mathlib.Core.Path.{_≡_, refl, ap}
-use mathlib.Core.List.{List}
-use mathlib.Core.Bool.{Bool, true, false, cond}
+use mathlib.Core.{Path.{_≡_, refl, ap}, List.{List}, Bool.{Bool, true, false, cond}}
 use Prim.Native.Nat.{ℕ}
-use lib.Dec.{eqb}
-use lib.IntN.{pos}
-use lib.ListN.{length}
+use lib.{Dec.{eqb}, IntN.{pos}, ListN.{length}}
 use borrow.Author.Tests.{ne-eqb}
 use Rattle.wire.specs.Uvc.{malformedRecord}
 use Rattle.request.specs.Setup.{isSetRequest}
 use Rattle.request.proofs.Laws.Tests.{at-unformed}
 use Rattle.request.proofs.Theorems as requests
 use Rattle.exposure.specs.Exposure.{sensorValue}
-use Rattle.camera.specs.declared.record.Camera.{Camera}
-use Rattle.camera.specs.declared.calls.Outcome.{Outcome}
-use Rattle.camera.specs.Record.{recordWellFormed}
-use Rattle.camera.specs.Requests.{table, requestedCode, refused, outcomeBy, requestDone, requested}
-use Rattle.camera.specs.Loading.{loadCode, loaded}
+use Rattle.camera.specs.{declared.{record.Camera.{Camera}, calls.Outcome.{Outcome}}, Record.{recordWellFormed}}
+use Rattle.camera.specs.{Requests.{table, requestedCode, refused, outcomeBy, requestDone, requested}, Loading.{loadCode, loaded}}
 use Rattle.camera.specs.Writing.{writeCode, written, writtenOut}
 use Rattle.camera.specs.Calls.{recordCode, streamed, sensed, Call, request, stream, load, write, sense, outcome}
 use Rattle.demands.specs.Refusals.{Unchanged}

@@ -1,31 +1,22 @@
 -- The one claim of the table in specs/Table: what the definitions come to is what the paper says, row by row.
-use mathlib.Core.Path.{_≡_, refl}
-use mathlib.Core.List.{map}
-use Rattle.wire.specs.Numbers.{number, leAt, bytesOf, signed32, bits32}
+use mathlib.Core.{Path.{_≡_, refl}, List.{map}}
+use Rattle.wire.specs.{Numbers.{number, leAt, bytesOf, signed32, bits32}, Rows.{allBelow}}
 use Rattle.flags.specs.Flags.{isSet, bitsOf, count, first, oneFlag}
 use Rattle.request.specs.Tests.{requestTests, valueTests, requestRows, requestCode}
 use Rattle.controls.specs.Controls.{itemOf, itemCode, firstRefusal}
 use Rattle.exposure.specs.Exposure.{inRange, refusalAt, evRefusal, evItem, evBytes, scaledAt, scaled, sensorValue}
 use Rattle.face.specs.Limits.{addressBefore, endpointValid, faceValid}
-use Rattle.wire.specs.Rows.{allBelow}
 use Rattle.hdr.specs.Hdr.{hdrRefusal, hdrItem}
 use Rattle.throttle.specs.Throttle.{throttleRefusal, throttleItem, throttleBytes}
 use Rattle.snapshot.specs.Records.{records, encode}
-use Rattle.profile.specs.Profile.{presenceValid, profileValid, profileRefusal}
-use Rattle.settings.specs.Settings.{noSettings, put}
-use Rattle.settings.specs.Held.{settingsHeld}
-use Rattle.settings.specs.Kept.{valueRefusal, kept, settingsWellFormed}
-use Rattle.profile.specs.Items.{profileItem, setRefusal}
+use Rattle.profile.specs.{Profile.{presenceValid, profileValid, profileRefusal}, Items.{profileItem, setRefusal}}
+use Rattle.settings.specs.{Settings.{noSettings, put}, Held.{settingsHeld}, Kept.{valueRefusal, kept, settingsWellFormed}}
 use Rattle.settings.specs.Items.{givenOf, allGiven, putAll, setGives}
-use Rattle.camera.specs.Requests.{requestDone, requested}
+use Rattle.camera.specs.{Requests.{requestDone, requested}, Writing.{snapshot}, Calls.{sensed}}
 use Rattle.encoding.specs.Encoding.{recordOf}
-use Rattle.camera.specs.Writing.{snapshot}
-use Rattle.camera.specs.Calls.{sensed}
 use Rattle.frame.specs.Ids.{isKnown}
-use Rattle.frame.specs.Items.{itemRefusal, firstItem, itemsIn, itemsFrom, blockItems}
-use Rattle.frame.specs.Items.{blockCount, nthItem, blockItem, blockPayload}
-use Rattle.demands.specs.Bench.{benchProfile}
-use Rattle.demands.specs.Table.{rows, defined, paperAnswer}
+use Rattle.frame.specs.Items.{itemRefusal, firstItem, itemsIn, itemsFrom, blockItems, blockCount, nthItem, blockItem, blockPayload}
+use Rattle.demands.specs.{Bench.{benchProfile}, Table.{rows, defined, paperAnswer}}
 
 table-holds : map defined rows ≡ map paperAnswer rows
 unfolding benchProfile number leAt bytesOf signed32 bits32 isSet bitsOf count first oneFlag requestTests itemOf

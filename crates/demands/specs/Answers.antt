@@ -1,47 +1,25 @@
 -- What the owner's demand 2 says of the camera: new settings, the sensor's number, GET_CUR, LEN, and what is written reads back.
 use Prim.Native.Nat.{ℕ, _+_, _*_, _/_, _^_, _≤_, _<_, min}
-use mathlib.Core.Path.{_≡_}
-use mathlib.Core.List.{List, [], _∷_, _++_}
-use mathlib.Core.Option.{none, some, Option·map}
-use mathlib.Core.Bool.{true, cond}
-use lib.Dec.{eqb}
-use lib.IntN.{pos, _*ℤ_}
-use lib.ListN.{length, getD, take, drop}
-use Rattle.wire.specs.Endpoints.{firstAddress}
-use Rattle.wire.specs.Numbers.{bytesOf}
+use mathlib.Core.{Path.{_≡_}, List.{List, [], _∷_, _++_}, Option.{none, some, Option·map}, Bool.{true, cond}}
+use lib.{Dec.{eqb}, IntN.{pos, _*ℤ_}, ListN.{length, getD, take, drop}}
+use Rattle.wire.specs.{Endpoints.{firstAddress}, Numbers.{bytesOf}, Uvc.{getCur, getDef, getLen}}
 use Rattle.wire.specs.Selectors as selector
-use Rattle.wire.specs.Uvc.{getCur, getDef, getLen}
-use Rattle.flags.specs.Flags.{oneFlag}
-use Rattle.flags.specs.declared.Choice.the-variants.{At}
-use Rattle.request.specs.Setup.{setupValueLow, setupSelector, setupWLength, isGetRequest}
-use Rattle.request.specs.Tests.{isAddressed}
-use Rattle.snapshot.specs.Keys.{keyFor}
-use Rattle.snapshot.specs.Form.{wellFormed}
-use Rattle.snapshot.specs.Records.{decode}
-use Rattle.snapshot.specs.Given.{over, lastOf}
-use Rattle.controls.specs.declared.EvSetting.{EvSetting}
+use Rattle.flags.specs.{declared.Choice.the-variants.{At}, Flags.{oneFlag}}
+use Rattle.request.specs.{Setup.{setupValueLow, setupSelector, setupWLength, isGetRequest}, Tests.{isAddressed}}
+use Rattle.snapshot.specs.{Keys.{keyFor}, Form.{wellFormed}, Records.{decode}, Given.{over, lastOf}}
+use Rattle.controls.specs.declared.{EvSetting.{EvSetting}, ThrottleSetting.{ThrottleSetting}, Item.the-variants.{Given}}
 use Rattle.exposure.specs.declared.HeldEv.the-variants as E
-use Rattle.controls.specs.declared.ThrottleSetting.{ThrottleSetting}
-use Rattle.controls.specs.declared.Item.the-variants.{Given}
 use Rattle.controls.specs.declared.Setting.the-variants as S
 use Rattle.exposure.specs.Exposure.{divisor, evBytes, unitsPerStop}
-use Rattle.face.specs.Limits.{endpointsOf, addressAt}
-use Rattle.face.specs.Answers.{entryOf, heldAt, flagsAt}
+use Rattle.face.specs.{Limits.{endpointsOf, addressAt}, Answers.{entryOf, heldAt, flagsAt}}
 use Rattle.entries.specs.Entries.{entryAddress, entryFlags}
 use Rattle.throttle.specs.Throttle.{throttleBytes}
-use Rattle.profile.specs.declared.Profile.{Profile}
-use Rattle.profile.specs.KnownControl.{KnownControl}
-use Rattle.profile.specs.Profile.{has, setLength}
+use Rattle.profile.specs.{declared.Profile.{Profile}, KnownControl.{KnownControl}, Profile.{has, setLength}}
 use Rattle.settings.specs.Settings.{settingKey}
-use Rattle.camera.specs.declared.record.Camera.{Camera}
-use Rattle.camera.specs.Record.{held}
-use Rattle.camera.specs.Requests.{cameraAnswer}
-use Rattle.encoding.specs.Encoding.{recordOf}
-use Rattle.camera.specs.Loading.{loadItem}
-use Rattle.camera.specs.Writing.{snapshot}
+use Rattle.camera.specs.{declared.record.Camera.{Camera}, Record.{held}, Requests.{cameraAnswer}, Loading.{loadItem}, Writing.{snapshot}}
 use Rattle.camera.specs.Calls.{sensed, Call, request, outcome, left, next}
-use Rattle.demands.specs.Runs.{gives, leaves}
-use Rattle.demands.specs.Cameras.{Written}
+use Rattle.encoding.specs.Encoding.{recordOf}
+use Rattle.demands.specs.{Runs.{gives, leaves}, Cameras.{Written}}
 
 -- New settings. What any call leaves of a record that is not refused 0x21: of each key the last setting that the call gives, else the one
 -- held, and the streaming flag of a notice. An accepted SET gives its payload's settings, an accepted load its records', a refused call none.

@@ -1,10 +1,8 @@
 -- Document 01, "The bench camera": its profile. It has no metadata control, whose limits are not looked at.
-use mathlib.Core.Bool.{true, false}
-use mathlib.Core.List.{[], _∷_}
+use mathlib.Core.{Bool.{true, false}, List.{[], _∷_}}
 use lib.IntN.{pos, negsuc}
 use Rattle.profile.specs.declared.Profile.{Profile}
-use Rattle.camera.specs.declared.record.Camera.{Camera}
-use Rattle.camera.specs.Record.{fresh}
+use Rattle.camera.specs.{declared.record.Camera.{Camera}, Record.{fresh}}
 
 unfoldable pub benchProfile : Profile
 benchProfile = record {

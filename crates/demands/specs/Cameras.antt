@@ -1,17 +1,12 @@
 -- Camera records that the demands speak of: one that is not refused, one that a program holds, two that are the same, one that is written.
 use Prim.Native.Nat.{ℕ, _^_, _<_}
-use mathlib.Core.Path.{_≡_}
-use mathlib.Core.List.{List, _++_}
-use mathlib.Core.Option.{some}
-use mathlib.Core.Bool.{true}
+use mathlib.Core.{Path.{_≡_}, List.{List, _++_}, Option.{some}, Bool.{true}}
 use lib.ListN.{length, take, drop}
 use Rattle.wire.specs.Endpoints as endpoint
 use Rattle.controls.specs.declared.Setting.{Setting}
 use Rattle.controls.specs.declared.Setting.the-variants as S
 use Rattle.profile.specs.declared.Profile.{Profile}
-use Rattle.camera.specs.declared.record.Camera.{Camera}
-use Rattle.camera.specs.Record.{held, recordWellFormed}
-use Rattle.camera.specs.Writing.{written, writtenOut}
+use Rattle.camera.specs.{declared.record.Camera.{Camera}, Record.{held, recordWellFormed}, Writing.{written, writtenOut}}
 
 -- a camera of the profile p that is not refused 0x21, with the face places that its type has; every call leaves such a one
 pub record Ok (p : Profile) (c : Camera) : Type 0 where

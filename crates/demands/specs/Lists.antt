@@ -1,19 +1,13 @@
 -- What the owner's demand 3 says: of a list of calls, of two snapshots that a camera accepts, and of one that a camera wrote.
 use Prim.Native.Nat.{ℕ, _≤_}
-use mathlib.Core.Path.{_≡_}
-use mathlib.Core.List.{List, _++_}
-use mathlib.Core.Bool.{Bool, true}
+use mathlib.Core.{Path.{_≡_}, List.{List, _++_}, Bool.{Bool, true}}
 use lib.ListN.{length, drop}
 use Rattle.snapshot.specs.Form.{wellFormed}
 use Rattle.merging.specs.Merging.{merged, mergeCode, mergeLen, mergeOut}
 use Rattle.profile.specs.declared.Profile.{Profile}
-use Rattle.camera.specs.declared.record.Camera.{Camera}
-use Rattle.camera.specs.Record.{fresh, held, recordWellFormed}
-use Rattle.camera.specs.Loading.{loaded}
-use Rattle.camera.specs.Writing.{snapshot}
+use Rattle.camera.specs.{declared.record.Camera.{Camera}, Record.{fresh, held, recordWellFormed}, Loading.{loaded}, Writing.{snapshot}}
 use Rattle.camera.specs.Calls.{Call}
-use Rattle.demands.specs.Runs.{flagAfter, settings, snapshotAfter, run}
-use Rattle.demands.specs.Cameras.{handedSnapshot, Written, Same}
+use Rattle.demands.specs.{Runs.{flagAfter, settings, snapshotAfter, run}, Cameras.{handedSnapshot, Written, Same}}
 
 -- The program's merge of the snapshots a and b is s: both are well formed, and with room for s it is accepted, reports the length of s, and
 -- leaves s at the buffer's start and every byte behind it as it was.

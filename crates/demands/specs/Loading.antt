@@ -1,26 +1,16 @@
 -- Document 01 on what is tested as a SET: a snapshot's records, whose load counts as those SETs, and the settings that a record holds.
 use Prim.Native.Nat.{ℕ}
-use mathlib.Core.Path.{_≡_}
-use mathlib.Core.List.{List, [], _∷_, _++_}
-use mathlib.Core.Option.{some}
-use mathlib.Core.Bool.{Bool, true, cond}
-use lib.Dec.{eqb}
-use lib.ListN.{length, drop}
-use Rattle.wire.specs.Numbers.{bytesOf}
-use Rattle.wire.specs.Rows.{firstOf}
-use Rattle.wire.specs.Uvc.{setCur}
+use mathlib.Core.{Path.{_≡_}, List.{List, [], _∷_, _++_}, Option.{some}, Bool.{Bool, true, cond}}
+use lib.{Dec.{eqb}, ListN.{length, drop}}
+use Rattle.wire.specs.{Numbers.{bytesOf}, Rows.{firstOf}, Uvc.{setCur}}
 use Rattle.request.specs.Tests.{requestTests, valueTests}
 use Rattle.snapshot.specs.Records.{KeyedRecord, recordsOf, Each}
-use Rattle.controls.specs.declared.Setting.{Setting}
-use Rattle.controls.specs.Controls.{itemCode}
+use Rattle.controls.specs.{declared.Setting.{Setting}, Controls.{itemCode}}
 use Rattle.profile.specs.declared.Profile.{Profile}
 use Rattle.settings.specs.Items.{givenOf}
-use Rattle.camera.specs.declared.record.Camera.{Camera}
-use Rattle.camera.specs.Record.{held, recordWellFormed}
-use Rattle.camera.specs.Requests.{rules}
+use Rattle.camera.specs.{declared.record.Camera.{Camera}, Record.{held, recordWellFormed}, Requests.{rules}}
+use Rattle.camera.specs.{Loading.{selectorAt, recordItem, loaded}, Calls.{Call, request, load}}
 use Rattle.encoding.specs.Encoding.{recordOf}
-use Rattle.camera.specs.Loading.{selectorAt, recordItem, loaded}
-use Rattle.camera.specs.Calls.{Call, request, load}
 use Rattle.demands.specs.Runs.{acceptsSet, gives, given, run}
 
 -- the setup of a record's SET: SET_CUR of the control of the key k, to the profile's interface and unit, which are bytes, with the length of

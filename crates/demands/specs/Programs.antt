@@ -1,19 +1,12 @@
 -- What is proved of every camera that a program holds, with nothing asked of it but 01's own words: the theorems that ask for what a record's
 -- types say, without it. `of_program` promises it of its parameter, so the types' facts are the checker's and not a reader's.
 use Prim.Native.Nat.{ℕ}
-use mathlib.Core.Path.{_≡_}
-use mathlib.Core.List.{List}
-use mathlib.Core.Bool.{true}
+use mathlib.Core.{Path.{_≡_}, List.{List}, Bool.{true}}
 use Rattle.wire.proofs.Laws.Numbers.{Bytes}
 use Rattle.request.specs.Setup.{isSetRequest, setupSelector}
 use Rattle.profile.specs.Profile.{profileValid}
-use Rattle.camera.specs.declared.record.Camera.{Camera}
-use Rattle.camera.specs.Record.{recordWellFormed}
-use Rattle.camera.specs.Loading.{loaded}
-use Rattle.camera.specs.Calls.{request, outcome, next}
-use Rattle.demands.specs.Cameras.{Ok, Typed}
-use Rattle.demands.specs.Answers.{ReadsBack, SnapshotReadsBack}
-use Rattle.demands.specs.Lists.{LoadsMerged, AcceptedInTurn, Restores}
+use Rattle.camera.specs.{declared.record.Camera.{Camera}, Record.{recordWellFormed}, Loading.{loaded}, Calls.{request, outcome, next}}
+use Rattle.demands.specs.{Cameras.{Ok, Typed}, Answers.{ReadsBack, SnapshotReadsBack}, Lists.{LoadsMerged, AcceptedInTurn, Restores}}
 use Rattle.demands.specs.Loading.{KeepsSetRules}
 
 pub record OfProgram (c : Camera) : Type 0 where

@@ -1,21 +1,16 @@
 -- Document 01, "The list of demand 3": what a list of calls gives, by the profile, the flag and the calls' bytes alone.
 use Prim.Native.Nat.{ℕ}
-use mathlib.Core.List.{List, [], _∷_, _++_}
-use mathlib.Core.Option.{Option}
-use mathlib.Core.Bool.{Bool, cond}
+use mathlib.Core.{List.{List, [], _∷_, _++_}, Option.{Option}, Bool.{Bool, cond}}
 use lib.Dec.{eqb}
 use Rattle.wire.specs.Rows.{firstOf}
-use Rattle.request.specs.Setup.{setupSelector}
-use Rattle.request.specs.Tests.{setAccepted}
+use Rattle.request.specs.{Setup.{setupSelector}, Tests.{setAccepted}}
 use Rattle.snapshot.specs.Given.{lastOf, snapshotOf}
 use Rattle.controls.specs.declared.Setting.{Setting}
 use Rattle.profile.specs.declared.Profile.{Profile}
 use Rattle.settings.specs.Items.{setGives}
-use Rattle.camera.specs.declared.record.Camera.{Camera}
-use Rattle.camera.specs.Requests.{rules}
-use Rattle.encoding.specs.Encoding.{recordOf}
-use Rattle.camera.specs.Loading.{loadTests, loadGives}
+use Rattle.camera.specs.{declared.record.Camera.{Camera}, Requests.{rules}, Loading.{loadTests, loadGives}}
 use Rattle.camera.specs.Calls.{Call, request, stream, load, write, sense, next}
+use Rattle.encoding.specs.Encoding.{recordOf}
 
 -- a SET is accepted by tests 2 to 8, with the profile and the flag at that place; they look at no setting that is held
 abbrev pub acceptsSet : Profile → Bool → List ℕ → List ℕ → Bool

@@ -1,20 +1,14 @@
 -- Document 01, "The bench camera": the rows marked (p), in the paper's order, each a pair of answers: what the definitions of `camera`,
 -- `request` and `frame` come to, and what the paper says.
 use Prim.Native.Nat.{ℕ, _+_}
-use mathlib.Core.Bool.{Bool, true}
-use mathlib.Core.List.{List, [], _∷_, map}
-use lib.ListN.{length, replicate}
-use lib.IntN.{ℤ, pos, negsuc}
+use mathlib.Core.{Bool.{Bool, true}, List.{List, [], _∷_, map}}
+use lib.{ListN.{length, replicate}, IntN.{ℤ, pos, negsuc}}
 use Rattle.wire.specs.Selectors as selector
 use Rattle.wire.specs.Uvc.{setCur}
 use Rattle.request.specs.Setup.{isSetRequest, setupSelector, setupUnit, setupInterface, setupWLength}
-use Rattle.frame.specs.declared.items.Counted.{Counted}
-use Rattle.frame.specs.Items.{blockCount, blockPayload}
-use Rattle.camera.specs.Requests.{requested}
-use Rattle.camera.specs.Writing.{snapshot}
-use Rattle.camera.specs.Calls.{Call, request, sensed}
-use Rattle.demands.specs.Runs.{run}
-use Rattle.demands.specs.Bench.{bench}
+use Rattle.frame.specs.{declared.items.Counted.{Counted}, Items.{blockCount, blockPayload}}
+use Rattle.camera.specs.{Requests.{requested}, Writing.{snapshot}, Calls.{Call, request, sensed}}
+use Rattle.demands.specs.{Runs.{run}, Bench.{bench}}
 
 -- what a row tells
 pub data Told : Type 0 where

@@ -3,15 +3,13 @@
 use camera::Camera;
 use exposure::HeldEv;
 use wire::endpoints;
-ghost use mathlib.Core.Path.{_≡_};
-ghost use mathlib.Core.Option.{some};
+ghost use mathlib.Core.{Path.{_≡_}, Option.{some}};
 ghost use Prim.Native.Nat.{ℕ, _<_, _^_};
 ghost use lib.ListN.{length, getD};
 ghost use Rattle.wire.specs.Endpoints.{places};
 ghost use Rattle.controls.specs.declared.Setting.{Setting};
 ghost use Rattle.settings.specs.Held.{evHeld};
-ghost use Rattle.demands.specs.Cameras.{settingFlags};
-ghost use Rattle.demands.specs.Programs.{OfProgram};
+ghost use Rattle.demands.specs.{Cameras.{settingFlags}, Programs.{OfProgram}};
 
 fn ev_typed(held: HeldEv)
     ensures { λ _. ⌜ ((s : Setting) → evHeld held ≡ some s → settingFlags s < 2 ^ 8) ⌝ }

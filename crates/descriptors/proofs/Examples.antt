@@ -1,14 +1,12 @@
 -- Four sets read by computation: 004's first array as it is printed (0 for the open digit of its version), the same with the name length that its
 -- sum asks for, a set with a property in it and one in a function, and a function whose feature runs past it.
 use Prim.Native.Nat.{ℕ}
-use mathlib.Core.Path.{_≡_, refl}
-use mathlib.Core.List.{List, [], _∷_}
+use mathlib.Core.{Path.{_≡_, refl}, List.{List, [], _∷_}}
 use Rattle.wire.specs.Numbers.{number, leAt}
-use Rattle.descriptors.specs.declared.header.Interface.the-variants.{Nowhere, First}
-use Rattle.descriptors.specs.Codes.{badField, pastParent}
-use Rattle.registry.specs.Registry.{goodFields}
+use Rattle.descriptors.specs.{declared.header.Interface.the-variants.{Nowhere, First}, Codes.{badField, pastParent}}
 use Rattle.descriptors.specs.Header.{allowed, propertyRefusal, subsetRefusal, descriptorRefusal, descriptorAt}
 use Rattle.descriptors.specs.Set.{refused, sound, contents, contentsOf, goodHeader, readSet}
+use Rattle.registry.specs.Registry.{goodFields}
 
 printed : List ℕ
 printed =

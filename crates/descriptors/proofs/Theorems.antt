@@ -1,31 +1,22 @@
 -- What the owner demands of descriptor sets; specs/Theorems.antt says what the words of each theorem mean. Assumes nothing.
 use Prim.Native.Nat.{ℕ, zero, suc, _+_, _-_, _%_, _≤_, _<_}
-use mathlib.Core.Path.{_≡_, refl, sym, _∙_, ap, ap₂}
-use mathlib.Core.List.{List, [], _∷_, _++_, List·Memᴰ}
-use mathlib.Core.Bool.{Bool, true, false, not, _||_, or-true, cond, false≢true}
-use mathlib.Core.Logic.{_⊎_, inl, inr, _↔_}
-use mathlib.Core.Option.{some}
+use mathlib.Core.{Path.{_≡_, refl, sym, _∙_, ap, ap₂}, List.{List, [], _∷_, _++_, List·Memᴰ}}
+use mathlib.Core.{Bool.{Bool, true, false, not, _||_, or-true, cond, false≢true}, Logic.{_⊎_, inl, inr, _↔_}, Option.{some}}
 use native.Mathlib.Omega.{arith}
-use lib.ListN.{length, take, drop, length-drop}
-use lib.Seq.{length-take-le}
-use lib.Dec.{eqb}
+use lib.{ListN.{length, take, drop, length-drop}, Seq.{length-take-le}, Dec.{eqb}}
 use borrow.Author.Tests.{leb-true, eqb-true, eq-eqb}
 use Rattle.wire.specs.Parts.{nowhere}
-use Rattle.descriptors.specs.declared.header.Interface.{Interface}
-use Rattle.descriptors.specs.declared.header.Interface.the-variants.{Nowhere, First}
-use Rattle.descriptors.specs.declared.header.Parent.{Parent}
-use Rattle.descriptors.specs.declared.header.Parent.the-variants.{Set, Configuration, Function}
-use Rattle.descriptors.specs.declared.header.Descriptor.the-variants.{Subset}
-use Rattle.descriptors.specs.declared.properties.RegistryProperty.{RegistryProperty}
+use Rattle.descriptors.specs.declared.{header.Interface.{Interface}, header.Interface.the-variants.{Nowhere, First}}
+use Rattle.descriptors.specs.declared.{header.Parent.{Parent}, header.Parent.the-variants.{Set, Configuration, Function}}
+use Rattle.descriptors.specs.declared.{header.Descriptor.the-variants.{Subset}, properties.RegistryProperty.{RegistryProperty}}
 use Rattle.descriptors.specs.Codes.{badSetHeader, noProperty}
-use Rattle.registry.specs.Registry.{propertyTests, goodFields}
 use Rattle.descriptors.specs.Header.{lengthAt, dataTypeAt, nameLengthAt, nameEndAt, dataLengthAt, descriptorAt, interfaceOf, firstInterface}
 use Rattle.descriptors.specs.Set.{PropertyPlace, SetReading, refused, sound, contentsOf, goodHeader, readSet, isSound, listed, propertiesOf}
 use Rattle.descriptors.specs.Properties.{refusedProperty, foundAt, nth, inReading, propertyOf}
 use Rattle.descriptors.specs.Calls.{DescriptorCall, check, boot-check, property, callCode, callParts}
-use Rattle.descriptors.specs.Theorems.{AllNowhere, FirstFault, RefusedFor, SoundSet, StandingProperty, Inside}
-use Rattle.descriptors.specs.Scan.{depth}
+use Rattle.descriptors.specs.{Theorems.{AllNowhere, FirstFault, RefusedFor, SoundSet, StandingProperty, Inside}, Scan.{depth}}
 use Rattle.descriptors.specs.Levels.{spansOf, Reached, top, behind, inside, Stands, InFunction, Follows, Ascends}
+use Rattle.registry.specs.Registry.{propertyTests, goodFields}
 use Rattle.descriptors.proofs.Laws.Sound.{holds, sum-holds, known-as}
 use Rattle.descriptors.proofs.Laws.Contents.{sound-accepts}
 use Rattle.descriptors.proofs.Laws.Proper.{Lies, AllLie, Proper, contents-proper}

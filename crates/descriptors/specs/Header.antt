@@ -1,18 +1,12 @@
 -- One descriptor by itself (document 01, "Descriptor set"): its fields, what may stand where, and the first test that refuses it.
 -- A set is the list of its bytes, and a descriptor's offset counts from the set's start.
 use Prim.Native.Nat.{ℕ, _+_, _-_}
-use mathlib.Core.List.{List, [], _∷_}
-use mathlib.Core.Option.{Option, none, some}
-use mathlib.Core.Bool.{Bool, not, _&&_, _||_, cond}
-use lib.ListN.{getD}
-use lib.Dec.{ltb, leb, eqb}
-use Rattle.wire.specs.Numbers.{leAt}
-use Rattle.wire.specs.Rows.{_⇒_, firstOf}
+use mathlib.Core.{List.{List, [], _∷_}, Option.{Option, none, some}, Bool.{Bool, not, _&&_, _||_, cond}}
+use lib.{ListN.{getD}, Dec.{ltb, leb, eqb}}
+use Rattle.wire.specs.{Numbers.{leAt}, Rows.{_⇒_, firstOf}}
 use Rattle.registry.specs.Registry.{goodFields}
-use Rattle.descriptors.specs.declared.header.Interface.{Interface}
-use Rattle.descriptors.specs.declared.header.Interface.the-variants.{Nowhere, First}
-use Rattle.descriptors.specs.declared.header.Parent.{Parent}
-use Rattle.descriptors.specs.declared.header.Parent.the-variants.{Set, Configuration, Function}
+use Rattle.descriptors.specs.declared.{header.Interface.{Interface}, header.Interface.the-variants.{Nowhere, First}}
+use Rattle.descriptors.specs.declared.{header.Parent.{Parent}, header.Parent.the-variants.{Set, Configuration, Function}}
 use Rattle.descriptors.specs.declared.header.Descriptor.{Descriptor}
 use Rattle.descriptors.specs.declared.header.Descriptor.the-variants.{Refused, Opaque, Property, Subset}
 use Rattle.descriptors.specs.Codes.{pastParent, badType, badLength, badField, configuration, function, firstFeature, property, lastFeature}

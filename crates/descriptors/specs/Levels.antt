@@ -1,12 +1,8 @@
 -- Where descriptors stand in a set: what reading it comes to at each of its levels, the descriptors of one level, and byte order.
 use Prim.Native.Nat.{ℕ, zero, suc, _+_, _≤_, _<_}
-use mathlib.Core.Path.{_≡_}
-use mathlib.Core.List.{List, [], _∷_}
-use mathlib.Core.Bool.{_&&_, cond}
-use lib.ListN.{length}
-use lib.Dec.{ltb, eqb}
-use Rattle.descriptors.specs.declared.header.Parent.{Parent}
-use Rattle.descriptors.specs.declared.header.Parent.the-variants.{Set, Configuration}
+use mathlib.Core.{Path.{_≡_}, List.{List, [], _∷_}, Bool.{_&&_, cond}}
+use lib.{ListN.{length}, Dec.{ltb, eqb}}
+use Rattle.descriptors.specs.declared.{header.Parent.{Parent}, header.Parent.the-variants.{Set, Configuration}}
 use Rattle.descriptors.specs.declared.header.Descriptor.the-variants.{Subset}
 use Rattle.descriptors.specs.Header.{typeAt, totalAt, interfaceByte, descriptorRefusal, descriptorAt}
 use Rattle.descriptors.specs.Set.{PropertyPlace, descriptorSize}

@@ -7,12 +7,10 @@ use Rattle.wire.specs.Selectors as selector
 use Rattle.snapshot.specs.Given.{snapshotOf}
 use Rattle.controls.specs.declared.Setting.{Setting}
 use Rattle.controls.specs.declared.Setting.the-variants as S
-use Rattle.throttle.specs.declared.ThrottleLimits.{ThrottleLimits}
+use Rattle.throttle.specs.{declared.ThrottleLimits.{ThrottleLimits}, Throttle.{throttleBytes}}
 use Rattle.exposure.specs.Exposure.{evBytes}
 use Rattle.face.specs.Answers.{entryOf}
-use Rattle.throttle.specs.Throttle.{throttleBytes}
-use Rattle.settings.specs.declared.settings.Settings.{Settings}
-use Rattle.settings.specs.Held.{settingsHeld}
+use Rattle.settings.specs.{declared.settings.Settings.{Settings}, Held.{settingsHeld}}
 
 -- a record: its length and its kind, two bytes each, then a SET payload
 abbrev pub framed : ℕ → List ℕ → List ℕ

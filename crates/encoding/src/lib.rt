@@ -8,16 +8,12 @@ use controls::ThrottleSetting;
 use settings::Settings;
 use wire::endpoints;
 use wire::selectors;
-ghost use mathlib.Core.Path.{_≡_};
-ghost use mathlib.Core.Bool.{cond};
-ghost use lib.Dec.{eqb};
-ghost use lib.ListN.{length};
-ghost use Rattle.wire.specs.Writes.{overlay};
-ghost use Rattle.wire.specs.Numbers.{bytesOf};
+ghost use mathlib.Core.{Path.{_≡_}, Bool.{cond}};
+ghost use lib.{Dec.{eqb}, ListN.{length}};
+ghost use Rattle.wire.specs.{Writes.{overlay}, Numbers.{bytesOf}};
 ghost use Rattle.controls.specs.Controls.{settingHeld};
 ghost use Rattle.settings.specs.Held.{faceHeld};
-ghost use Rattle.encoding.specs.Encoding.{framed, recordOf, encoded};
-ghost use Rattle.encoding.specs.Steps.{recordHeld};
+ghost use Rattle.encoding.specs.{Encoding.{framed, recordOf, encoded}, Steps.{recordHeld}};
 
 // Each of these writes the record of a setting at a place, as far as out reaches.
 fn put_ev(out: &mut [u8], at: usize, s: EvSetting)

@@ -1,22 +1,12 @@
 -- Document 01, "Face": SET's value tests entry by entry, and settings held.
 use Prim.Native.Nat.{ℕ, zero, suc, _+_, _*_, _-_}
-use mathlib.Core.List.{List, [], _∷_}
-use mathlib.Core.Bool.{Bool, true, false, cond, not, _&&_, _||_}
-use lib.Dec.{leb, eqb}
-use lib.ListN.{getD, set}
-use Rattle.wire.specs.Endpoints.{firstAddress, places}
-use Rattle.wire.specs.Numbers.{leAt}
-use Rattle.wire.specs.Rows.{_⇒_, firstOf}
-use Rattle.wire.specs.Uvc.{invalidValue, outOfRange}
-use Rattle.flags.specs.declared.Choice.{Choice}
-use Rattle.flags.specs.declared.Choice.the-variants.{At, Refused}
-use Rattle.flags.specs.Flags.{oneFlag}
-use Rattle.controls.specs.declared.Item.{Item}
+use mathlib.Core.{List.{List, [], _∷_}, Bool.{Bool, true, false, cond, not, _&&_, _||_}}
+use lib.{Dec.{leb, eqb}, ListN.{getD, set}}
+use Rattle.wire.specs.{Endpoints.{firstAddress, places}, Numbers.{leAt}, Rows.{_⇒_, firstOf, allBelow}, Uvc.{invalidValue, outOfRange}}
+use Rattle.flags.specs.{declared.{Choice.{Choice}, Choice.the-variants.{At, Refused}}, Flags.{oneFlag}}
+use Rattle.controls.specs.{declared.Item.{Item}, Controls.{itemOf, firstRefusal}}
 use Rattle.controls.specs.declared.Setting.the-variants as S
-use Rattle.controls.specs.Controls.{itemOf, firstRefusal}
-use Rattle.face.specs.declared.limits.FaceLimits.{FaceLimits}
-use Rattle.face.specs.Limits.{offersOf}
-use Rattle.wire.specs.Rows.{allBelow}
+use Rattle.face.specs.{declared.limits.FaceLimits.{FaceLimits}, Limits.{offersOf}}
 use Rattle.entries.specs.declared.FacesTaken.{FacesTaken}
 
 -- entry i of a payload

@@ -1,24 +1,14 @@
 -- Document 01, "EV": limits, SET's value tests, answers, and the number handed to the sensor.
 use Prim.Native.Nat.{ℕ, _/_}
-use mathlib.Core.List.{List, [], _∷_, _++_}
-use mathlib.Core.Bool.{Bool, cond, _&&_}
-use lib.Dec.{leb, ltb, eqb}
-use lib.ListN.{getD}
-use lib.IntN.{ℤ, pos, negsuc, _*ℤ_}
-use lib.Signed.{leZ}
-use Rattle.wire.specs.Numbers.{leAt, bytesOf, signed32, bits32}
-use Rattle.flags.specs.Flags.{oneFlag}
-use Rattle.flags.specs.declared.Choice.{Choice}
-use Rattle.flags.specs.declared.Choice.the-variants.{At, Refused}
-use Rattle.wire.specs.Uvc.{getCur, getMax, getMin, getRes, invalidValue, outOfRange}
-use Rattle.exposure.specs.declared.EvLimits.{EvLimits}
-use Rattle.controls.specs.declared.EvSetting.{EvSetting}
-use Rattle.exposure.specs.declared.HeldEv.{HeldEv}
+use mathlib.Core.{List.{List, [], _∷_, _++_}, Bool.{Bool, cond, _&&_}}
+use lib.{Dec.{leb, ltb, eqb}, ListN.{getD}, IntN.{ℤ, pos, negsuc, _*ℤ_}, Signed.{leZ}}
+use Rattle.wire.specs.{Numbers.{leAt, bytesOf, signed32, bits32}, Uvc.{getCur, getMax, getMin, getRes, invalidValue, outOfRange}}
+use Rattle.flags.specs.{declared.{Choice.{Choice}, Choice.the-variants.{At, Refused}}, Flags.{oneFlag}}
+use Rattle.exposure.specs.declared.{EvLimits.{EvLimits}, HeldEv.{HeldEv}}
+use Rattle.controls.specs.{declared.{EvSetting.{EvSetting}, Item.{Item}}, Controls.{itemOf}}
 use Rattle.exposure.specs.declared.HeldEv.the-variants as E
-use Rattle.controls.specs.declared.Item.{Item}
 use Rattle.controls.specs.declared.Setting.the-variants as S
 use Rattle.request.specs.Answers.{answerBy}
-use Rattle.controls.specs.Controls.{itemOf}
 
 -- whole stops from -128..0 to 0..127; steps within D0..D4, D4 among them
 abbrev pub evValid : EvLimits → Bool

@@ -1,15 +1,10 @@
 -- Document 01, "Face": GET's answers, one entry for each endpoint.
 use Prim.Native.Nat.{ℕ, zero, suc, _+_, _*_, _-_, _%_}
-use mathlib.Core.List.{List, [], _∷_, _++_}
-use mathlib.Core.Bool.{cond, _||_}
-use lib.Dec.{eqb}
-use lib.ListN.{getD}
-use Rattle.wire.specs.Endpoints.{firstAddress}
-use Rattle.wire.specs.Numbers.{bytesOf}
-use Rattle.wire.specs.Uvc.{getCur, getMax, getMin, getRes}
+use mathlib.Core.{List.{List, [], _∷_, _++_}, Bool.{cond, _||_}}
+use lib.{Dec.{eqb}, ListN.{getD}}
+use Rattle.wire.specs.{Endpoints.{firstAddress}, Numbers.{bytesOf}, Uvc.{getCur, getMax, getMin, getRes}}
 use Rattle.request.specs.Answers.{answerBy}
-use Rattle.face.specs.declared.limits.FaceLimits.{FaceLimits}
-use Rattle.face.specs.Limits.{endpointsOf, addressAt, offersAt}
+use Rattle.face.specs.{declared.limits.FaceLimits.{FaceLimits}, Limits.{endpointsOf, addressAt, offersAt}}
 
 -- an entry's bytes
 abbrev pub entryOf : ℕ → ℕ → List ℕ

@@ -1,10 +1,8 @@
 -- Document 01, "Face": the endpoints that a profile lists.
 use Prim.Native.Nat.{ℕ, zero, suc, _-_, _/_, min}
 use mathlib.Core.Bool.{Bool, cond, _&&_, _||_}
-use lib.Dec.{leb, ltb, eqb}
-use lib.ListN.{getD}
-use Rattle.wire.specs.Rows.{allBelow}
-use Rattle.wire.specs.Endpoints.{firstAddress, lastAddress, endpointLimit}
+use lib.{Dec.{leb, ltb, eqb}, ListN.{getD}}
+use Rattle.wire.specs.{Rows.{allBelow}, Endpoints.{firstAddress, lastAddress, endpointLimit}}
 use Rattle.face.specs.declared.limits.FaceLimits.{FaceLimits}
 
 -- how many it lists; a valid profile's count is no more than its places

@@ -1,10 +1,8 @@
 -- The flags of exposure compensation and face authentication: 56 bits, of which exactly one is to be set.
 use Prim.Native.Nat.{ℕ, zero, suc, _/_, _%_, _^_}
-use mathlib.Core.List.{List, [], _∷_}
-use mathlib.Core.Bool.{Bool, true, false, cond, _&&_}
+use mathlib.Core.{List.{List, [], _∷_}, Bool.{Bool, true, false, cond, _&&_}}
 use lib.Dec.{eqb}
-use Rattle.flags.specs.declared.Choice.{Choice}
-use Rattle.flags.specs.declared.Choice.the-variants.{At, Refused}
+use Rattle.flags.specs.declared.{Choice.{Choice}, Choice.the-variants.{At, Refused}}
 
 -- whether bit k of n is set
 unfoldable pub isSet : ℕ → ℕ → Bool

@@ -1,11 +1,8 @@
 -- Worked rows, computed from the definitions: document 01's item rows first.
 use Prim.Native.Nat.{ℕ}
-use mathlib.Core.Path.{_≡_, refl}
-use mathlib.Core.List.{List, [], _∷_, map}
-use Rattle.wire.specs.Numbers.{number, leAt, bytesOf}
-use Rattle.wire.specs.Writes.{overlay}
-use Rattle.frame.specs.Ids.{isKnown}
-use Rattle.frame.specs.Items.{refused, sound, itemRefusal, firstItem, itemsIn, itemsFrom, blockItems}
+use mathlib.Core.{Path.{_≡_, refl}, List.{List, [], _∷_, map}}
+use Rattle.wire.specs.{Numbers.{number, leAt, bytesOf}, Writes.{overlay}}
+use Rattle.frame.specs.{Ids.{isKnown}, Items.{refused, sound, itemRefusal, firstItem, itemsIn, itemsFrom, blockItems}}
 use Rattle.frame.specs.Writer.{itemBytes, appendRefusal, writtenOf}
 
 -- one item of 8 payload bytes; with one byte fewer; of size 8, with an empty payload; an id that is not known before a size that is not one

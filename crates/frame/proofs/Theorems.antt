@@ -1,28 +1,21 @@
 -- The owner's demands on frame metadata, over the definitions that the functions' promises name.
 use Prim.Native.Nat.{ℕ, _^_, _≤_, _<_}
-use mathlib.Core.Path.{_≡_, refl, sym, ap, _∙_}
-use mathlib.Core.List.{List, [], _∷_, _++_}
+use mathlib.Core.{Path.{_≡_, refl, sym, ap, _∙_}, List.{List, [], _∷_, _++_}}
 use native.Mathlib.Omega.{arith}
 use lib.ListN.{length, take, length-append, List·getD-append}
-use Rattle.frame.specs.Codes.{longestBlock}
-use Rattle.wire.proofs.Laws.Numbers.{Bytes}
-use Rattle.frame.specs.declared.items.Found.{Found}
+use Rattle.frame.specs.{declared.{items.Found.{Found}, view.ItemView.{ItemView}}, Codes.{longestBlock}, View.{Views}}
+use Rattle.frame.specs.Items.{MetadataItem, absent, BlockReading, refused, sound, blockItems, nthItem, foundIn, blockItem, blockCount, blockPayload}
+use Rattle.frame.specs.{Writer.{layout, Writable}, Calls.{FrameCall, item, count, append, frameOutcome}}
+use Rattle.frame.specs.Theorems.{FrameRefused, HandedOut, Viewed, AppendReadsBack, appending, afterwards}
+use Rattle.wire.proofs.Laws.{Numbers.{Bytes}, Parts.{stands-at}}
 use denote.Ref.{RefT, now}
 use Rattle.wire.specs.Parts.{bytesAt, LiesIn}
-use Rattle.wire.proofs.Laws.Parts.{stands-at}
-use Rattle.frame.specs.declared.view.ItemView.{ItemView}
-use Rattle.frame.specs.View.{Views}
-use Rattle.frame.specs.Items.{MetadataItem, absent, BlockReading, refused, sound, blockItems}
-use Rattle.frame.specs.Items.{nthItem, foundIn, blockItem, blockCount, blockPayload}
-use Rattle.frame.specs.Writer.{layout, Writable}
 use Rattle.frame.proofs.Laws.Walk.{short-enough}
 use Rattle.frame.proofs.Laws.Located.{located, there, not-there}
 use Rattle.frame.proofs.Laws.Layout.{reads-all, written-again}
 use Rattle.frame.proofs.Laws.Appended.{sound-block, before-it, last-item, last-of, new-length, new-items}
 use Rattle.frame.proofs.Laws.Append.{accepted, accepts, reports}
 use Rattle.frame.proofs.Laws.Refusals.{item-refused, count-refused, append-refused}
-use Rattle.frame.specs.Calls.{FrameCall, item, count, append, frameOutcome}
-use Rattle.frame.specs.Theorems.{FrameRefused, HandedOut, Viewed, AppendReadsBack, appending, afterwards}
 
 -- Demand 1: what a refused call leaves.
 pub refusal-leaves-nothing : (c : FrameCall) → (frameOutcome c .code ≡ 0 → ⊥) → FrameRefused c (frameOutcome c)

@@ -3,8 +3,7 @@ use Prim.Native.Nat.{ℕ}
 use mathlib.Core.List.{List, [], _∷_}
 use lib.ListN.{length}
 use Rattle.wire.specs.declared.parts.Part.{Part}
-use Rattle.frame.specs.Items.{blockItem, blockCount}
-use Rattle.frame.specs.Writer.{appendedOf, writtenOf}
+use Rattle.frame.specs.{Items.{blockItem, blockCount}, Writer.{appendedOf, writtenOf}}
 
 -- `item` stands for `item_view` too, which has its answer and hands back the part itself at that place
 pub data FrameCall : Type 0 where

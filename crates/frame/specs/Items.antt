@@ -1,22 +1,12 @@
 -- Which items a metadata block holds, or its first fault, by document 01's tests of an item in its order; and what asking for item k and for
 -- the number of items hand back.
-use Prim.Native.Nat.{ℕ, zero, suc, _-_}
-use mathlib.Core.List.{List, [], _∷_}
-use mathlib.Core.Bool.{not, cond}
-use lib.ListN.{length, take, drop}
-use lib.Dec.{ltb, eqb}
-use Rattle.wire.specs.Numbers.{leAt}
-use Rattle.frame.specs.declared.items.Head.{Head}
-use Rattle.frame.specs.declared.items.Head.the-variants.{Bad, Whole}
-use Rattle.frame.specs.Codes.{truncated, unknownId, shortSize, tooLong, longestBlock}
-use Rattle.wire.specs.Rows.{_⇒_, firstOf}
-use Rattle.frame.specs.Ids.{isKnown}
-use Prim.Native.Nat.{ℕ, zero, suc, _+_}
-use lib.ListN.{length}
-use Rattle.frame.specs.declared.items.Found.{Found}
-use Rattle.frame.specs.declared.items.Counted.{Counted}
-use Rattle.frame.specs.Codes.{noItem}
-use Rattle.wire.specs.Parts.{bytesAt, nowhere}
+use Prim.Native.Nat.{ℕ, zero, suc, _-_, _+_}
+use mathlib.Core.{List.{List, [], _∷_}, Bool.{not, cond}}
+use lib.{ListN.{length, take, drop}, Dec.{ltb, eqb}}
+use Rattle.wire.specs.{Numbers.{leAt}, Rows.{_⇒_, firstOf}, Parts.{bytesAt, nowhere}}
+use Rattle.frame.specs.declared.{items.Head.{Head}, items.Head.the-variants.{Bad, Whole}}
+use Rattle.frame.specs.{Codes.{truncated, unknownId, shortSize, tooLong, longestBlock, noItem}, Ids.{isKnown}}
+use Rattle.frame.specs.declared.{items.Found.{Found}, items.Counted.{Counted}}
 
 -- an item: its id, and the bytes of its payload
 pub record MetadataItem : Type 0 where

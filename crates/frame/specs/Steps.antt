@@ -1,13 +1,9 @@
 -- Steps of the code: what the reader's private functions hand back, by what `specs/Items.antt` finds. No statement depends on this file.
 use Prim.Native.Nat.{ℕ, suc, _+_}
-use mathlib.Core.List.{List, [], _∷_}
-use mathlib.Core.Bool.{cond}
-use lib.ListN.{length}
-use lib.Dec.{eqb}
-use Rattle.frame.specs.declared.items.Found.{Found}
-use Rattle.frame.specs.declared.items.Survey.{Survey}
-use Rattle.frame.specs.Items.{MetadataItem, BlockReading, refused, sound}
-use Rattle.frame.specs.Items.{refusedItem, foundIn, countIn}
+use mathlib.Core.{List.{List, [], _∷_}, Bool.{cond}}
+use lib.{ListN.{length}, Dec.{eqb}}
+use Rattle.frame.specs.declared.{items.Found.{Found}, items.Survey.{Survey}}
+use Rattle.frame.specs.Items.{MetadataItem, BlockReading, refused, sound, refusedItem, foundIn, countIn}
 
 -- both answers of one walk
 abbrev pub surveyOf : ℕ → BlockReading → Survey

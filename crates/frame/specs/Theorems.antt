@@ -1,16 +1,12 @@
 -- What the theorems of this crate say: the owner's demands on frame metadata.
 use Prim.Native.Nat.{ℕ, _+_, _≤_, _<_}
-use mathlib.Core.Path.{_≡_}
-use mathlib.Core.List.{List, [], _∷_, _++_}
+use mathlib.Core.{Path.{_≡_}, List.{List, [], _∷_, _++_}}
 use lib.ListN.{length, take, getD}
 use denote.Ref.{RefT, ptr, now}
 use Rattle.wire.specs.Parts.{nowhere}
-use Rattle.frame.specs.declared.writer.Appended.{Appended}
-use Rattle.frame.specs.Codes.{noItem}
-use Rattle.frame.specs.Items.{MetadataItem, absent, sound, blockItems}
-use Rattle.frame.specs.Items.{refusedItem, blockItem, blockCount, blockPayload}
-use Rattle.frame.specs.Writer.{appendedOf, writtenOf}
-use Rattle.frame.specs.Calls.{FrameCall, frameLent, FrameOutcome}
+use Rattle.frame.specs.{declared.writer.Appended.{Appended}, Codes.{noItem}}
+use Rattle.frame.specs.Items.{MetadataItem, absent, sound, blockItems, refusedItem, blockItem, blockCount, blockPayload}
+use Rattle.frame.specs.{Writer.{appendedOf, writtenOf}, Calls.{FrameCall, frameLent, FrameOutcome}}
 
 -- each of them is x
 abbrev pub All : {A : Type 0} → A → List A → Type 0

@@ -1,11 +1,9 @@
 -- What a view of an item is: the answer of `item`, and at the place that it gives the part itself of the caller's block.
 use Prim.Native.Nat.{ℕ}
-use mathlib.Core.Path.{_≡_}
-use mathlib.Core.List.{List}
+use mathlib.Core.{Path.{_≡_}, List.{List}}
 use denote.Ref.{RefT}
 use Rattle.wire.specs.Parts.{PartOf}
-use Rattle.frame.specs.declared.items.Found.{Found}
-use Rattle.frame.specs.declared.view.ItemView.{ItemView}
+use Rattle.frame.specs.declared.{items.Found.{Found}, view.ItemView.{ItemView}}
 
 pub record Views (block : RefT (List ℕ)) (f : Found) (v : ItemView) : Type 0 where
   pub same-code : v .code ≡ f .code

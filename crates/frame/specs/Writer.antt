@@ -1,17 +1,9 @@
 -- Appending one item at a place of a lent buffer: document 01's tests in its order, and the bytes.
 use Prim.Native.Nat.{ℕ, _+_, _^_, _<_}
-use mathlib.Core.Path.{_≡_}
-use mathlib.Core.List.{List, [], _∷_, _++_}
-use mathlib.Core.Bool.{true, not, cond}
-use lib.ListN.{length}
-use lib.Dec.{ltb, eqb}
-use Rattle.wire.specs.Numbers.{bytesOf}
-use Rattle.wire.specs.Writes.{overlay}
-use Rattle.frame.specs.declared.writer.Appended.{Appended}
-use Rattle.wire.specs.Uvc.{noRoom}
-use Rattle.frame.specs.Codes.{unknownId, tooLong, longestBlock}
-use Rattle.wire.specs.Rows.{_⇒_, firstOf}
-use Rattle.frame.specs.Ids.{isKnown}
+use mathlib.Core.{Path.{_≡_}, List.{List, [], _∷_, _++_}, Bool.{true, not, cond}}
+use lib.{ListN.{length}, Dec.{ltb, eqb}}
+use Rattle.wire.specs.{Numbers.{bytesOf}, Writes.{overlay}, Uvc.{noRoom}, Rows.{_⇒_, firstOf}}
+use Rattle.frame.specs.{declared.writer.Appended.{Appended}, Codes.{unknownId, tooLong, longestBlock}, Ids.{isKnown}}
 use Rattle.frame.specs.Items.{MetadataItem}
 
 -- id, size of the whole item, payload

@@ -4,8 +4,7 @@ use crate::ids::is_known;
 use wire::Part;
 ghost use mathlib.Core.Path.{_≡_};
 ghost use Prim.Native.Nat.{_+_, _-_, _≤_};
-ghost use Rattle.frame.specs.Items.{firstItem, blockItems};
-ghost use Rattle.frame.specs.Items.{refusedItem, blockItem, blockCount};
+ghost use Rattle.frame.specs.Items.{firstItem, blockItems, refusedItem, blockItem, blockCount};
 ghost use Rattle.frame.specs.Steps.{passItem, stoppedAt, surveyOf};
 
 // The most bytes a block may have.

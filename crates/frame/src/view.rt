@@ -1,7 +1,6 @@
 // The item reader that hands the payload itself back, in a struct that holds that part of the caller's block.
 use crate::items::item;
-ghost use Rattle.frame.specs.Items.{blockItem};
-ghost use Rattle.frame.specs.View.{Views};
+ghost use Rattle.frame.specs.{Items.{blockItem}, View.{Views}};
 
 // An item's id and its payload, with code 0; or a refusal, with id 0 and an empty part.
 pub struct ItemView<'a> {

@@ -1,17 +1,12 @@
 -- Document 01, "HDR": four bytes, 0 off, 1 on, 2 auto.
 use Prim.Native.Nat.{ℕ}
-use mathlib.Core.List.{List, [], _∷_}
-use mathlib.Core.Bool.{cond, not, _&&_}
+use mathlib.Core.{List.{List, [], _∷_}, Bool.{cond, not, _&&_}}
 use lib.Dec.{ltb, eqb}
-use Rattle.wire.specs.Numbers.{leAt, bytesOf}
-use Rattle.wire.specs.Rows.{_⇒_, firstOf}
-use Rattle.wire.specs.Uvc.{getCur, getMax, invalidValue, outOfRange}
-use Rattle.controls.specs.declared.HeldNumber.{HeldNumber}
-use Rattle.controls.specs.declared.Item.{Item}
+use Rattle.wire.specs.{Numbers.{leAt, bytesOf}, Rows.{_⇒_, firstOf}, Uvc.{getCur, getMax, invalidValue, outOfRange}}
+use Rattle.controls.specs.{declared.{HeldNumber.{HeldNumber}, Item.{Item}}, Controls.{itemOf, numberOr}}
 use Rattle.hdr.specs.declared.HdrLimits.{HdrLimits}
 use Rattle.controls.specs.declared.Setting.the-variants as S
 use Rattle.request.specs.Answers.{answerBy}
-use Rattle.controls.specs.Controls.{itemOf, numberOr}
 
 -- above 2, then 2 without Auto
 unfoldable pub hdrRefusal : HdrLimits → ℕ → ℕ

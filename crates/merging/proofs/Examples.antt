@@ -1,9 +1,7 @@
 -- A merge worked out from the definitions. Assumes nothing.
-use mathlib.Core.Path.{_≡_, refl}
-use mathlib.Core.List.{_++_}
+use mathlib.Core.{Path.{_≡_, refl}, List.{_++_}}
 use Rattle.wire.specs.Numbers.{leAt, number}
-use Rattle.snapshot.specs.Form.{soundRecord, statedKey}
-use Rattle.snapshot.specs.Records.{stands, skip, from, recordAt, decode, records, encode}
+use Rattle.snapshot.specs.{Form.{soundRecord, statedKey}, Records.{stands, skip, from, recordAt, decode, records, encode}}
 use Rattle.snapshot.proofs.Examples.{ev, face, hdr}
 use Rattle.merging.specs.Merging.{merged}
 

@@ -1,7 +1,6 @@
 -- Each statement of specs/Theorems. Assumes nothing.
 use native.Mathlib.Omega.{arith}
-use mathlib.Core.Path.{sym, ap, _∙_}
-use mathlib.Core.List.{[]}
+use mathlib.Core.{Path.{sym, ap, _∙_}, List.{[]}}
 use Rattle.snapshot.proofs.Laws.Form as form
 use Rattle.snapshot.proofs.Theorems.{in-order}
 use Rattle.merging.specs.Merging.{merged}

@@ -1,15 +1,9 @@
 -- What is proved of merging, the owner's demands as far as they speak of it, over the definitions that the promise of `merge` equates its
 -- results to. proofs/Theorems proves each.
 use Prim.Native.Nat.{ℕ, _≤_}
-use mathlib.Core.Path.{_≡_}
-use mathlib.Core.Bool.{true}
-use mathlib.Core.List.{List, [], _++_}
+use mathlib.Core.{Path.{_≡_}, Bool.{true}, List.{List, [], _++_}}
 use lib.ListN.{length, drop}
-use Rattle.snapshot.specs.Keys.{longestSnapshot}
-use Rattle.snapshot.specs.Form.{wellFormed}
-use Rattle.snapshot.specs.Records.{decode}
-use Rattle.snapshot.specs.Given.{over}
-use Rattle.snapshot.specs.Theorems.{InOrder}
+use Rattle.snapshot.specs.{Keys.{longestSnapshot}, Form.{wellFormed}, Records.{decode}, Given.{over}, Theorems.{InOrder}}
 use Rattle.merging.specs.Merging.{merged, Apart, mergeCode, mergeLen, mergeOut, handedMerge, Alike}
 
 -- Demand 1, a refused call changes no byte of any lent buffer, and (01, "Any refusal") reports a count of 0.

@@ -1,17 +1,12 @@
 -- Document 01, "Metadata": four bytes, writable or read-only.
 use Prim.Native.Nat.{ℕ}
-use mathlib.Core.List.{List, [], _∷_}
-use mathlib.Core.Bool.{Bool, cond, not, _||_}
+use mathlib.Core.{List.{List, [], _∷_}, Bool.{Bool, cond, not, _||_}}
 use lib.Dec.{leb, ltb, eqb}
-use Rattle.wire.specs.Numbers.{leAt, bytesOf}
-use Rattle.wire.specs.Rows.{_⇒_, firstOf}
-use Rattle.wire.specs.Uvc.{getCur, getMax, getRes, invalidValue, outOfRange}
+use Rattle.wire.specs.{Numbers.{leAt, bytesOf}, Rows.{_⇒_, firstOf}, Uvc.{getCur, getMax, getRes, invalidValue, outOfRange}}
 use Rattle.metadata.specs.declared.MetadataLimits.{MetadataLimits}
-use Rattle.controls.specs.declared.HeldNumber.{HeldNumber}
-use Rattle.controls.specs.declared.Item.{Item}
+use Rattle.controls.specs.{declared.{HeldNumber.{HeldNumber}, Item.{Item}}, Controls.{itemOf, numberOr}}
 use Rattle.controls.specs.declared.Setting.the-variants as S
 use Rattle.request.specs.Answers.{answerBy}
-use Rattle.controls.specs.Controls.{itemOf, numberOr}
 
 abbrev pub metadataValid : MetadataLimits → Bool
 metadataValid l = leb 1 (l .maximum)

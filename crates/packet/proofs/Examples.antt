@@ -1,6 +1,5 @@
 -- Worked rows, computed from the definitions.
-use mathlib.Core.Path.{_≡_, refl}
-use mathlib.Core.List.{[], _∷_, map}
+use mathlib.Core.{Path.{_≡_, refl}, List.{[], _∷_, map}}
 use Rattle.flags.specs.Flags.{isSet}
 use Rattle.packet.specs.Packet.{hasFlag, headerRefusal, headerOf, refusedHeader}
 

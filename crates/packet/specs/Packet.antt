@@ -1,17 +1,11 @@
 -- The payload header of a packet: byte 0 its length (bHeaderLength), byte 1 flags (bmHeaderInfo, the bit field header BFH), the fields that PTS
 -- (dwPresentationTime) and SCR (scrSourceClock) announce, and the metadata to its end.
 use Prim.Native.Nat.{ℕ, _+_, _-_}
-use mathlib.Core.List.{List, [], _∷_}
-use mathlib.Core.Bool.{Bool, cond}
-use lib.ListN.{length, getD}
-use lib.Dec.{ltb, eqb}
+use mathlib.Core.{List.{List, [], _∷_}, Bool.{Bool, cond}}
+use lib.{ListN.{length, getD}, Dec.{ltb, eqb}}
 use Rattle.flags.specs.Flags.{isSet}
-use Rattle.packet.specs.declared.Flag.{Flag}
-use Rattle.packet.specs.declared.Flag.the-variants.{Fid, Eof, Pts, Scr, Err}
-use Rattle.packet.specs.declared.PayloadHeader.{PayloadHeader}
-use Rattle.wire.specs.Rows.{_⇒_, firstOf}
-use Rattle.wire.specs.Parts.{nowhere}
-use Prim.Native.Nat.{ℕ}
+use Rattle.packet.specs.declared.{Flag.{Flag}, Flag.the-variants.{Fid, Eof, Pts, Scr, Err}, PayloadHeader.{PayloadHeader}}
+use Rattle.wire.specs.{Rows.{_⇒_, firstOf}, Parts.{nowhere}}
 
 -- a packet under 2 bytes, or a header past its end
 abbrev pub cutHeader : ℕ

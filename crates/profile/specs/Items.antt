@@ -1,12 +1,9 @@
 -- What a SET's payload comes to, item by item: the first refusal answers.
 use Prim.Native.Nat.{ℕ}
-use mathlib.Core.List.{List}
-use mathlib.Core.Bool.{cond}
-use lib.Dec.{eqb}
-use lib.ListN.{getD}
+use mathlib.Core.{List.{List}, Bool.{cond}}
+use lib.{Dec.{eqb}, ListN.{getD}}
 use Rattle.wire.specs.Selectors.{ev, face, metadata, hdr}
-use Rattle.controls.specs.declared.Item.{Item}
-use Rattle.controls.specs.Controls.{itemCode, firstRefusal}
+use Rattle.controls.specs.{declared.Item.{Item}, Controls.{itemCode, firstRefusal}}
 use Rattle.exposure.specs.Exposure.{evItem}
 use Rattle.entries.specs.Entries.{faceItem}
 use Rattle.metadata.specs.Metadata.{metadataItem}

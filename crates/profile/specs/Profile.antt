@@ -1,14 +1,9 @@
 -- Document 01, "Profile and camera record": presence bits and limits; and what a SET of a control takes.
 use Prim.Native.Nat.{ℕ, _+_, _-_, _*_, _^_}
-use mathlib.Core.List.{List, [], _∷_}
-use mathlib.Core.Bool.{Bool, cond, not, _||_}
+use mathlib.Core.{List.{List, [], _∷_}, Bool.{Bool, cond, not, _||_}}
 use lib.Dec.{eqb}
-use Rattle.wire.specs.Rows.{_⇒_, firstOf, allOf}
-use Rattle.wire.specs.Selectors.{ev, face, metadata, hdr, throttle}
-use Rattle.wire.specs.Uvc.{invalidControl, invalidRequest}
-use Rattle.request.specs.declared.tests.Unit.{Unit}
-use Rattle.request.specs.declared.tests.Control.{Control}
-use Rattle.request.specs.Table.{hasControl}
+use Rattle.wire.specs.{Rows.{_⇒_, firstOf, allOf}, Selectors.{ev, face, metadata, hdr, throttle}, Uvc.{invalidControl, invalidRequest}}
+use Rattle.request.specs.{declared.{tests.Unit.{Unit}, tests.Control.{Control}}, Table.{hasControl}}
 use Rattle.exposure.specs.Exposure.{evValid}
 use Rattle.face.specs.Limits.{faceValid, endpointsOf}
 use Rattle.entries.specs.Entries.{faceSetLength}

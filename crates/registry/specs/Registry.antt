@@ -1,7 +1,6 @@
 -- Document 01, "Descriptor set": the fields of a registry property.
 use Prim.Native.Nat.{ℕ, _+_, _%_}
-use mathlib.Core.List.{List, [], _∷_}
-use mathlib.Core.Bool.{Bool, not, _||_}
+use mathlib.Core.{List.{List, [], _∷_}, Bool.{Bool, not, _||_}}
 use lib.Dec.{leb, eqb}
 use Rattle.wire.specs.Rows.{allOf}
 

@@ -1,16 +1,11 @@
 -- A few requests to a unit, computed from the definitions: unit 4 on interface 0, with selectors 9 and 13, where a SET of
 -- 13 has four bytes and 9 takes none.
-use mathlib.Core.Path.{_≡_, refl}
-use mathlib.Core.List.{List, [], _∷_}
-use mathlib.Core.Bool.{true}
+use mathlib.Core.{Path.{_≡_, refl}, List.{List, [], _∷_}, Bool.{true}}
 use Prim.Native.Nat.{ℕ}
 use lib.Dec.{eqb}
-use Rattle.wire.specs.Numbers.{number, leAt}
+use Rattle.wire.specs.{Numbers.{number, leAt}, Rows.{firstOf}}
 use Rattle.flags.specs.Flags.{isSet}
-use Rattle.wire.specs.Rows.{firstOf}
-use Rattle.request.specs.Setup.{setupSelector, setupWLength, isSetRequest}
-use Rattle.request.specs.Table.{Table, tableOf}
-use Rattle.request.specs.Tests.{requestTests}
+use Rattle.request.specs.{Setup.{setupSelector, setupWLength, isSetRequest}, Table.{Table, tableOf}, Tests.{requestTests}}
 
 abbrev table : ℕ → Table
 table selector = tableOf (record { unit = 4; interface = 0; present = 0x1100 }) (record { settable = eqb selector 0x0D; len = 4 })

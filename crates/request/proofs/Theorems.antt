@@ -1,19 +1,14 @@
 -- What holds of every unit's requests. Assumes nothing.
-use mathlib.Core.Path.{_≡_, refl, subst}
-use mathlib.Core.List.{List, [], _∷_}
-use mathlib.Core.Option.{none}
-use mathlib.Core.Bool.{true, false}
+use mathlib.Core.{Path.{_≡_, refl, subst}, List.{List, [], _∷_}, Option.{none}, Bool.{true, false}}
 use Prim.Native.Nat.{ℕ, suc}
 use native.Mathlib.Omega.{arith}
 use lib.ListN.{length}
 use borrow.Author.Tests.{eq-eqb, ne-eqb}
 use Rattle.wire.specs.Rows.{Row, _⇒_, firstOf, firstFrom, AnswersAt, Quiet}
 use Rattle.wire.proofs.Laws.Rows.{Coded, quiet-own, own-coded, answers-at, answers-none}
-use Rattle.request.specs.Table.{Table}
-use Rattle.request.specs.Answers.{answerBy}
+use Rattle.request.specs.{Table.{Table}, Answers.{answerBy}}
 use Rattle.request.specs.Tests.{requestTests, valueTests, fullAnswer, requestRows, requestCode, testNumber}
-use Rattle.request.specs.Requests.{requestCount, replied}
-use Rattle.request.specs.Theorems.{AllOrdered, RequestRefusals, GetSends, LenAnswers, InfoAnswers}
+use Rattle.request.specs.{Requests.{requestCount, replied}, Theorems.{AllOrdered, RequestRefusals, GetSends, LenAnswers, InfoAnswers}}
 
 module _ (t : Table) (setup payload : List ℕ) (room : ℕ) where
   abbrev rows : List Row

@@ -1,13 +1,8 @@
 -- Document 01, "The five controls": LEN answers two bytes and INFO one; the other answers are the control's.
 use Prim.Native.Nat.{ℕ, _+_, _*_, min}
-use mathlib.Core.List.{List, [], _∷_}
-use mathlib.Core.Bool.{cond}
-use lib.Dec.{eqb}
-use lib.ListN.{length, replicate}
-use Rattle.wire.specs.Numbers.{bytesOf}
-use Rattle.wire.specs.Writes.{overlay}
-use Rattle.wire.specs.Endpoints.{endpointLimit}
-use Rattle.wire.specs.Uvc.{getInfo, getLen}
+use mathlib.Core.{List.{List, [], _∷_}, Bool.{cond}}
+use lib.{Dec.{eqb}, ListN.{length, replicate}}
+use Rattle.wire.specs.{Numbers.{bytesOf}, Writes.{overlay}, Endpoints.{endpointLimit}, Uvc.{getInfo, getLen}}
 use Rattle.request.specs.declared.answers.Answer.{Answer}
 
 -- the answer of a control to a GET's code, where `value` answers CUR, MIN, MAX, RES and DEF

@@ -1,12 +1,8 @@
 -- What a request reports and leaves, over a table of controls.
 use Prim.Native.Nat.{ℕ}
-use mathlib.Core.List.{List, _++_}
-use mathlib.Core.Bool.{cond, not, _&&_}
-use lib.Dec.{eqb}
-use lib.ListN.{length, take, drop}
-use Rattle.request.specs.Setup.{isSetRequest}
-use Rattle.request.specs.Table.{Table}
-use Rattle.request.specs.Tests.{asked, sentCount, requestCode}
+use mathlib.Core.{List.{List, _++_}, Bool.{cond, not, _&&_}}
+use lib.{Dec.{eqb}, ListN.{length, take, drop}}
+use Rattle.request.specs.{Setup.{isSetRequest}, Table.{Table}, Tests.{asked, sentCount, requestCode}}
 
 -- a GET reports as many bytes as it sends, and a SET none
 unfoldable pub requestCount : Table → List ℕ → List ℕ → ℕ → ℕ

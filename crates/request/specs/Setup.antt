@@ -1,11 +1,8 @@
 -- The setup packet of a class request: bmRequestType, bRequest, wValue, wIndex, wLength.
 use Prim.Native.Nat.{ℕ}
-use mathlib.Core.List.{List}
-use mathlib.Core.Bool.{Bool, _&&_}
-use lib.Dec.{leb, eqb}
-use lib.ListN.{getD}
-use Rattle.wire.specs.Numbers.{leAt}
-use Rattle.wire.specs.Uvc.{getCur, getDef, setCur}
+use mathlib.Core.{List.{List}, Bool.{Bool, _&&_}}
+use lib.{Dec.{leb, eqb}, ListN.{getD}}
+use Rattle.wire.specs.{Numbers.{leAt}, Uvc.{getCur, getDef, setCur}}
 
 abbrev pub setupType : List ℕ → ℕ
 setupType setup = getD setup 0 0

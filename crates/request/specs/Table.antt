@@ -1,11 +1,9 @@
 -- The table of a unit's controls, over which the nine tests and the answers are stated.
 use Prim.Native.Nat.{ℕ, _-_}
-use mathlib.Core.List.{List, []}
-use mathlib.Core.Bool.{Bool, true, _&&_}
+use mathlib.Core.{List.{List, []}, Bool.{Bool, true, _&&_}}
 use lib.Dec.{leb}
 use Rattle.flags.specs.Flags.{isSet}
-use Rattle.request.specs.declared.tests.Unit.{Unit}
-use Rattle.request.specs.declared.tests.Control.{Control}
+use Rattle.request.specs.declared.{tests.Unit.{Unit}, tests.Control.{Control}}
 
 pub record Table : Type 0 where
   -- whether the unit's record is well formed; its id and its interface

@@ -1,16 +1,11 @@
 -- The nine tests of a request, in order, over a table of controls: row n of the table is test n.
 use Prim.Native.Nat.{ℕ}
-use mathlib.Core.List.{List, [], _∷_, _++_}
-use mathlib.Core.Option.{Option}
-use mathlib.Core.Bool.{Bool, cond, not, _&&_}
-use lib.Dec.{eqb, ltb}
-use lib.ListN.{length}
+use mathlib.Core.{List.{List, [], _∷_, _++_}, Option.{Option}, Bool.{Bool, cond, not, _&&_}}
+use lib.{Dec.{eqb, ltb}, ListN.{length}}
 use Rattle.wire.specs.Rows.{Row, _⇒_, answers, firstOf, firstFrom}
 use Rattle.wire.specs.Uvc.{setCur, invalidControl, invalidRequest, invalidUnit, malformedRecord, noRoom, unknown}
 use Rattle.request.specs.Setup.{setupValueLow, setupSelector, setupCode, setupInterface, setupUnit, setupWLength, isSetRequest, isGetRequest}
-use Rattle.request.specs.Table.{Table}
-use Rattle.request.specs.Answers.{answerBy}
-use Rattle.request.specs.Reply.{sentLength}
+use Rattle.request.specs.{Table.{Table}, Answers.{answerBy}, Reply.{sentLength}}
 
 -- test 3: wIndex's high byte is the unit, and its low byte the interface
 abbrev pub isAddressed : (unit interface : ℕ) → List ℕ → Bool

@@ -1,15 +1,9 @@
 -- What holds of every unit's requests. proofs/Theorems proves each.
 use Prim.Native.Nat.{ℕ, suc}
-use mathlib.Core.Path.{_≡_}
-use mathlib.Core.List.{List, [], _∷_, _++_}
-use mathlib.Core.Option.{none, some}
-use mathlib.Core.Bool.{false}
+use mathlib.Core.{Path.{_≡_}, List.{List, [], _∷_, _++_}, Option.{none, some}, Bool.{false}}
 use lib.ListN.{length, take, drop}
-use Rattle.wire.specs.Numbers.{bytesOf}
-use Rattle.wire.specs.Rows.{AnswersAt}
-use Rattle.wire.specs.Uvc.{getInfo, getLen}
-use Rattle.request.specs.Setup.{isSetRequest}
-use Rattle.request.specs.Table.{Table}
+use Rattle.wire.specs.{Numbers.{bytesOf}, Rows.{AnswersAt}, Uvc.{getInfo, getLen}}
+use Rattle.request.specs.{Setup.{isSetRequest}, Table.{Table}}
 use Rattle.request.specs.Tests.{fullAnswer, asked, sentCount, requestRows, requestCode, testNumber}
 use Rattle.request.specs.Requests.{requestCount, replied}
 

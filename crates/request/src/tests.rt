@@ -6,8 +6,7 @@ use crate::setup::wlength;
 use wire::uvc;
 ghost use mathlib.Core.Path.{_≡_};
 ghost use Rattle.wire.specs.Rows.{firstOf};
-ghost use Rattle.request.specs.Table.{hasControl, tableOf};
-ghost use Rattle.request.specs.Tests.{requestTests, isAddressed, isUnderstood, isSized};
+ghost use Rattle.request.specs.{Table.{hasControl, tableOf}, Tests.{requestTests, isAddressed, isUnderstood, isSized}};
 
 // A unit: bit s - 1 of `present` says that the control of selector s is there.
 pub struct Unit {

@@ -1,20 +1,16 @@
 -- The setting that is held of each control, of each endpoint, and of each key of a snapshot.
 use Prim.Native.Nat.{ℕ, _+_, _-_}
-use mathlib.Core.Option.{Option, none, some}
-use mathlib.Core.Bool.{cond}
-use lib.Dec.{leb, eqb}
-use lib.ListN.{getD}
+use mathlib.Core.{Option.{Option, none, some}, Bool.{cond}}
+use lib.{Dec.{leb, eqb}, ListN.{getD}}
 use Rattle.wire.specs.Endpoints.{firstAddress, places}
 use Rattle.snapshot.specs.Keys.{evKey, metadataKey, hdrKey, throttleKey}
 use Rattle.exposure.specs.declared.HeldEv.{HeldEv}
 use Rattle.exposure.specs.declared.HeldEv.the-variants as E
 use Rattle.throttle.specs.declared.HeldThrottle.{HeldThrottle}
 use Rattle.throttle.specs.declared.HeldThrottle.the-variants as T
-use Rattle.controls.specs.declared.HeldNumber.{HeldNumber}
+use Rattle.controls.specs.declared.{HeldNumber.{HeldNumber}, HeldSetting.{HeldSetting}, Setting.{Setting}}
 use Rattle.controls.specs.declared.HeldNumber.the-variants as N
-use Rattle.controls.specs.declared.HeldSetting.{HeldSetting}
 use Rattle.controls.specs.declared.HeldSetting.the-variants as H
-use Rattle.controls.specs.declared.Setting.{Setting}
 use Rattle.controls.specs.declared.Setting.the-variants as S
 use Rattle.settings.specs.declared.settings.Settings.{Settings}
 

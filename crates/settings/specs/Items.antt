@@ -1,16 +1,10 @@
 -- What a SET's payload comes to, item by item: the first refusal answers, or all are taken.
 use Prim.Native.Nat.{ℕ, zero, suc}
-use mathlib.Core.List.{List, [], _∷_, _++_}
-use mathlib.Core.Bool.{cond}
+use mathlib.Core.{List.{List, [], _∷_, _++_}, Bool.{cond}}
 use lib.Dec.{eqb}
-use Rattle.controls.specs.declared.Item.{Item}
-use Rattle.controls.specs.declared.Item.the-variants.{Refused, Given}
-use Rattle.controls.specs.declared.Setting.{Setting}
-use Rattle.profile.specs.declared.Profile.{Profile}
-use Rattle.profile.specs.Items.{itemCount, profileItem, setRefusal}
-use Rattle.settings.specs.declared.settings.Settings.{Settings}
-use Rattle.settings.specs.declared.items.SetTaken.{SetTaken}
-use Rattle.settings.specs.Settings.{settingKey, put}
+use Rattle.controls.specs.declared.{Item.{Item}, Item.the-variants.{Refused, Given}, Setting.{Setting}}
+use Rattle.profile.specs.{declared.Profile.{Profile}, Items.{itemCount, profileItem, setRefusal}}
+use Rattle.settings.specs.{declared.{settings.Settings.{Settings}, items.SetTaken.{SetTaken}}, Settings.{settingKey, put}}
 
 -- the settings that an item gives, each with its key
 unfoldable pub givenOf : Item → List (ℕ × Setting)

@@ -1,7 +1,6 @@
 -- Document 01, "Profile and camera record": which settings keep their rules, each by its own SET's.
 use Prim.Native.Nat.{ℕ}
-use mathlib.Core.Option.{Option, none, some}
-use mathlib.Core.Bool.{Bool, true, _&&_}
+use mathlib.Core.{Option.{Option, none, some}, Bool.{Bool, true, _&&_}}
 use lib.Dec.{eqb}
 use Rattle.snapshot.specs.Keys.{keys}
 use Rattle.controls.specs.declared.Setting.{Setting}
@@ -12,11 +11,8 @@ use Rattle.entries.specs.Entries.{settingRefusal}
 use Rattle.metadata.specs.Metadata.{metadataRefusal}
 use Rattle.hdr.specs.Hdr.{hdrRefusal}
 use Rattle.throttle.specs.Throttle.{throttleRefusal}
-use Rattle.profile.specs.declared.Profile.{Profile}
-use Rattle.settings.specs.declared.settings.Settings.{Settings}
-use Rattle.profile.specs.Profile.{profileValid, profileRefusal}
-use Rattle.settings.specs.Held.{settingsHeld}
-use Rattle.settings.specs.Settings.{settingSelector}
+use Rattle.profile.specs.{declared.Profile.{Profile}, Profile.{profileValid, profileRefusal}}
+use Rattle.settings.specs.{declared.settings.Settings.{Settings}, Held.{settingsHeld}, Settings.{settingSelector}}
 
 -- SET's value tests of one setting
 unfoldable pub valueRefusal : Profile → Setting → ℕ

@@ -7,8 +7,7 @@ use request::has_control;
 use throttle::HeldThrottle;
 use wire::selectors;
 ghost use mathlib.Core.Path.{_≡_};
-ghost use Rattle.settings.specs.Held.{evHeld, metadataHeld, hdrHeld, throttleHeld};
-ghost use Rattle.settings.specs.Kept.{kept, settingsWellFormed};
+ghost use Rattle.settings.specs.{Held.{evHeld, metadataHeld, hdrHeld, throttleHeld}, Kept.{kept, settingsWellFormed}};
 
 fn ev_kept(p: Profile, held: HeldEv) -> bool
     ensures { λ r. ⌜ r ≡ kept p (evHeld held) ⌝ }

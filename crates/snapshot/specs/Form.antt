@@ -1,13 +1,8 @@
 -- The form of a snapshot, document 01's "settings sheet": records in strictly ascending order of their keys, none of them with a fault.
 use Prim.Native.Nat.{ℕ, zero, suc, _+_, _*_}
-use mathlib.Core.Bool.{Bool, true, false, cond, _&&_}
-use mathlib.Core.List.{List, [], _∷_}
-use lib.ListN.{length, getD, take, drop}
-use lib.Dec.{leb, ltb, eqb}
-use Rattle.wire.specs.Numbers.{leAt}
-use Rattle.wire.specs.Rows.{allOf}
-use Rattle.wire.specs.Uvc.{malformedSnapshot}
-use Rattle.wire.specs.Selectors.{face, throttle}
+use mathlib.Core.{Bool.{Bool, true, false, cond, _&&_}, List.{List, [], _∷_}}
+use lib.{ListN.{length, getD, take, drop}, Dec.{leb, ltb, eqb}}
+use Rattle.wire.specs.{Numbers.{leAt}, Rows.{allOf}, Uvc.{malformedSnapshot}, Selectors.{face, throttle}}
 use Rattle.wire.specs.Endpoints.{firstAddress, lastAddress}
 use Rattle.snapshot.specs.Keys.{kindLength, keyFor}
 

@@ -1,8 +1,6 @@
 -- Settings given one after the other, whatever their values are: the last that names a key holds, and a snapshot has what is held.
 use Prim.Native.Nat.{ℕ}
-use mathlib.Core.Bool.{cond}
-use mathlib.Core.List.{List, [], _∷_}
-use mathlib.Core.Option.{Option, none, some, Option·map}
+use mathlib.Core.{Bool.{cond}, List.{List, [], _∷_}, Option.{Option, none, some, Option·map}}
 use lib.Dec.{eqb}
 use Rattle.snapshot.specs.Records.{encode}
 

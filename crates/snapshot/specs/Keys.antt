@@ -2,8 +2,7 @@
 use Prim.Native.Nat.{ℕ, _+_, _-_}
 use mathlib.Core.Bool.{cond}
 use lib.Dec.{leb, eqb}
-use Rattle.wire.specs.Selectors.{ev, face, metadata, hdr, throttle}
-use Rattle.wire.specs.Endpoints.{firstAddress, places}
+use Rattle.wire.specs.{Selectors.{ev, face, metadata, hdr, throttle}, Endpoints.{firstAddress, places}}
 
 -- The kinds are the selectors: exposure compensation (EV), face authentication, metadata, HDR, throttle.
 -- A key is a kind, of face authentication with an address. The keys are numbered by kind, then address: 0 is EV, from 1 on face

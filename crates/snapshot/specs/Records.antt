@@ -1,15 +1,9 @@
 -- The records of a snapshot: the record of each key in given bytes, the bytes of given records, and the records in order.
 use Prim.Native.Nat.{ℕ, zero, suc, _-_, _≤_}
-use mathlib.Core.Path.{_≡_}
-use mathlib.Core.Bool.{Bool, true, cond, _&&_}
-use mathlib.Core.List.{List, [], _∷_, _++_}
-use mathlib.Core.Option.{Option, none, some}
-use lib.ListN.{length, take, drop}
-use lib.Dec.{leb, eqb}
-use Rattle.wire.specs.declared.parts.Part.{Part}
-use Rattle.wire.specs.Parts.{nowhere}
-use Rattle.snapshot.specs.Keys.{keys, recordLength}
-use Rattle.snapshot.specs.Form.{statedLength, soundRecord, statedKey}
+use mathlib.Core.{Path.{_≡_}, Bool.{Bool, true, cond, _&&_}, List.{List, [], _∷_, _++_}, Option.{Option, none, some}}
+use lib.{ListN.{length, take, drop}, Dec.{leb, eqb}}
+use Rattle.wire.specs.{declared.parts.Part.{Part}, Parts.{nowhere}}
+use Rattle.snapshot.specs.{Keys.{keys, recordLength}, Form.{statedLength, soundRecord, statedKey}}
 
 -- a sound record of key k stands at the start of s
 unfoldable pub stands : ℕ → List ℕ → Bool

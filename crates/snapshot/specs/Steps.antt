@@ -1,13 +1,9 @@
 -- What the code's steps go by, which its private functions' promises cite. No statement and no public promise depends on this file.
 use Prim.Native.Nat.{ℕ, _≤_}
-use mathlib.Core.Path.{_≡_}
-use mathlib.Core.Bool.{true, cond}
-use mathlib.Core.List.{List}
+use mathlib.Core.{Path.{_≡_}, Bool.{true, cond}, List.{List}}
 use lib.ListN.{length, drop}
 use Rattle.wire.specs.Rows.{allOf}
-use Rattle.snapshot.specs.Keys.{keys, keyFor}
-use Rattle.snapshot.specs.Form.{recordTests}
-use Rattle.snapshot.specs.Records.{from}
+use Rattle.snapshot.specs.{Keys.{keys, keyFor}, Form.{recordTests}, Records.{from}}
 
 -- the records of the keys below k of s end at `at`
 pub record EndsBelow (s : List ℕ) (at k : ℕ) : Type 0 where

@@ -2,11 +2,9 @@
 // HDR, throttle.
 use wire::endpoints;
 use wire::selectors;
-ghost use mathlib.Core.Path.{_≡_};
-ghost use mathlib.Core.Bool.{cond};
+ghost use mathlib.Core.{Path.{_≡_}, Bool.{cond}};
 ghost use lib.Dec.{eqb};
-ghost use Rattle.snapshot.specs.Keys.{keys, recordLength};
-ghost use Rattle.snapshot.specs.Steps.{keyBy};
+ghost use Rattle.snapshot.specs.{Keys.{keys, recordLength}, Steps.{keyBy}};
 
 pub const EV_KEY: usize = 0;
 

@@ -7,9 +7,7 @@ use wire::Part;
 ghost use mathlib.Core.Path.{_≡_};
 ghost use lib.ListN.{drop};
 ghost use Rattle.wire.specs.Parts.{PartOf};
-ghost use Rattle.snapshot.specs.Form.{throttleTail, zeros};
-ghost use Rattle.snapshot.specs.Records.{keyAt, decode, recordBytes, recordPlace};
-ghost use Rattle.snapshot.specs.Steps.{EndsBelow};
+ghost use Rattle.snapshot.specs.{Form.{throttleTail, zeros}, Records.{keyAt, decode, recordBytes, recordPlace}, Steps.{EndsBelow}};
 
 // No record has fewer bytes.
 const SHORTEST: usize = 8;

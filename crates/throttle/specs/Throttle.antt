@@ -1,19 +1,13 @@
 -- Document 01, "Throttle": mode and percent, behind them the limits.
 use Prim.Native.Nat.{ℕ, _%_}
-use mathlib.Core.List.{List, [], _∷_, _++_}
-use mathlib.Core.Bool.{Bool, cond, not, _&&_, _||_}
+use mathlib.Core.{List.{List, [], _∷_, _++_}, Bool.{Bool, cond, not, _&&_, _||_}}
 use lib.Dec.{leb, ltb, eqb}
-use Rattle.wire.specs.Numbers.{leAt, bytesOf}
-use Rattle.wire.specs.Rows.{_⇒_, firstOf}
-use Rattle.wire.specs.Uvc.{getCur, getMax, getMin, getRes, invalidValue, outOfRange}
-use Rattle.throttle.specs.declared.ThrottleLimits.{ThrottleLimits}
-use Rattle.controls.specs.declared.ThrottleSetting.{ThrottleSetting}
-use Rattle.throttle.specs.declared.HeldThrottle.{HeldThrottle}
+use Rattle.wire.specs.{Numbers.{leAt, bytesOf}, Rows.{_⇒_, firstOf}, Uvc.{getCur, getMax, getMin, getRes, invalidValue, outOfRange}}
+use Rattle.throttle.specs.declared.{ThrottleLimits.{ThrottleLimits}, HeldThrottle.{HeldThrottle}}
+use Rattle.controls.specs.{declared.{ThrottleSetting.{ThrottleSetting}, Item.{Item}}, Controls.{itemOf}}
 use Rattle.throttle.specs.declared.HeldThrottle.the-variants as T
-use Rattle.controls.specs.declared.Item.{Item}
 use Rattle.controls.specs.declared.Setting.the-variants as S
 use Rattle.request.specs.Answers.{answerBy}
-use Rattle.controls.specs.Controls.{itemOf}
 
 -- n is a multiple of step
 abbrev pub divides : ℕ → ℕ → Bool

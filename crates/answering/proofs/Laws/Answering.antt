@@ -2,10 +2,8 @@
 use mathlib.Core.Bool.{Bool, true, false, cond}
 use Prim.Native.Nat.{ℕ, _≤_}
 use native.Mathlib.Omega.{arith}
-use lib.Dec.{eqb, lit≤}
-use lib.ListN.{length}
-use Rattle.wire.specs.Numbers.{bytesOf}
-use Rattle.wire.specs.Selectors.{ev, face, metadata, hdr}
+use lib.{Dec.{eqb, lit≤}, ListN.{length}}
+use Rattle.wire.specs.{Numbers.{bytesOf}, Selectors.{ev, face, metadata, hdr}}
 use Rattle.request.specs.Answers.{longestAnswer}
 use Rattle.request.proofs.Laws.Answers.{answer-length}
 use Rattle.exposure.specs.Exposure.{evAttribute, evBytes}

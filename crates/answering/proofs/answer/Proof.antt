@@ -1,12 +1,11 @@
 -- `answer` meets its contract. Assumes nothing.
-use borrow.Author.Tests.{ne-eqb}
+use borrow.Author.{Tests.{ne-eqb}, Needs.{needs}}
 use Rattle.exposure.specs.Exposure.{evAnswer}
 use Rattle.face.specs.Answers.{faceAnswer}
 use Rattle.metadata.specs.Metadata.{metadataAnswer}
 use Rattle.hdr.specs.Hdr.{hdrAnswer}
 use Rattle.throttle.specs.Throttle.{throttleAnswer}
 use Rattle.answering.specs.Answering.{valueOf, controlAnswer}
-use borrow.Author.Needs.{needs}
 use Rattle.answering.proofs.answer.Statement.{statement}
 use Rattle.answering.proofs.answer.Tie as tie
 

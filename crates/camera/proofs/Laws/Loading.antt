@@ -1,36 +1,21 @@
 -- Loading a snapshot record by record, and what a load answers. Assumes nothing.
-use mathlib.Core.Path.{_≡_, refl, ap, ap₂, sym, _∙_}
-use mathlib.Core.List.{List, [], _++_, append-nil}
-use mathlib.Core.Option.{Option, none, Option·map, Option·elim}
+use mathlib.Core.{Path.{_≡_, refl, ap, ap₂, sym, _∙_}, List.{List, [], _++_, append-nil}, Option.{Option, none, Option·map, Option·elim}}
 use mathlib.Core.Bool.{Bool, true, false, cond, not}
 use Prim.Native.Nat.{ℕ, zero, suc, _+_, _-_, _≤_, _<_}
-use native.Mathlib.Nat.{zero-add}
-use native.Mathlib.Omega.{arith}
-use lib.Dec.{eqb, leb}
-use lib.ListN.{length, take, drop}
-use borrow.Author.Tests.{eq-eqb, ne-eqb, leb-true, leb-false}
-use borrow.Author.Count.{below-more}
+use native.Mathlib.{Nat.{zero-add}, Omega.{arith}}
+use lib.{Dec.{eqb, leb}, ListN.{length, take, drop}}
+use borrow.Author.{Tests.{eq-eqb, ne-eqb, leb-true, leb-false}, Count.{below-more}}
 use Rattle.wire.specs.Uvc.{malformedRecord, malformedSnapshot}
-use Rattle.snapshot.specs.Keys.{keys, recordLength}
-use Rattle.snapshot.specs.Form.{formCode, wellFormed}
-use Rattle.snapshot.specs.Records.{keyAt, decode}
+use Rattle.snapshot.specs.{Keys.{keys, recordLength}, Form.{formCode, wellFormed}, Records.{keyAt, decode}}
 use Rattle.snapshot.proofs.Laws.Walk.{At, first-at, none-before, record-at, next-at, next-above, next-within, none-between}
-use Rattle.controls.specs.declared.Item.{Item}
-use Rattle.controls.specs.declared.Item.the-variants.{Refused}
-use Rattle.controls.specs.declared.Setting.{Setting}
-use Rattle.controls.specs.Controls.{itemCode}
+use Rattle.controls.specs.{declared.{Item.{Item}, Item.the-variants.{Refused}, Setting.{Setting}}, Controls.{itemCode}}
 use Rattle.controls.proofs.Laws.Items.{stops, passes}
-use Rattle.profile.specs.declared.Profile.{Profile}
-use Rattle.settings.specs.declared.settings.Settings.{Settings}
-use Rattle.profile.specs.Items.{profileItem}
-use Rattle.settings.specs.Items.{givenOf, allGiven, putAll}
+use Rattle.profile.specs.{declared.Profile.{Profile}, Items.{profileItem}}
+use Rattle.settings.specs.{declared.settings.Settings.{Settings}, Items.{givenOf, allGiven, putAll}}
 use Rattle.settings.proofs.Laws.Items.{given-next, puts-next}
-use Rattle.camera.specs.declared.record.Camera.{Camera}
-use Rattle.camera.specs.declared.calls.Outcome.{Outcome}
-use Rattle.camera.specs.Record.{withSettings, recordWellFormed}
+use Rattle.camera.specs.{declared.{record.Camera.{Camera}, calls.Outcome.{Outcome}}, Record.{withSettings, recordWellFormed}}
 use Rattle.camera.specs.Requests.{controlRefusal, refused, outcomeBy}
-use Rattle.camera.specs.Loading.{selectorAt, recordItem, loadRefusal, loadTests, loadCode, loadGives, loaded}
-use Rattle.camera.specs.Steps.{loadDone}
+use Rattle.camera.specs.{Loading.{selectorAt, recordItem, loadRefusal, loadTests, loadCode, loadGives, loaded}, Steps.{loadDone}}
 
 -- a record of key k as a SET, by what the calls ensure
 module _ (p : Profile) (streaming : Bool) (k : ℕ) (r : List ℕ) {selector code : ℕ} (is-selector : selector ≡ selectorAt k)

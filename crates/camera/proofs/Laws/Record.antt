@@ -1,14 +1,11 @@
 -- The two calls that need nothing but the record, and what a well-formed record says of its profile. Assumes nothing.
-use mathlib.Core.Path.{_≡_}
-use mathlib.Core.Bool.{Bool, true, false, and-eq-true-iff}
+use mathlib.Core.{Path.{_≡_}, Bool.{Bool, true, false, and-eq-true-iff}}
 use lib.IntN.{pos}
 use Rattle.wire.specs.Uvc.{malformedRecord}
 use Rattle.exposure.specs.Exposure.{sensorValue}
 use Rattle.profile.specs.Profile.{profileValid}
 use Rattle.settings.specs.Kept.{settingsWellFormed}
-use Rattle.camera.specs.declared.record.Camera.{Camera}
-use Rattle.camera.specs.Record.{withStreaming, recordWellFormed}
-use Rattle.camera.specs.Requests.{refused}
+use Rattle.camera.specs.{declared.record.Camera.{Camera}, Record.{withStreaming, recordWellFormed}, Requests.{refused}}
 use Rattle.camera.specs.Calls.{streamed, sensed}
 
 module _ (c : Camera) (w : recordWellFormed c ≡ false) where

@@ -1,30 +1,16 @@
 -- What a request comes to, by the first of its tests that fails. Assumes nothing.
-use mathlib.Core.Path.{_≡_, refl, sym, _∙_}
-use mathlib.Core.List.{List, [], _∷_}
-use mathlib.Core.Bool.{Bool, true, false, cond, not}
+use mathlib.Core.{Path.{_≡_, refl, sym, _∙_}, List.{List, [], _∷_}, Bool.{Bool, true, false, cond, not}}
 use Prim.Native.Nat.{ℕ}
 use native.Mathlib.Omega.{arith}
-use lib.Dec.{eqb}
-use lib.ListN.{length}
+use lib.{Dec.{eqb}, ListN.{length}}
 use borrow.Author.Tests.{eq-eqb, ne-eqb, eqb-true}
-use Rattle.wire.specs.Rows.{_⇒_, answers, firstOf}
-use Rattle.wire.specs.Uvc.{setCur, malformedRecord, invalidControl, invalidRequest}
-use Rattle.request.specs.declared.reply.Sent.{Sent}
-use Rattle.request.specs.Setup.{setupSelector, setupCode, setupWLength, isSetRequest}
-use Rattle.request.specs.Tests.{requestTests, asked, sentCount}
-use Rattle.request.specs.Tests.{tableRefusal}
-use Rattle.request.specs.Reply.{replyOf}
-use Rattle.request.specs.Requests.{replied}
+use Rattle.wire.specs.{Rows.{_⇒_, answers, firstOf}, Uvc.{setCur, malformedRecord, invalidControl, invalidRequest}}
+use Rattle.request.specs.{declared.reply.Sent.{Sent}, Setup.{setupSelector, setupCode, setupWLength, isSetRequest}}
+use Rattle.request.specs.{Tests.{requestTests, asked, sentCount, tableRefusal}, Reply.{replyOf}, Requests.{replied}}
 use Rattle.request.proofs.Laws.Tests.{at-unformed, at-tests, at-state, at-set, at-get, set-replied, get-sent}
-use Rattle.profile.specs.declared.Profile.{Profile}
-use Rattle.settings.specs.declared.items.SetTaken.{SetTaken}
-use Rattle.profile.specs.Profile.{has, isSettable}
-use Rattle.profile.specs.Profile.{profileRefusal}
-use Rattle.profile.specs.Items.{setRefusal}
-use Rattle.settings.specs.Items.{setGives, setTaken}
-use Rattle.camera.specs.declared.record.Camera.{Camera}
-use Rattle.camera.specs.declared.calls.Outcome.{Outcome}
-use Rattle.camera.specs.Record.{puts, withSettings, recordWellFormed}
+use Rattle.profile.specs.{declared.Profile.{Profile}, Profile.{has, isSettable, profileRefusal}, Items.{setRefusal}}
+use Rattle.settings.specs.{declared.items.SetTaken.{SetTaken}, Items.{setGives, setTaken}}
+use Rattle.camera.specs.{declared.{record.Camera.{Camera}, calls.Outcome.{Outcome}}, Record.{puts, withSettings, recordWellFormed}}
 use Rattle.camera.specs.Requests.{stateRefusal, table, controlRefusal, requestedCode, refused, requestDone, requested, requestedReply}
 use Rattle.camera.specs.Steps.{setDone, getDone}
 use Rattle.wire.proofs.Laws.Rows.{answers-number}

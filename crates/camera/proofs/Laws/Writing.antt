@@ -1,18 +1,13 @@
 -- What writing a snapshot answers and leaves. Assumes nothing.
-use mathlib.Core.Path.{_≡_, _∙_}
-use mathlib.Core.List.{List}
-use mathlib.Core.Bool.{true, false}
+use mathlib.Core.{Path.{_≡_, _∙_}, List.{List}, Bool.{true, false}}
 use Prim.Native.Nat.{ℕ, _≤_, _<_}
 use native.Mathlib.Omega.{arith}
 use lib.ListN.{length}
 use borrow.Author.Tests.{lt-ltb, le-ltb}
-use Rattle.wire.specs.Writes.{overlay}
-use Rattle.wire.specs.Uvc.{malformedRecord, noRoom}
+use Rattle.wire.specs.{Writes.{overlay}, Uvc.{malformedRecord, noRoom}}
 use Rattle.wire.proofs.Laws.Writes.{fits-start}
 use Rattle.encoding.specs.Encoding.{encoded}
-use Rattle.camera.specs.declared.record.Camera.{Camera}
-use Rattle.camera.specs.Record.{recordWellFormed}
-use Rattle.camera.specs.Requests.{refused}
+use Rattle.camera.specs.{declared.record.Camera.{Camera}, Record.{recordWellFormed}, Requests.{refused}}
 use Rattle.camera.specs.Writing.{snapshot, writeCode, written, writtenOut}
 
 -- each of its refusals, and none

@@ -1,13 +1,10 @@
 -- What an item comes to. Assumes nothing.
-use mathlib.Core.Path.{_≡_, refl, sym}
-use mathlib.Core.Bool.{Bool, true, false, cond}
+use mathlib.Core.{Path.{_≡_, refl, sym}, Bool.{Bool, true, false, cond}}
 use Prim.Native.Nat.{ℕ}
 use native.Mathlib.Omega.{arith}
 use lib.Dec.{eqb}
 use borrow.Author.Tests.{eq-eqb, ne-eqb, eqb-true}
-use Rattle.controls.specs.declared.Setting.{Setting}
-use Rattle.controls.specs.declared.Item.the-variants.{Refused, Given}
-use Rattle.controls.specs.Controls.{itemOf, itemCode}
+use Rattle.controls.specs.{declared.{Setting.{Setting}, Item.the-variants.{Refused, Given}}, Controls.{itemOf, itemCode}}
 
 module _ (code : ℕ) (s : Setting) where
   pub item-given : code ≡ 0 → itemOf code s ≡ Given s

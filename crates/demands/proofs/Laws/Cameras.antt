@@ -1,41 +1,30 @@
 -- The records of settings: each is a record of its key, and read as a SET gives its setting back. Assumes nothing.
-use mathlib.Core.Path.{_≡_, refl, sym, _∙_, subst}
-use mathlib.Core.List.{List, [], _∷_}
-use mathlib.Core.Option.{Option, none, some, Option·map}
-use mathlib.Core.Bool.{true}
+use mathlib.Core.{Path.{_≡_, refl, sym, _∙_, subst}, List.{List, [], _∷_}, Option.{Option, none, some, Option·map}, Bool.{true}}
 use Prim.Native.Nat.{ℕ, _+_, _-_}
 use native.Mathlib.Omega.{arith}
 use borrow.Author.Tests.{eq-eqb, ne-eqb, le-leb}
 use lib.ListN.{drop}
-use Rattle.wire.specs.Endpoints.{firstAddress, places}
-use Rattle.wire.specs.Numbers.{bytesOf}
+use Rattle.wire.specs.{Endpoints.{firstAddress, places}, Numbers.{bytesOf}}
 use Rattle.wire.specs.Selectors as selector
 use Rattle.snapshot.specs.Records.{IsRecord, GoodAt}
 use Rattle.snapshot.specs.Records as records
-use Rattle.snapshot.proofs.Laws.Given.{EachRecord}
-use Rattle.snapshot.proofs.Laws.Controls.{record-ev, record-face, record-metadata, record-hdr, record-throttle}
-use Rattle.controls.specs.declared.Setting.{Setting}
+use Rattle.snapshot.proofs.Laws.{Given.{EachRecord}, Controls.{record-ev, record-face, record-metadata, record-hdr, record-throttle}}
+use Rattle.controls.specs.{declared.{Setting.{Setting}, Item.the-variants.{Given}}, Controls.{itemOf}}
 use Rattle.controls.specs.declared.Setting.the-variants as S
 use Rattle.exposure.specs.Exposure.{evBytes}
 use Rattle.face.specs.Answers.{entryOf}
 use Rattle.entries.specs.Entries.{settingRefusal}
 use Rattle.throttle.specs.Throttle.{throttleBytes}
-use Rattle.controls.specs.Controls.{itemOf}
-use Rattle.controls.specs.declared.Item.the-variants.{Given}
 use Rattle.exposure.proofs.Laws.Exposure.{ev-read}
 use Rattle.entries.proofs.Laws.Payload.{one-entry}
 use Rattle.metadata.proofs.Laws.Metadata.{metadata-read}
 use Rattle.hdr.proofs.Laws.Hdr.{hdr-read}
 use Rattle.throttle.proofs.Laws.Throttle.{throttle-read}
-use Rattle.profile.specs.declared.Profile.{Profile}
-use Rattle.settings.specs.Settings.{settingKey, settingSelector}
-use Rattle.settings.specs.Kept.{valueRefusal}
-use Rattle.camera.specs.Requests.{controlRefusal}
-use Rattle.profile.specs.Items.{profileItem}
-use Rattle.camera.specs.declared.record.Camera.{Camera}
-use Rattle.camera.specs.Record.{held, recordWellFormed}
-use Rattle.encoding.specs.Encoding.{recordOf, noLimits}
+use Rattle.profile.specs.{declared.Profile.{Profile}, Items.{profileItem}}
+use Rattle.settings.specs.{Settings.{settingKey, settingSelector}, Kept.{valueRefusal}}
+use Rattle.camera.specs.{declared.record.Camera.{Camera}, Requests.{controlRefusal}, Record.{held, recordWellFormed}}
 use Rattle.camera.specs.Loading.{selectorAt, recordItem}
+use Rattle.encoding.specs.Encoding.{recordOf, noLimits}
 use Rattle.demands.proofs.Laws.Held.{Proper, Each}
 use Rattle.demands.proofs.Laws.Kept.{Good, held-good, streaming-control}
 use Rattle.demands.proofs.Laws.Fits.{Fitting}

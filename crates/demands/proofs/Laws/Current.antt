@@ -1,41 +1,29 @@
 -- What a record holds is what GET_CUR answers, control by control. Assumes nothing.
-use mathlib.Core.Path.{_≡_, ap, ap₂, sym, _∙_}
-use mathlib.Core.Option.{none, some}
-use mathlib.Core.Bool.{true}
+use mathlib.Core.{Path.{_≡_, ap, ap₂, sym, _∙_}, Option.{none, some}, Bool.{true}}
 use Prim.Native.Nat.{ℕ, _+_, _-_, _≤_, _<_}
 use native.Mathlib.Omega.{arith}
 use lib.ListN.{getD}
 use borrow.Author.Tests.{ne-eqb}
-use Rattle.wire.specs.Numbers.{bytesOf}
-use Rattle.wire.specs.Endpoints.{firstAddress, lastAddress}
+use Rattle.wire.specs.{Numbers.{bytesOf}, Endpoints.{firstAddress, lastAddress}, Uvc.{getCur, getDef}}
 use Rattle.wire.specs.Selectors as selector
-use Rattle.wire.specs.Uvc.{getCur, getDef}
 use Rattle.snapshot.specs.Keys.{keyFor, metadataKey}
-use Rattle.request.specs.Tests.{fullAnswer}
+use Rattle.request.specs.{Tests.{fullAnswer}, Answers.{answerBy}}
 use Rattle.answering.specs.Answering.{valueOf}
-use Rattle.settings.specs.Settings.{settingKey}
-use Rattle.settings.specs.Held.{faceHeld}
-use Rattle.settings.specs.Held.{settingsHeld}
+use Rattle.settings.specs.{Settings.{settingKey}, Held.{faceHeld, settingsHeld}}
 use Rattle.controls.specs.declared.Setting.the-variants as S
 use Rattle.exposure.specs.declared.HeldEv.the-variants as E
-use Rattle.controls.specs.declared.EvSetting.{EvSetting}
+use Rattle.controls.specs.{declared.{EvSetting.{EvSetting}, ThrottleSetting.{ThrottleSetting}}, Controls.{numberOr}}
 use Rattle.controls.specs.declared.HeldNumber.the-variants as N
 use Rattle.throttle.specs.declared.HeldThrottle.the-variants as T
-use Rattle.controls.specs.declared.ThrottleSetting.{ThrottleSetting}
-use Rattle.request.specs.Answers.{answerBy}
-use Rattle.controls.specs.Controls.{numberOr}
 use Rattle.exposure.specs.Exposure.{evBytes, evCurrent, evAttribute}
-use Rattle.face.specs.Limits.{endpointsOf, addressAt}
-use Rattle.face.specs.Answers.{entryOf, heldAt}
+use Rattle.face.specs.{Limits.{endpointsOf, addressAt}, Answers.{entryOf, heldAt}}
 use Rattle.metadata.specs.Metadata.{metadataAttribute}
 use Rattle.hdr.specs.Hdr.{hdrAttribute}
 use Rattle.throttle.specs.Throttle.{throttleBytes, throttleCurrent, throttleAttribute}
 use Rattle.face.proofs.Laws.Limits.{place-listed}
 use Rattle.profile.specs.Profile.{has}
 use Rattle.profile.proofs.Laws.Profile.{valid-face}
-use Rattle.camera.specs.declared.record.Camera.{Camera}
-use Rattle.camera.specs.Record.{held, recordWellFormed}
-use Rattle.camera.specs.Requests.{cameraAnswer}
+use Rattle.camera.specs.{declared.record.Camera.{Camera}, Record.{held, recordWellFormed}, Requests.{cameraAnswer}}
 use Rattle.camera.proofs.Laws.Record.{formed-profile}
 use Rattle.demands.specs.Answers.{entryBytes}
 use Rattle.demands.proofs.Laws.Held.{held-face, held-named}

@@ -1,10 +1,7 @@
 -- The numbers of the settings that a well-formed record holds fit the bytes of their records. Assumes nothing.
-use mathlib.Core.Path.{_≡_}
-use mathlib.Core.Option.{some}
-use mathlib.Core.Bool.{true, and-eq-true-iff}
+use mathlib.Core.{Path.{_≡_}, Option.{some}, Bool.{true, and-eq-true-iff}}
 use Prim.Native.Nat.{ℕ, _^_, _≤_, _<_}
-use native.Mathlib.Nat.{lt-trans}
-use native.Mathlib.Omega.{arith}
+use native.Mathlib.{Nat.{lt-trans}, Omega.{arith}}
 use lib.Dec.{lit<}
 use mir.Syntax.{w32}
 use mir.Val.{SFits}
@@ -16,11 +13,9 @@ use Rattle.exposure.proofs.Laws.Exposure.{accepts, range-small}
 use Rattle.metadata.proofs.Laws.Metadata.{metadata-within}
 use Rattle.hdr.proofs.Laws.Hdr.{hdr-within}
 use Rattle.throttle.proofs.Laws.Throttle.{throttle-within}
-use Rattle.profile.specs.declared.Profile.{Profile}
-use Rattle.profile.specs.Profile.{has, profileValid}
+use Rattle.profile.specs.{declared.Profile.{Profile}, Profile.{has, profileValid}}
 use Rattle.settings.specs.Kept.{valueRefusal}
-use Rattle.camera.specs.declared.record.Camera.{Camera}
-use Rattle.camera.specs.Record.{held, recordWellFormed}
+use Rattle.camera.specs.{declared.record.Camera.{Camera}, Record.{held, recordWellFormed}}
 use Rattle.profile.proofs.Laws.Profile.{valid-ev}
 use Rattle.camera.proofs.Laws.Record.{formed-profile}
 use Rattle.demands.specs.Cameras.{settingFlags, Typed}

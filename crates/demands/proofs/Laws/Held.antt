@@ -1,30 +1,23 @@
 -- What is held after settings are put in: the last of each key, and what was held of the others. Assumes nothing.
-use mathlib.Core.Path.{_≡_, refl, ap, ap₂, sym, _∙_, subst}
-use mathlib.Core.List.{List, [], _∷_}
-use mathlib.Core.Option.{Option, none, some}
+use mathlib.Core.{Path.{_≡_, refl, ap, ap₂, sym, _∙_, subst}, List.{List, [], _∷_}, Option.{Option, none, some}}
 use mathlib.Core.Bool.{Bool, true, false, cond}
 use Prim.Native.Nat.{ℕ, _+_, _-_, _≤_, _<_}
 use native.Mathlib.Omega.{arith}
-use lib.Dec.{eqb, leb}
-use lib.ListN.{length, getD, replicate, getD-replicate}
+use lib.{Dec.{eqb, leb}, ListN.{length, getD, replicate, getD-replicate}}
 use borrow.Author.Tests.{eq-eqb, ne-eqb, eqb-true, eqb-false, le-leb, lt-leb, leb-true}
 use Rattle.wire.specs.Endpoints.{firstAddress, lastAddress, places}
-use Rattle.snapshot.specs.Keys.{keys, metadataKey, hdrKey, throttleKey}
-use Rattle.snapshot.specs.Given.{over, lastOf}
+use Rattle.snapshot.specs.{Keys.{keys, metadataKey, hdrKey, throttleKey}, Given.{over, lastOf}}
 use Rattle.snapshot.proofs.Laws.Given.{over-assoc}
-use Rattle.controls.specs.declared.Setting.{Setting}
+use Rattle.controls.specs.declared.{Setting.{Setting}, HeldNumber.{HeldNumber}}
 use Rattle.controls.specs.declared.Setting.the-variants as S
 use Rattle.exposure.specs.declared.HeldEv.{HeldEv}
 use Rattle.exposure.specs.declared.HeldEv.the-variants as E
-use Rattle.controls.specs.declared.HeldNumber.{HeldNumber}
 use Rattle.controls.specs.declared.HeldNumber.the-variants as N
 use Rattle.throttle.specs.declared.HeldThrottle.{HeldThrottle}
 use Rattle.throttle.specs.declared.HeldThrottle.the-variants as T
 use Rattle.entries.proofs.Laws.Held.{put-at, length-put}
-use Rattle.settings.specs.declared.settings.Settings.{Settings}
-use Rattle.settings.specs.Settings.{noSettings, settingKey, put}
-use Rattle.settings.specs.Held.{evHeld, faceHeld, numberHeld, metadataHeld, hdrHeld, throttleHeld, settingsHeld}
-use Rattle.settings.specs.Items.{putAll}
+use Rattle.settings.specs.{declared.settings.Settings.{Settings}, Settings.{noSettings, settingKey, put}}
+use Rattle.settings.specs.{Held.{evHeld, faceHeld, numberHeld, metadataHeld, hdrHeld, throttleHeld, settingsHeld}, Items.{putAll}}
 
 -- a setting that can be held: of face authentication, at an address that has a place and with a flag
 abbrev pub Proper : Setting → Type 0

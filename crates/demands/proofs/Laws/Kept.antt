@@ -1,46 +1,29 @@
 -- Settings that a SET gives keep the record's rules. Assumes nothing.
-use mathlib.Core.Path.{_≡_, refl, ap, sym, _∙_, subst}
-use mathlib.Core.List.{List, [], _∷_, _++_}
-use mathlib.Core.Option.{Option, none, some}
+use mathlib.Core.{Path.{_≡_, refl, ap, sym, _∙_, subst}, List.{List, [], _∷_, _++_}, Option.{Option, none, some}}
 use mathlib.Core.Bool.{Bool, true, false, cond, not, _&&_, true≢false, and-eq-true-iff}
 use Prim.Native.Nat.{ℕ, zero, suc, _<_}
 use native.Mathlib.Omega.{arith}
-use lib.Dec.{eqb, leb}
-use lib.ListN.{length}
+use lib.{Dec.{eqb, leb}, ListN.{length}}
 use borrow.Author.Tests.{eq-eqb, eqb-true, eqb-false, leb-true, leb-false}
-use Rattle.wire.specs.Endpoints.{places}
+use Rattle.wire.specs.{Endpoints.{places}, Numbers.{leAt}, Rows.{Row, _⇒_, Quiet, allBelow}, Uvc.{outOfRange, invalidValue, wrongState}}
 use Rattle.flags.specs.Flags.{bitsOf, count, oneFlag}
-use Rattle.wire.specs.Numbers.{leAt}
-use Rattle.wire.specs.Rows.{Row, _⇒_, Quiet}
 use Rattle.wire.specs.Selectors as selectors
-use Rattle.wire.specs.Uvc.{outOfRange, invalidValue, wrongState}
-use Rattle.wire.proofs.Laws.Rows.{quiet}
-use Rattle.snapshot.specs.Keys.{keys}
-use Rattle.snapshot.specs.Given.{over, lastOf}
-use Rattle.controls.specs.declared.Item.{Item}
-use Rattle.controls.specs.declared.Item.the-variants.{Refused, Given}
-use Rattle.controls.specs.declared.Setting.{Setting}
+use Rattle.wire.proofs.Laws.{Rows.{quiet}, Below.{all-at, all-of}}
+use Rattle.snapshot.specs.{Keys.{keys}, Given.{over, lastOf}}
+use Rattle.controls.specs.{declared.{Item.{Item}, Item.the-variants.{Refused, Given}, Setting.{Setting}}, Controls.{itemOf}}
 use Rattle.controls.specs.declared.Setting.the-variants as S
-use Rattle.controls.specs.Controls.{itemOf}
 use Rattle.exposure.specs.Exposure.{evItem, evFlags, evValue}
 use Rattle.face.specs.Limits.{faceValid, offersOf}
-use Rattle.wire.specs.Rows.{allBelow}
 use Rattle.entries.specs.Entries.{entryAddress, entryFlags, seenBefore, isChoice, entryRefusal, settingRefusal, faceItem}
 use Rattle.metadata.specs.Metadata.{metadataItem}
 use Rattle.hdr.specs.Hdr.{hdrItem}
 use Rattle.throttle.specs.Throttle.{throttleItem}
 use Rattle.controls.proofs.Laws.Controls.{given-is}
 use Rattle.face.proofs.Laws.Limits.{listed}
-use Rattle.wire.proofs.Laws.Below.{all-at, all-of}
-use Rattle.profile.specs.declared.Profile.{Profile}
-use Rattle.settings.specs.declared.settings.Settings.{Settings}
-use Rattle.profile.specs.Profile.{has, isSettable, profileValid, profileRefusal}
-use Rattle.settings.specs.Settings.{settingKey, settingSelector}
-use Rattle.settings.specs.Held.{settingsHeld}
-use Rattle.settings.specs.Kept.{valueRefusal, kept, settingsWellFormed}
-use Rattle.profile.specs.Items.{profileItem}
-use Rattle.settings.specs.Items.{givenOf, allGiven, putAll}
+use Rattle.profile.specs.{declared.Profile.{Profile}, Profile.{has, isSettable, profileValid, profileRefusal}, Items.{profileItem}}
 use Rattle.profile.specs.KnownControl.{KnownControl, ev, face, metadata, hdr, throttle}
+use Rattle.settings.specs.{declared.settings.Settings.{Settings}, Settings.{settingKey, settingSelector}, Held.{settingsHeld}}
+use Rattle.settings.specs.{Kept.{valueRefusal, kept, settingsWellFormed}, Items.{givenOf, allGiven, putAll}}
 use Rattle.profile.proofs.Laws.Profile.{valid-face}
 use Rattle.settings.proofs.Laws.Kept.{control-kept}
 use Rattle.camera.specs.Requests.{controlRefusal}

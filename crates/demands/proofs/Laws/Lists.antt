@@ -1,19 +1,12 @@
 -- Lists of calls on records of one profile. Assumes nothing.
-use mathlib.Core.Path.{_≡_, refl, ap, ap₂, sym, _∙_, fun-ext}
-use mathlib.Core.List.{List, [], _∷_, _++_, append-assoc}
-use mathlib.Core.Bool.{Bool, true}
+use mathlib.Core.{Path.{_≡_, refl, ap, ap₂, sym, _∙_, fun-ext}, List.{List, [], _∷_, _++_, append-assoc}, Bool.{Bool, true}}
 use Prim.Native.Nat.{ℕ}
 use Rattle.snapshot.specs.Given.{over, lastOf}
 use Rattle.snapshot.proofs.Laws.Given.{over-assoc, over-none, last-append}
-use Rattle.profile.specs.declared.Profile.{Profile}
-use Rattle.profile.specs.Profile.{profileValid}
-use Rattle.settings.specs.Settings.{noSettings}
-use Rattle.settings.specs.Kept.{kept}
-use Rattle.camera.specs.declared.record.Camera.{Camera}
-use Rattle.camera.specs.Record.{fresh, held}
-use Rattle.camera.specs.Calls.{Call, next}
-use Rattle.demands.specs.Runs.{gives, leaves, flagAfter, given, settings, run}
-use Rattle.demands.specs.Cameras.{Ok}
+use Rattle.profile.specs.{declared.Profile.{Profile}, Profile.{profileValid}}
+use Rattle.settings.specs.{Settings.{noSettings}, Kept.{kept}}
+use Rattle.camera.specs.{declared.record.Camera.{Camera}, Record.{fresh, held}, Calls.{Call, next}}
+use Rattle.demands.specs.{Runs.{gives, leaves, flagAfter, given, settings, run}, Cameras.{Ok}}
 use Rattle.demands.proofs.Laws.Held.{none-held}
 use Rattle.demands.proofs.Laws.Kept.{kept-formed}
 use Rattle.demands.proofs.Laws.Steps.{step}

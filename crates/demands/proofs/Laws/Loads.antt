@@ -1,46 +1,26 @@
 -- Loading a snapshot: what it answers and gives, record by record. Assumes nothing.
-use mathlib.Core.Path.{_≡_, refl, ap, ap₂, sym, _∙_}
-use mathlib.Core.List.{List, [], _∷_}
-use mathlib.Core.Option.{Option, none, some, Option·elim}
+use mathlib.Core.{Path.{_≡_, refl, ap, ap₂, sym, _∙_}, List.{List, [], _∷_}, Option.{Option, none, some, Option·elim}}
 use mathlib.Core.Bool.{Bool, true, false, cond, not, true≢false}
 use Prim.Native.Nat.{ℕ, zero, suc, _+_, _-_, _≤_, _<_}
 use native.Mathlib.Omega.{arith}
-use lib.Dec.{eqb, leb}
-use lib.ListN.{getD, drop}
-use lib.Seq.{getD-drop}
+use lib.{Dec.{eqb, leb}, ListN.{getD, drop}, Seq.{getD-drop}}
 use borrow.Author.Tests.{eq-eqb, ne-eqb, eqb-true, eqb-false, leb-true, leb-false, not-false}
-use Rattle.wire.specs.Endpoints.{firstAddress}
-use Rattle.wire.specs.Rows.{_⇒_, answers, firstOf}
-use Rattle.wire.specs.Uvc.{malformedSnapshot}
+use Rattle.wire.specs.{Endpoints.{firstAddress}, Rows.{_⇒_, answers, firstOf}, Uvc.{malformedSnapshot}}
 use Rattle.wire.proofs.Laws.Rows.{quiet, answers-number}
-use Rattle.snapshot.specs.Keys.{keys}
-use Rattle.snapshot.specs.Form.{statedKey, wellFormed}
-use Rattle.snapshot.specs.Keys.{keyFor}
-use Rattle.snapshot.specs.Records.{decode, GoodAt, IsRecord}
-use Rattle.snapshot.specs.Given.{over, lastOf}
+use Rattle.snapshot.specs.{Keys.{keys, keyFor}, Form.{statedKey, wellFormed}, Records.{decode, GoodAt, IsRecord}, Given.{over, lastOf}}
 use Rattle.merging.specs.Merging.{merged}
-use Rattle.snapshot.proofs.Laws.Sound.{stands-sound}
-use Rattle.snapshot.proofs.Laws.Maps.{decode-good, none-above}
-use Rattle.snapshot.proofs.Laws.Given.{over-none, last-append}
+use Rattle.snapshot.proofs.Laws.{Sound.{stands-sound}, Maps.{decode-good, none-above}, Given.{over-none, last-append}}
 use Rattle.merging.proofs.Laws.Merging.{decode-merged, merged-formed}
-use Rattle.controls.specs.declared.Item.{Item}
-use Rattle.controls.specs.declared.Item.the-variants.{Refused, Given}
-use Rattle.controls.specs.declared.Setting.{Setting}
-use Rattle.controls.specs.Controls.{itemOf, itemCode}
+use Rattle.controls.specs.{declared.{Item.{Item}, Item.the-variants.{Refused, Given}, Setting.{Setting}}, Controls.{itemOf, itemCode}}
 use Rattle.exposure.specs.Exposure.{evItem}
 use Rattle.entries.specs.Entries.{faceItem}
 use Rattle.metadata.specs.Metadata.{metadataItem}
 use Rattle.hdr.specs.Hdr.{hdrItem}
 use Rattle.throttle.specs.Throttle.{throttleItem}
-use Rattle.controls.proofs.Laws.Controls.{item-given, item-code, given-is}
-use Rattle.profile.specs.declared.Profile.{Profile}
-use Rattle.settings.specs.Settings.{settingKey}
-use Rattle.camera.specs.Requests.{controlRefusal}
-use Rattle.profile.specs.Items.{profileItem}
-use Rattle.settings.specs.Items.{givenOf, allGiven}
-use Rattle.controls.proofs.Laws.Items.{passes, none-refused}
-use Rattle.profile.specs.KnownControl.{KnownControl, ev, face, metadata, hdr, throttle}
-use Rattle.camera.specs.Loading.{selectorAt, recordItem, loadRefusal, loadTests, loadGives}
+use Rattle.controls.proofs.Laws.{Controls.{item-given, item-code, given-is}, Items.{passes, none-refused}}
+use Rattle.profile.specs.{declared.Profile.{Profile}, Items.{profileItem}, KnownControl.{KnownControl, ev, face, metadata, hdr, throttle}}
+use Rattle.settings.specs.{Settings.{settingKey}, Items.{givenOf, allGiven}}
+use Rattle.camera.specs.{Requests.{controlRefusal}, Loading.{selectorAt, recordItem, loadRefusal, loadTests, loadGives}}
 use Rattle.camera.proofs.Laws.Loading.{codeBy, givenBy}
 use Rattle.demands.proofs.Laws.Sets.{is-kind}
 use Rattle.demands.proofs.Laws.Steps.{isGiven, key-control}

@@ -1,31 +1,22 @@
 -- A camera's snapshot is no longer than 159 bytes: no more endpoints hold a setting than the profile lists. Assumes nothing.
-use mathlib.Core.Path.{_≡_, refl, ap, sym, _∙_}
-use mathlib.Core.List.{List, [], _∷_}
-use mathlib.Core.Option.{Option, none, some, Option·map}
+use mathlib.Core.{Path.{_≡_, refl, ap, sym, _∙_}, List.{List, [], _∷_}, Option.{Option, none, some, Option·map}}
 use mathlib.Core.Bool.{Bool, true, false, cond, not, _||_}
 use Prim.Native.Nat.{ℕ, zero, suc, _+_, _-_, _≤_}
-use native.Mathlib.Nat.{zero-add, add-zero}
-use native.Mathlib.Omega.{arith}
-use lib.Dec.{eqb}
-use lib.ListN.{length, getD}
+use native.Mathlib.{Nat.{zero-add, add-zero}, Omega.{arith}}
+use lib.{Dec.{eqb}, ListN.{length, getD}}
 use borrow.Author.Tests.{eqb-true, eqb-false}
-use Rattle.wire.specs.Endpoints.{firstAddress, places, endpointLimit}
+use Rattle.wire.specs.{Endpoints.{firstAddress, places, endpointLimit}, Rows.{_⇒_}, Uvc.{outOfRange, invalidValue}}
 use Rattle.flags.specs.Flags.{oneFlag}
-use Rattle.wire.specs.Rows.{_⇒_}
-use Rattle.wire.specs.Uvc.{outOfRange, invalidValue}
 use Rattle.wire.proofs.Laws.Rows.{quiet}
 use Rattle.snapshot.specs.Records.{countOne, recordCount}
 use Rattle.snapshot.proofs.Laws.Lengths.{encode-short}
-use Rattle.face.specs.declared.limits.FaceLimits.{FaceLimits}
+use Rattle.face.specs.{declared.limits.FaceLimits.{FaceLimits}, Limits.{addressAt, offersAt, offersFrom, offersOf, endpointsOf}}
 use Rattle.settings.specs.Kept.{valueRefusal}
-use Rattle.face.specs.Limits.{addressAt, offersAt, offersFrom, offersOf, endpointsOf}
 use Rattle.entries.specs.Entries.{isChoice, settingRefusal}
 use Rattle.controls.specs.declared.Setting.{Setting}
 use Rattle.controls.specs.declared.Setting.the-variants as S
-use Rattle.camera.specs.declared.record.Camera.{Camera}
-use Rattle.camera.specs.Record.{held, recordWellFormed}
+use Rattle.camera.specs.{declared.record.Camera.{Camera}, Record.{held, recordWellFormed}, Writing.{snapshot}}
 use Rattle.encoding.specs.Encoding.{recordOf}
-use Rattle.camera.specs.Writing.{snapshot}
 use Rattle.demands.proofs.Laws.Held.{held-face, none-never}
 use Rattle.demands.proofs.Laws.Kept.{held-good}
 use Rattle.demands.proofs.Laws.Cameras.{held-records}

@@ -1,55 +1,36 @@
 -- What an accepted SET leaves of the record, control by control. Assumes nothing.
-use mathlib.Core.Path.{_≡_, refl, ap, ap₂, sym, _∙_}
-use mathlib.Core.List.{List, [], _∷_, _++_}
-use mathlib.Core.Option.{none, some}
+use mathlib.Core.{Path.{_≡_, refl, ap, ap₂, sym, _∙_}, List.{List, [], _∷_, _++_}, Option.{none, some}}
 use mathlib.Core.Bool.{Bool, true, false, cond, _||_, true≢false}
 use Prim.Native.Nat.{ℕ, zero, suc, _+_, _-_, _*_, _≤_, _<_}
 use native.Mathlib.Omega.{arith}
-use lib.Dec.{eqb, ltb, leb, lit<}
-use lib.ListN.{length, getD, take, drop, length-drop, List·getD-eq-default}
+use lib.{Dec.{eqb, ltb, leb, lit<}, ListN.{length, getD, take, drop, length-drop, List·getD-eq-default}}
 use lib.Seq.{drop-cons, drop-drop, drop-at, drop-append-le, take-add, take-append-le, getD-set-same, getD-set-other}
 use borrow.Author.Tests.{eq-eqb, ne-eqb, eqb-true, eqb-false, ltb-true, ltb-false, le-leb}
-use Rattle.wire.specs.Endpoints.{firstAddress, lastAddress, places}
-use Rattle.wire.specs.Numbers.{leAt, bytesOf}
+use Rattle.wire.specs.{Endpoints.{firstAddress, lastAddress, places}, Numbers.{leAt, bytesOf}, Uvc.{getCur, getDef}}
 use Rattle.wire.specs.Selectors as selectors
-use Rattle.wire.specs.Uvc.{getCur, getDef}
-use Rattle.wire.proofs.Laws.Bytes.{bytes-at, word-bytes}
-use Rattle.wire.proofs.Laws.Numbers.{Bytes}
-use Rattle.request.specs.Answers.{answerBy}
-use Rattle.request.specs.Tests.{fullAnswer}
-use Rattle.controls.specs.declared.Item.{Item}
-use Rattle.controls.specs.declared.Item.the-variants.{Given}
-use Rattle.controls.specs.declared.Setting.{Setting}
-use Rattle.controls.specs.declared.Setting.the-variants as S
+use Rattle.wire.proofs.Laws.{Bytes.{bytes-at, word-bytes}, Numbers.{Bytes}}
+use Rattle.request.specs.{Answers.{answerBy}, Tests.{fullAnswer}}
+use Rattle.controls.specs.declared.{Item.{Item}, Item.the-variants.{Given}, Setting.{Setting}}
 use Rattle.controls.specs.Controls.{itemOf, numberOr, itemCode, firstRefusal}
+use Rattle.controls.specs.declared.Setting.the-variants as S
 use Rattle.exposure.specs.Exposure.{evFlags, evValue, evItem, evCurrent, evAttribute}
-use Rattle.face.specs.declared.limits.FaceLimits.{FaceLimits}
-use Rattle.face.specs.Limits.{endpointsOf, addressAt, offersAt, offersFrom, offersOf}
-use Rattle.entries.specs.Entries.{faceSetLength, entryAddress, entryFlags, seenIn, seenBefore, putFace, entriesPut, facesTaken}
+use Rattle.face.specs.{declared.limits.FaceLimits.{FaceLimits}, Limits.{endpointsOf, addressAt, offersAt, offersFrom, offersOf}}
 use Rattle.face.specs.Answers.{entryOf, heldAt, flagsAt, entriesOf, faceValue}
+use Rattle.entries.specs.Entries.{faceSetLength, entryAddress, entryFlags, seenIn, seenBefore, putFace, entriesPut, facesTaken}
 use Rattle.metadata.specs.Metadata.{metadataItem, metadataAttribute}
 use Rattle.hdr.specs.Hdr.{hdrItem, hdrAttribute}
 use Rattle.throttle.specs.Throttle.{throttleItem, throttleCurrent, throttleAttribute, throttleBytes}
 use Rattle.controls.proofs.Laws.Items.{none-refused}
 use Rattle.exposure.proofs.Laws.Exposure.{ev-bytes}
-use Rattle.entries.proofs.Laws.Entries.{taken-entries}
+use Rattle.entries.proofs.Laws.{Entries.{taken-entries}, Payload.{accepted}, Held.{length-put}}
 use Rattle.face.proofs.Laws.Answers.{length-entries}
-use Rattle.entries.proofs.Laws.Payload.{accepted}
-use Rattle.entries.proofs.Laws.Held.{length-put}
-use Rattle.profile.specs.declared.Profile.{Profile}
-use Rattle.settings.specs.declared.settings.Settings.{Settings}
-use Rattle.profile.specs.KnownControl.{KnownControl, ev, face, metadata, hdr, throttle}
-use Rattle.profile.specs.Profile.{isSettable, setLength, profileValid, profileRefusal}
-use Rattle.settings.specs.Held.{faceHeld, settingsHeld}
-use Rattle.settings.specs.Settings.{put}
-use Rattle.profile.specs.Items.{profileItem, setRefusal}
+use Rattle.profile.specs.{declared.Profile.{Profile}, KnownControl.{KnownControl, ev, face, metadata, hdr, throttle}}
+use Rattle.profile.specs.{Profile.{isSettable, setLength, profileValid, profileRefusal}, Items.{profileItem, setRefusal}}
+use Rattle.settings.specs.{declared.settings.Settings.{Settings}, Held.{faceHeld, settingsHeld}, Settings.{put}}
 use Rattle.settings.specs.Items.{givenOf, allGiven, putAll, setGives, setTaken}
 use Rattle.answering.specs.Answering.{valueOf}
 use Rattle.settings.proofs.Laws.Items.{face-refusal, face-set}
-use Rattle.camera.specs.declared.record.Camera.{Camera}
-use Rattle.camera.specs.Record.{withSettings}
-use Rattle.camera.specs.Requests.{cameraAnswer}
-use Rattle.camera.specs.Loading.{selectorAt}
+use Rattle.camera.specs.{declared.record.Camera.{Camera}, Record.{withSettings}, Requests.{cameraAnswer}, Loading.{selectorAt}}
 use Rattle.demands.specs.Answers.{bytesBack, entryBytes}
 use Rattle.demands.proofs.Laws.Held.{none-never, held-face}
 use Rattle.demands.proofs.Laws.Kept.{item-good}

@@ -1,20 +1,15 @@
 -- What is held of a control says how the record keeps it. Assumes nothing.
-use mathlib.Core.Path.{_≡_, refl, ap, sym, _∙_}
-use mathlib.Core.Option.{none, some}
-use mathlib.Core.Bool.{Bool, true, false, cond}
+use mathlib.Core.{Path.{_≡_, refl, ap, sym, _∙_}, Option.{none, some}, Bool.{Bool, true, false, cond}}
 use Prim.Native.Nat.{ℕ, _+_, _-_, _<_}
 use native.Mathlib.Omega.{arith}
-use lib.Dec.{eqb}
-use lib.ListN.{length, getD}
-use lib.Seq.{ext-getD}
+use lib.{Dec.{eqb}, ListN.{length, getD}, Seq.{ext-getD}}
 use borrow.Author.Tests.{eqb-true}
 use Rattle.snapshot.specs.Keys.{metadataKey, hdrKey, throttleKey}
 use Rattle.wire.specs.Endpoints.{firstAddress, places}
-use Rattle.controls.specs.declared.Setting.{Setting}
+use Rattle.controls.specs.declared.{Setting.{Setting}, HeldNumber.{HeldNumber}}
 use Rattle.controls.specs.declared.Setting.the-variants as S
 use Rattle.exposure.specs.declared.HeldEv.{HeldEv}
 use Rattle.exposure.specs.declared.HeldEv.the-variants as E
-use Rattle.controls.specs.declared.HeldNumber.{HeldNumber}
 use Rattle.controls.specs.declared.HeldNumber.the-variants as N
 use Rattle.throttle.specs.declared.HeldThrottle.{HeldThrottle}
 use Rattle.throttle.specs.declared.HeldThrottle.the-variants as T

@@ -1,13 +1,10 @@
 -- The sensor's number: twelfths of a stop for steps of which some number makes a stop. Assumes nothing.
-use mathlib.Core.Path.{_≡_, refl, ap, _∙_}
-use mathlib.Core.Bool.{true, and-eq-true-iff}
+use mathlib.Core.{Path.{_≡_, refl, ap, _∙_}, Bool.{true, and-eq-true-iff}}
 use Prim.Native.Nat.{ℕ, zero, suc, _*_, _/_, _<_}
-use native.Mathlib.Nat.{mul-assoc, mul-comm}
-use native.Mathlib.Omega.{arith}
+use native.Mathlib.{Nat.{mul-assoc, mul-comm}, Omega.{arith}}
 use lib.IntN.{ℤ, pos, negsuc, negℤ, _*ℤ_}
 use borrow.Author.Tests.{ltb-true}
-use Rattle.exposure.specs.declared.EvLimits.{EvLimits}
-use Rattle.exposure.specs.Exposure.{evValid, divisor}
+use Rattle.exposure.specs.{declared.EvLimits.{EvLimits}, Exposure.{evValid, divisor}}
 
 -- every step is a whole number of twelfths
 pub twelfths-whole : (place : ℕ) → divisor place * (12 / divisor place) ≡ 12

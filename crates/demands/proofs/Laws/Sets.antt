@@ -1,42 +1,26 @@
 -- A snapshot's record in form, tested as a SET and taken as one. Assumes nothing.
-use mathlib.Core.Path.{_≡_, refl, ap, sym, _∙_}
-use mathlib.Core.List.{List, [], _∷_, append-nil}
+use mathlib.Core.{Path.{_≡_, refl, ap, sym, _∙_}, List.{List, [], _∷_, append-nil}}
 use mathlib.Core.Bool.{Bool, true, false, cond, not, true≢false, and-eq-true-iff}
 use Prim.Native.Nat.{ℕ, _+_, _-_, _^_, _≤_, _<_}
 use native.Mathlib.Omega.{arith}
-use lib.Dec.{eqb}
-use lib.ListN.{length, getD, drop, length-drop}
-use lib.Seq.{getD-drop}
+use lib.{Dec.{eqb}, ListN.{length, getD, drop, length-drop}, Seq.{getD-drop}}
 use borrow.Author.Tests.{eq-eqb, ne-eqb, le-leb, eqb-true, eqb-false}
-use Rattle.snapshot.specs.Keys.{metadataKey, hdrKey, throttleKey}
-use Rattle.wire.specs.Endpoints.{firstAddress, places}
-use Rattle.wire.specs.Numbers.{leAt, bytesOf}
-use Rattle.wire.specs.Rows.{Row, _⇒_, answers, firstOf}
-use Rattle.wire.specs.Selectors as selectors
+use Rattle.snapshot.specs.{Keys.{metadataKey, hdrKey, throttleKey, kindLength}, Form.{statedKey, statedKind}, Records.{IsRecord}}
+use Rattle.wire.specs.{Endpoints.{firstAddress, places}, Numbers.{leAt, bytesOf}, Rows.{Row, _⇒_, answers, firstOf}}
 use Rattle.wire.specs.Uvc.{setCur, invalidControl, invalidRequest}
-use Rattle.wire.proofs.Laws.Bytes.{number-bytes}
-use Rattle.request.specs.Setup.{setupWLength}
-use Rattle.request.specs.Tests.{requestTests, valueTests, setAccepted, tableRefusal}
-use Rattle.snapshot.specs.Form.{statedKey, statedKind}
-use Rattle.snapshot.specs.Keys.{kindLength}
-use Rattle.snapshot.specs.Records.{IsRecord}
+use Rattle.wire.specs.Selectors as selectors
+use Rattle.wire.proofs.Laws.{Bytes.{number-bytes}, Rows.{answers-number}}
+use Rattle.request.specs.{Setup.{setupWLength}, Tests.{requestTests, valueTests, setAccepted, tableRefusal}}
 use Rattle.snapshot.proofs.Laws.Sound.{Sound, Kind, ev, face, metadata, hdr, throttle, kind-of, sound-address, stands-sound, stands-size}
-use Rattle.controls.specs.declared.Item.{Item}
-use Rattle.controls.specs.declared.Item.the-variants.{Refused, Given}
+use Rattle.controls.specs.{declared.{Item.{Item}, Item.the-variants.{Refused, Given}}, Controls.{itemCode, firstRefusal}}
 use Rattle.face.proofs.Laws.Limits.{count-least}
 use Rattle.entries.proofs.Laws.Payload.{set-length-first}
-use Rattle.controls.specs.Controls.{itemCode, firstRefusal}
-use Rattle.profile.specs.declared.Profile.{Profile}
-use Rattle.profile.specs.Profile.{has, isSettable, setLength, profileValid}
-use Rattle.camera.specs.Requests.{stateRefusal}
-use Rattle.camera.specs.Requests.{controlRefusal}
+use Rattle.profile.specs.{declared.Profile.{Profile}, Profile.{has, isSettable, setLength, profileValid}}
 use Rattle.profile.specs.Items.{itemCount, profileItem, setRefusal}
+use Rattle.camera.specs.{Requests.{stateRefusal, controlRefusal}, Loading.{selectorAt, recordItem}}
 use Rattle.settings.specs.Items.{givenOf, allGiven, setGives}
 use Rattle.profile.proofs.Laws.Profile.{valid-face}
-use Rattle.camera.specs.Loading.{selectorAt, recordItem}
-use Rattle.demands.specs.Runs.{gives}
-use Rattle.demands.specs.Loading.{recordSet, setCode, AsSet}
-use Rattle.wire.proofs.Laws.Rows.{answers-number}
+use Rattle.demands.specs.{Runs.{gives}, Loading.{recordSet, setCode, AsSet}}
 
 -- an item with a number gives nothing
 refused-nothing : (i : Item) → eqb (itemCode i) 0 ≡ false → givenOf i ≡ []

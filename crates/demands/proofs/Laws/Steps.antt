@@ -1,49 +1,27 @@
 -- What one call leaves of a well-formed record: the settings that it gives are put in, and the flag is set. Assumes nothing.
-use mathlib.Core.Path.{_≡_, refl, ap, sym, _∙_, subst}
-use mathlib.Core.List.{List, [], _∷_, _++_}
-use mathlib.Core.Option.{Option, none, some, Option·elim}
+use mathlib.Core.{Path.{_≡_, refl, ap, sym, _∙_, subst}, List.{List, [], _∷_, _++_}, Option.{Option, none, some, Option·elim}}
 use mathlib.Core.Bool.{Bool, true, false, cond, not, _&&_, true≢false, and-eq-true-iff}
 use Prim.Native.Nat.{ℕ}
-use lib.Dec.{eqb, ltb, leb}
-use lib.ListN.{length, drop}
+use lib.{Dec.{eqb, ltb, leb}, ListN.{length, drop}}
 use borrow.Author.Tests.{ne-eqb, eqb-true, not-false}
-use Rattle.wire.specs.Endpoints.{places}
-use Rattle.wire.specs.Rows.{Row, _⇒_, firstOf, Quiet}
+use Rattle.wire.specs.{Endpoints.{places}, Rows.{Row, _⇒_, firstOf, Quiet}, Uvc.{malformedRecord, noRoom}}
 use Rattle.wire.specs.Selectors as selectors
-use Rattle.wire.specs.Uvc.{malformedRecord, noRoom}
 use Rattle.wire.proofs.Laws.Rows.{quiet, quiet-own, own-coded, own-quiet, first-quiet}
-use Rattle.request.specs.Setup.{isSetRequest}
-use Rattle.request.specs.Setup.{setupSelector, setupValueLow, setupWLength}
-use Rattle.request.specs.Table.{Table}
-use Rattle.request.specs.Tests.{requestTests, isSized, sentCount, valueTests, requestRows}
-use Rattle.request.specs.Tests.{requestCode, setAccepted}
-use Rattle.snapshot.specs.Keys.{keys, metadataKey, hdrKey}
-use Rattle.snapshot.specs.Records.{decode}
-use Rattle.snapshot.specs.Given.{over, lastOf}
-use Rattle.controls.specs.declared.Item.{Item}
-use Rattle.controls.specs.declared.Item.the-variants.{Refused, Given}
-use Rattle.controls.specs.declared.Setting.{Setting}
-use Rattle.profile.specs.declared.Profile.{Profile}
-use Rattle.profile.specs.Profile.{has, isSettable, setLength, profileValid, profileRefusal}
-use Rattle.profile.specs.Items.{itemCount, profileItem, setRefusal}
-use Rattle.settings.specs.Items.{givenOf, setGives}
-use Rattle.settings.specs.Items.{putAll}
-use Rattle.profile.specs.KnownControl.{KnownControl, ev, face, metadata, hdr, throttle}
+use Rattle.request.specs.{Setup.{isSetRequest, setupSelector, setupValueLow, setupWLength}, Table.{Table}}
+use Rattle.request.specs.Tests.{requestTests, isSized, sentCount, valueTests, requestRows, requestCode, setAccepted}
+use Rattle.snapshot.specs.{Keys.{keys, metadataKey, hdrKey}, Records.{decode}, Given.{over, lastOf}}
+use Rattle.controls.specs.declared.{Item.{Item}, Item.the-variants.{Refused, Given}, Setting.{Setting}}
+use Rattle.profile.specs.{declared.Profile.{Profile}, Profile.{has, isSettable, setLength, profileValid, profileRefusal}}
+use Rattle.profile.specs.{Items.{itemCount, profileItem, setRefusal}, KnownControl.{KnownControl, ev, face, metadata, hdr, throttle}}
+use Rattle.settings.specs.Items.{givenOf, setGives, putAll}
 use Rattle.settings.proofs.Laws.Kept.{control-kept}
-use Rattle.profile.proofs.Laws.Profile.{valid-presence}
-use Rattle.profile.proofs.Laws.KnownControl.{control-known}
-use Rattle.camera.specs.declared.record.Camera.{Camera}
-use Rattle.camera.specs.declared.calls.Outcome.{Outcome}
-use Rattle.camera.specs.Record.{held, recordWellFormed, puts}
-use Rattle.camera.specs.Requests.{requestedCode, refused, outcomeBy, requestDone, requested, rules, table}
-use Rattle.camera.specs.Requests.{controlRefusal}
-use Rattle.camera.specs.Loading.{selectorAt, recordItem, loadTests, loadCode, loadGives, loaded}
-use Rattle.camera.specs.Writing.{snapshot, written, writeCode}
+use Rattle.profile.proofs.Laws.{Profile.{valid-presence}, KnownControl.{control-known}}
+use Rattle.camera.specs.{declared.{record.Camera.{Camera}, calls.Outcome.{Outcome}}, Record.{held, recordWellFormed, puts}}
+use Rattle.camera.specs.Requests.{requestedCode, refused, outcomeBy, requestDone, requested, rules, table, controlRefusal}
+use Rattle.camera.specs.{Loading.{selectorAt, recordItem, loadTests, loadCode, loadGives, loaded}, Writing.{snapshot, written, writeCode}}
 use Rattle.camera.specs.Calls.{sensed, Call, request, stream, load, write, sense, outcome, next}
-use Rattle.camera.proofs.Laws.Record.{formed-profile, streamed-done}
-use Rattle.camera.proofs.Laws.Loading.{givenBy}
-use Rattle.demands.specs.Runs.{acceptsSet, gives, leaves}
-use Rattle.demands.specs.Cameras.{Ok}
+use Rattle.camera.proofs.Laws.{Record.{formed-profile, streamed-done}, Loading.{givenBy}}
+use Rattle.demands.specs.{Runs.{acceptsSet, gives, leaves}, Cameras.{Ok}}
 use Rattle.demands.proofs.Laws.Held.{Each, puts-held, puts-length}
 use Rattle.demands.proofs.Laws.Kept.{Good, control-streaming, item-good, given-good, all-good, each-proper, puts-formed}
 

@@ -1,15 +1,11 @@
 -- What the types of a camera's settings say of each setting that is held. Assumes nothing.
-use mathlib.Core.Path.{_≡_}
-use mathlib.Core.Option.{none, some}
-use mathlib.Core.Bool.{Bool, true, false, cond}
+use mathlib.Core.{Path.{_≡_}, Option.{none, some}, Bool.{Bool, true, false, cond}}
 use Prim.Native.Nat.{ℕ, _+_, _-_, _^_, _<_}
-use lib.Dec.{eqb, leb, lit<}
-use lib.ListN.{getD}
+use lib.{Dec.{eqb, leb, lit<}, ListN.{getD}}
 use Rattle.snapshot.specs.Keys.{metadataKey, hdrKey, throttleKey}
 use Rattle.wire.specs.Endpoints.{firstAddress, places}
-use Rattle.controls.specs.declared.Setting.{Setting}
+use Rattle.controls.specs.declared.{Setting.{Setting}, HeldNumber.{HeldNumber}}
 use Rattle.controls.specs.declared.Setting.the-variants as S
-use Rattle.controls.specs.declared.HeldNumber.{HeldNumber}
 use Rattle.controls.specs.declared.HeldNumber.the-variants as N
 use Rattle.throttle.specs.declared.HeldThrottle.{HeldThrottle}
 use Rattle.throttle.specs.declared.HeldThrottle.the-variants as T

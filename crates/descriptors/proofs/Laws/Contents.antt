@@ -1,14 +1,10 @@
 -- `contents` does not depend on its bound, where that is at least the bytes left. Assumes nothing.
 use Prim.Native.Nat.{ℕ, zero, suc, _+_, _-_, _≤_, _<_}
-use mathlib.Core.Path.{_≡_, refl, sym, ap, ap₂, _∙_}
-use mathlib.Core.List.{List, [], _∷_}
-use mathlib.Core.Bool.{Bool, true, false, cond, false≢true}
+use mathlib.Core.{Path.{_≡_, refl, sym, ap, ap₂, _∙_}, List.{List, [], _∷_}, Bool.{Bool, true, false, cond, false≢true}}
 use native.Mathlib.Omega.{arith}
-use lib.ListN.{length}
-use lib.Dec.{ltb}
+use lib.{ListN.{length}, Dec.{ltb}}
 use borrow.Author.Tests.{ltb-true, le-ltb, lt-ltb}
-use Rattle.descriptors.specs.declared.header.Parent.{Parent}
-use Rattle.descriptors.specs.declared.header.Descriptor.{Descriptor}
+use Rattle.descriptors.specs.declared.{header.Parent.{Parent}, header.Descriptor.{Descriptor}}
 use Rattle.descriptors.specs.declared.header.Descriptor.the-variants.{Refused, Opaque, Property, Subset}
 use Rattle.descriptors.specs.Header.{descriptorRefusal, interfaceOf, descriptorAt}
 use Rattle.descriptors.specs.Set.{SetReading, refused, sound, _then_, descriptor, descriptorSize, contents, contentsOf, isSound}

@@ -1,15 +1,10 @@
 -- The fault that a stretch of the set is refused for is the first in byte order. Assumes nothing.
 use Prim.Native.Nat.{ℕ, _+_, _-_, _≤_, _<_}
-use mathlib.Core.Path.{_≡_, refl, sym, _∙_, ap}
-use mathlib.Core.List.{List, []}
-use mathlib.Core.Logic.{_⊎_, inl, inr}
-use mathlib.Core.Bool.{Bool, true, false}
+use mathlib.Core.{Path.{_≡_, refl, sym, _∙_, ap}, List.{List, []}, Logic.{_⊎_, inl, inr}, Bool.{Bool, true, false}}
 use native.Mathlib.Omega.{arith}
-use lib.ListN.{length}
-use lib.Dec.{ltb}
+use lib.{ListN.{length}, Dec.{ltb}}
 use borrow.Author.Tests.{ltb-true, ltb-false}
-use Rattle.descriptors.specs.declared.header.Parent.{Parent}
-use Rattle.descriptors.specs.declared.header.Descriptor.{Descriptor}
+use Rattle.descriptors.specs.declared.{header.Parent.{Parent}, header.Descriptor.{Descriptor}}
 use Rattle.descriptors.specs.declared.header.Descriptor.the-variants.{Refused, Opaque, Property, Subset}
 use Rattle.descriptors.specs.Header.{descriptorRefusal, descriptorAt}
 use Rattle.descriptors.specs.Set.{SetReading, refused, sound, _then_, descriptor, descriptorSize, contentsOf, isSound}

@@ -1,16 +1,11 @@
 -- The descriptors of one level of a sound stretch follow one another. Assumes nothing.
 use Prim.Native.Nat.{ℕ, zero, suc, _+_, _-_, _≤_, _<_}
-use mathlib.Core.Path.{_≡_, refl}
-use mathlib.Core.List.{List, [], _∷_}
-use mathlib.Core.Bool.{Bool, true, false}
+use mathlib.Core.{Path.{_≡_, refl}, List.{List, [], _∷_}, Bool.{Bool, true, false}}
 use native.Mathlib.Omega.{arith}
-use lib.ListN.{length}
-use lib.Dec.{ltb}
+use lib.{ListN.{length}, Dec.{ltb}}
 use borrow.Author.Tests.{lt-ltb, le-ltb, ltb-true, ltb-false, eq-eqb}
-use Rattle.descriptors.specs.declared.header.Parent.{Parent}
-use Rattle.descriptors.specs.Header.{descriptorRefusal, descriptorAt}
-use Rattle.descriptors.specs.Set.{descriptorSize, contentsOf, isSound}
-use Rattle.descriptors.specs.Levels.{span, spans, spansOf, Follows}
+use Rattle.descriptors.specs.{declared.header.Parent.{Parent}, Header.{descriptorRefusal, descriptorAt}}
+use Rattle.descriptors.specs.{Set.{descriptorSize, contentsOf, isSound}, Levels.{span, spans, spansOf, Follows}}
 use Rattle.descriptors.proofs.Laws.Sound.{size-fits}
 use Rattle.descriptors.proofs.Laws.Contents.{sound-parts, sound-accepts}
 

@@ -2,14 +2,11 @@
 use Prim.Native.Nat.{ℕ, _+_, _-_, _≤_, _<_}
 use mathlib.Core.Path.{_≡_, refl, _∙_, ap}
 use mathlib.Core.List.{List, _++_, List·Memᴰ, List·Memᴰ·head, List·Memᴰ·not-nil, List·Memᴰ·append-cases, List·Memᴰ·eq-of-singleton, Memᴰ·append-left, Memᴰ·append-right}
-use mathlib.Core.Logic.{_⊎_, inl, inr}
-use mathlib.Core.Bool.{Bool, true, false, false≢true}
+use mathlib.Core.{Logic.{_⊎_, inl, inr}, Bool.{Bool, true, false, false≢true}}
 use native.Mathlib.Omega.{arith}
-use lib.ListN.{length}
-use lib.Dec.{ltb}
+use lib.{ListN.{length}, Dec.{ltb}}
 use borrow.Author.Tests.{ltb-true, ltb-false}
-use Rattle.descriptors.specs.declared.header.Parent.{Parent}
-use Rattle.descriptors.specs.declared.header.Parent.the-variants.{Set, Configuration, Function}
+use Rattle.descriptors.specs.declared.{header.Parent.{Parent}, header.Parent.the-variants.{Set, Configuration, Function}}
 use Rattle.descriptors.specs.declared.header.Descriptor.{Descriptor}
 use Rattle.descriptors.specs.declared.header.Descriptor.the-variants.{Refused, Opaque, Property, Subset}
 use Rattle.descriptors.specs.Header.{typeAt, interfaceOf, descriptorAt}

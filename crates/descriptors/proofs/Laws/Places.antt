@@ -1,15 +1,12 @@
 -- No two descriptors of a stretch start at one offset, and the bytes of a subset belong to it alone. Assumes nothing.
 use Prim.Native.Nat.{ℕ, _+_, _≤_, _<_}
-use mathlib.Core.Path.{_≡_, refl, _∙_, ap}
-use mathlib.Core.List.{List}
+use mathlib.Core.{Path.{_≡_, refl, _∙_, ap}, List.{List}}
 use native.Mathlib.Omega.{arith}
 use lib.ListN.{length}
-use Rattle.descriptors.specs.declared.header.Parent.{Parent}
-use Rattle.descriptors.specs.declared.header.Parent.the-variants.{Set, Configuration, Function}
+use Rattle.descriptors.specs.declared.{header.Parent.{Parent}, header.Parent.the-variants.{Set, Configuration, Function}}
 use Rattle.descriptors.specs.declared.header.Descriptor.{Descriptor}
 use Rattle.descriptors.specs.declared.header.Descriptor.the-variants.{Refused, Opaque, Property, Subset}
-use Rattle.descriptors.specs.Header.{typeAt, totalAt, interfaceByte, descriptorRefusal, descriptorAt}
-use Rattle.descriptors.specs.Set.{descriptorSize}
+use Rattle.descriptors.specs.{Header.{typeAt, totalAt, interfaceByte, descriptorRefusal, descriptorAt}, Set.{descriptorSize}}
 use Rattle.descriptors.specs.Levels.{Reached, top, behind, inside, Stands, InFunction}
 use Rattle.descriptors.proofs.Laws.Sound.{known-as, refusalOf, refusal-is, size-fits, subset-accepted}
 use Rattle.descriptors.proofs.Laws.Reached.{Holds, here, later, deeper, bounds, held}

@@ -1,15 +1,11 @@
 -- What reading comes to in a stretch of the set, said from the stretch's start on. Assumes nothing.
 use Prim.Native.Nat.{ℕ, suc, _+_, _≤_, _<_}
-use mathlib.Core.Path.{_≡_}
-use mathlib.Core.List.{List}
+use mathlib.Core.{Path.{_≡_}, List.{List}}
 use native.Mathlib.Omega.{arith}
 use lib.ListN.{length}
-use Rattle.descriptors.specs.declared.header.Parent.{Parent}
-use Rattle.descriptors.specs.declared.header.Parent.the-variants.{Set}
-use Rattle.descriptors.specs.declared.header.Descriptor.the-variants.{Subset}
-use Rattle.descriptors.specs.Header.{descriptorRefusal, descriptorAt}
-use Rattle.descriptors.specs.Set.{descriptorSize}
-use Rattle.descriptors.specs.Levels.{Reached, top, behind, inside, Stands}
+use Rattle.descriptors.specs.declared.{header.Parent.{Parent}, header.Parent.the-variants.{Set}}
+use Rattle.descriptors.specs.{declared.header.Descriptor.the-variants.{Subset}, Header.{descriptorRefusal, descriptorAt}}
+use Rattle.descriptors.specs.{Set.{descriptorSize}, Levels.{Reached, top, behind, inside, Stands}}
 use Rattle.descriptors.proofs.Laws.Sound.{known-as, size-fits}
 
 -- reading the stretch from `from` to `end` of the parent p comes to the offset `at` of q, which ends at `stop`

@@ -1,22 +1,18 @@
 -- Which row of the tables of `specs/Header.antt` answers, one law for each answer of the code. Assumes nothing.
 use Prim.Native.Nat.{ℕ, zero, suc, _+_, _-_, _≤_, _<_}
-use mathlib.Core.Path.{_≡_, refl, sym, subst, _∙_}
-use mathlib.Core.List.{List, [], _∷_}
+use mathlib.Core.{Path.{_≡_, refl, sym, subst, _∙_}, List.{List, [], _∷_}}
 use mathlib.Core.Bool.{Bool, true, false, cond, false≢true, and-false, or-true, or-false}
 use native.Mathlib.Omega.{arith}
-use lib.ListN.{getD}
-use lib.Dec.{leb, eqb}
+use lib.{ListN.{getD}, Dec.{leb, eqb}}
 use borrow.Author.Tests.{lt-ltb, le-ltb, le-leb, lt-leb, eq-eqb, ne-eqb}
-use Rattle.wire.specs.Numbers.{leAt}
-use Rattle.descriptors.specs.declared.header.Parent.{Parent}
-use Rattle.descriptors.specs.declared.header.Parent.the-variants.{Set, Configuration, Function}
+use Rattle.wire.specs.{Numbers.{leAt}, Rows.{_⇒_, firstOf, allOf}}
+use Rattle.descriptors.specs.declared.{header.Parent.{Parent}, header.Parent.the-variants.{Set, Configuration, Function}}
 use Rattle.descriptors.specs.declared.header.Descriptor.{Descriptor}
 use Rattle.descriptors.specs.declared.header.Descriptor.the-variants.{Refused, Opaque, Property, Subset}
 use Rattle.descriptors.specs.Codes.{pastParent, badType, badLength, badField}
-use Rattle.wire.specs.Rows.{_⇒_, firstOf, allOf}
 use Rattle.descriptors.specs.Header.{lengthAt, typeAt, reservedAt, totalAt, dataTypeAt, nameLengthAt, nameEndAt, dataLengthAt, isSubset, isProperty, allowed, goodProperty, propertyRefusal, subsetRefusal, descriptorRefusal, inner, unless, descriptorAt}
-use Rattle.registry.specs.Registry.{propertyTests, goodFields}
 use Rattle.descriptors.specs.Look.{subsetAt, Looked}
+use Rattle.registry.specs.Registry.{propertyTests, goodFields}
 
 -- what may stand where
 module _ (t : ℕ) where

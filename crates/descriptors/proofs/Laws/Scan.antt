@@ -1,26 +1,18 @@
 -- One step of the cursor after the other reads the set as it is listed. Assumes nothing.
 use Prim.Native.Nat.{ℕ, zero, suc, _+_, _/_, _%_, _≤_, _<_}
-use mathlib.Core.Path.{_≡_, refl, sym, ap, _∙_}
-use mathlib.Core.List.{List, [], _∷_, _++_, append-nil, append-assoc}
-use mathlib.Core.Bool.{Bool, true, false, cond}
+use mathlib.Core.{Path.{_≡_, refl, sym, ap, _∙_}, List.{List, [], _∷_, _++_, append-nil, append-assoc}, Bool.{Bool, true, false, cond}}
 use mathlib.Core.Logic.{inl, inr}
 use native.Mathlib.Omega.{arith}
-use lib.ListN.{length, length-append}
-use lib.Dec.{eqb}
+use lib.{ListN.{length, length-append}, Dec.{eqb}}
 use borrow.Author.Tests.{eqb-true, eqb-false}
 use Rattle.wire.specs.Numbers.{leAt}
-use Rattle.descriptors.specs.declared.header.Interface.{Interface}
-use Rattle.descriptors.specs.declared.header.Parent.{Parent}
-use Rattle.descriptors.specs.declared.header.Parent.the-variants.{Set, Configuration, Function}
-use Rattle.descriptors.specs.declared.header.Descriptor.{Descriptor}
-use Rattle.descriptors.specs.declared.header.Descriptor.the-variants.{Refused, Opaque, Property, Subset}
-use Rattle.descriptors.specs.declared.scan.Cursor.{Cursor}
-use Rattle.descriptors.specs.declared.properties.RegistryProperty.{RegistryProperty}
-use Rattle.descriptors.specs.Codes.{badSetHeader, noProperty}
+use Rattle.descriptors.specs.declared.{header.Interface.{Interface}, header.Parent.{Parent}}
+use Rattle.descriptors.specs.declared.{header.Parent.the-variants.{Set, Configuration, Function}, header.Descriptor.{Descriptor}}
+use Rattle.descriptors.specs.declared.{header.Descriptor.the-variants.{Refused, Opaque, Property, Subset}, scan.Cursor.{Cursor}}
+use Rattle.descriptors.specs.{declared.properties.RegistryProperty.{RegistryProperty}, Codes.{badSetHeader, noProperty}}
 use Rattle.descriptors.specs.Header.{dataTypeAt, nameLengthAt, interfaceOf, descriptorAt}
 use Rattle.descriptors.specs.Set.{PropertyPlace, SetReading, refused, sound, _then_, descriptor, descriptorSize, contentsOf, goodHeader, readSet}
-use Rattle.descriptors.specs.Properties.{refusedProperty, foundAt, nth, inReading, propertyOf}
-use Rattle.descriptors.specs.Walk.{refusalNumber}
+use Rattle.descriptors.specs.{Properties.{refusedProperty, foundAt, nth, inReading, propertyOf}, Walk.{refusalNumber}}
 use Rattle.descriptors.specs.Scan.{around, depth, propertyPlace, movedTo, outOf, intoSubset, passedProperty, passing, outside, Within, Kept, Going, Scanning, Stepped}
 use Rattle.descriptors.proofs.Laws.Sound.{known-as, sum-holds}
 use Rattle.descriptors.proofs.Laws.Contents.{at-end, one-then}

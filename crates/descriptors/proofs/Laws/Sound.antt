@@ -1,22 +1,18 @@
 -- What is known of a descriptor by what it is found to be. Assumes nothing.
 use Prim.Native.Nat.{ℕ, zero, suc, _+_, _-_, _≤_, _<_}
-use mathlib.Core.Path.{_≡_, refl, sym, _∙_, ap}
-use mathlib.Core.List.{List, [], _∷_}
-use mathlib.Core.Bool.{Bool, true, false, not, cond, false≢true}
+use mathlib.Core.{Path.{_≡_, refl, sym, _∙_, ap}, List.{List, [], _∷_}, Bool.{Bool, true, false, not, cond, false≢true}}
 use native.Mathlib.Omega.{arith}
-use lib.ListN.{getD}
-use lib.Dec.{ltb, eqb}
+use lib.{ListN.{getD}, Dec.{ltb, eqb}}
 use borrow.Author.Tests.{ltb-true, ltb-false, ne-eqb, eqb-true, eqb-false, not-false}
-use Rattle.descriptors.specs.declared.header.Parent.{Parent}
-use Rattle.descriptors.specs.declared.header.Parent.the-variants.{Set, Configuration, Function}
+use Rattle.descriptors.specs.declared.{header.Parent.{Parent}, header.Parent.the-variants.{Set, Configuration, Function}}
 use Rattle.descriptors.specs.declared.header.Descriptor.{Descriptor}
 use Rattle.descriptors.specs.declared.header.Descriptor.the-variants.{Refused, Opaque, Property, Subset}
 use Rattle.descriptors.specs.Codes.{pastParent, badType, badLength, badField}
+use Rattle.descriptors.specs.Header.{lengthAt, typeAt, reservedAt, totalAt, dataTypeAt, nameLengthAt, nameEndAt, dataLengthAt, isSubset, isProperty, allowed, goodProperty, propertyRefusal, subsetRefusal, descriptorRefusal, inner, descriptorAt}
+use Rattle.descriptors.specs.Set.{descriptorSize}
 use Rattle.wire.specs.Rows.{_⇒_, allOf}
 use Rattle.wire.proofs.Laws.Rows.{quiet}
 use Rattle.registry.specs.Registry.{propertyTests, goodFields}
-use Rattle.descriptors.specs.Header.{lengthAt, typeAt, reservedAt, totalAt, dataTypeAt, nameLengthAt, nameEndAt, dataLengthAt, isSubset, isProperty, allowed, goodProperty, propertyRefusal, subsetRefusal, descriptorRefusal, inner, descriptorAt}
-use Rattle.descriptors.specs.Set.{descriptorSize}
 use Rattle.descriptors.proofs.Laws.Rows.{in-set, in-configuration, in-function}
 
 -- a row that was asked

@@ -1,13 +1,10 @@
 -- Laws of the walk's number (`specs/Walk.antt`). Assumes nothing.
 use Prim.Native.Nat.{ℕ, _+_, _≤_, _<_}
-use mathlib.Core.Path.{_≡_, refl, sym, ap, _∙_}
-use mathlib.Core.List.{List}
-use mathlib.Core.Bool.{Bool, true, false, cond}
+use mathlib.Core.{Path.{_≡_, refl, sym, ap, _∙_}, List.{List}, Bool.{Bool, true, false, cond}}
 use native.Mathlib.Omega.{arith}
 use lib.Dec.{ltb, eqb}
 use borrow.Author.Tests.{le-ltb, ltb-false}
-use Rattle.descriptors.specs.declared.header.Parent.{Parent}
-use Rattle.descriptors.specs.declared.header.Descriptor.the-variants.{Refused, Opaque, Property, Subset}
+use Rattle.descriptors.specs.declared.{header.Parent.{Parent}, header.Descriptor.the-variants.{Refused, Opaque, Property, Subset}}
 use Rattle.descriptors.specs.Header.{propertyRefusal, unless, descriptorAt}
 use Rattle.descriptors.specs.Set.{PropertyPlace, SetReading, refused, sound, _then_, isSound, descriptor, descriptorSize, contentsOf}
 use Rattle.descriptors.specs.Walk.{Walkable, refusalNumber, propertyStop, stopOf, stopAt, stopFrom}

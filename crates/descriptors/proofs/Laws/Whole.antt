@@ -1,16 +1,11 @@
 -- Laws of the set's own header and of the check's answer. Assumes nothing.
 use Prim.Native.Nat.{ℕ, _/_, _%_, _≤_, _<_}
-use mathlib.Core.Path.{_≡_, refl, sym, _∙_}
-use mathlib.Core.List.{List, [], _∷_}
-use mathlib.Core.Bool.{Bool, true, false, _&&_, cond, and-assoc, and-true, false≢true}
+use mathlib.Core.{Path.{_≡_, refl, sym, _∙_}, List.{List, [], _∷_}, Bool.{Bool, true, false, _&&_, cond, and-assoc, and-true, false≢true}}
 use native.Mathlib.Omega.{arith}
-use lib.ListN.{length}
-use lib.Dec.{leb, eqb}
+use lib.{ListN.{length}, Dec.{leb, eqb}}
 use borrow.Author.Tests.{le-leb, lt-leb, leb-true, eqb-true}
 use Rattle.wire.specs.Numbers.{leAt}
-use Rattle.descriptors.specs.declared.header.Parent.the-variants.{Set}
-use Rattle.descriptors.specs.declared.set.Fault.{Fault}
-use Rattle.descriptors.specs.Codes.{badSetHeader}
+use Rattle.descriptors.specs.{declared.{header.Parent.the-variants.{Set}, set.Fault.{Fault}}, Codes.{badSetHeader}}
 use Rattle.descriptors.specs.Header.{lengthAt, typeAt}
 use Rattle.descriptors.specs.Set.{SetReading, refused, sound, contentsOf, goodHeader, readSet, isSound, faultOf}
 use Rattle.descriptors.specs.Walk.{stopOf, stopFrom}

@@ -1,9 +1,7 @@
 -- The two-byte numbers of a set. Assumes nothing.
-use mathlib.Core.Path.{_≡_}
-use mathlib.Core.List.{List}
+use mathlib.Core.{Path.{_≡_}, List.{List}}
 use Prim.Native.Nat.{ℕ, suc, _+_, _*_, _<_}
-use native.Mathlib.Numerals.{add-one}
-use native.Mathlib.Omega.{arith}
+use native.Mathlib.{Numerals.{add-one}, Omega.{arith}}
 use lib.ListN.{getD}
 use Rattle.wire.specs.Numbers.{number, leAt}
 use Rattle.wire.proofs.Laws.Numbers.{front}

@@ -1,33 +1,20 @@
 -- Writing a snapshot key by key, as far as the lent buffer reaches. Assumes nothing.
-use mathlib.Core.Path.{_≡_, refl, ap, ap₂, sym, _∙_}
-use mathlib.Core.List.{List, [], _++_, append-nil}
-use mathlib.Core.Option.{Option, none, some, Option·map}
+use mathlib.Core.{Path.{_≡_, refl, ap, ap₂, sym, _∙_}, List.{List, [], _++_, append-nil}, Option.{Option, none, some, Option·map}}
 use mathlib.Core.Bool.{Bool, true, false, cond}
 use Prim.Native.Nat.{ℕ, suc, _+_, _-_, _*_, _≤_, _<_}
-use native.Mathlib.Nat.{zero-add, add-zero}
-use native.Mathlib.Numerals.{add-one, sub-one}
-use native.Mathlib.Omega.{arith}
-use lib.Dec.{eqb, lit≤}
-use lib.ListN.{length, getD, take, drop, length-append, take-append-drop}
-use lib.Seq.{take-all}
+use native.Mathlib.{Nat.{zero-add, add-zero}, Numerals.{add-one, sub-one}, Omega.{arith}}
+use lib.{Dec.{eqb, lit≤}, ListN.{length, getD, take, drop, length-append, take-append-drop}, Seq.{take-all}}
 use borrow.Author.Tests.{ne-eqb, le-leb}
-use Rattle.wire.specs.Numbers.{bytesOf}
-use Rattle.wire.specs.Writes.{overlay}
-use Rattle.wire.specs.Endpoints.{firstAddress, places}
+use Rattle.wire.specs.{Numbers.{bytesOf}, Writes.{overlay}, Endpoints.{firstAddress, places}}
 use Rattle.wire.proofs.Laws.Writes.{no-bytes, append, same-length}
-use Rattle.snapshot.specs.Keys.{keys}
-use Rattle.snapshot.specs.Records.{recordBytes, records, encode}
+use Rattle.snapshot.specs.{Keys.{keys}, Records.{recordBytes, records, encode}}
 use Rattle.snapshot.proofs.Laws.Maps.{records-split}
-use Rattle.controls.specs.declared.Setting.{Setting}
+use Rattle.controls.specs.{declared.{Setting.{Setting}, HeldSetting.{HeldSetting}}, Controls.{settingHeld}}
 use Rattle.controls.specs.declared.Setting.the-variants as S
-use Rattle.controls.specs.declared.HeldSetting.{HeldSetting}
 use Rattle.exposure.specs.Exposure.{evBytes}
 use Rattle.throttle.specs.Throttle.{throttleBytes}
-use Rattle.controls.specs.Controls.{settingHeld}
-use Rattle.settings.specs.declared.settings.Settings.{Settings}
-use Rattle.settings.specs.Held.{settingsHeld, heldSetting, faceHeld}
-use Rattle.encoding.specs.Encoding.{recordOf, encoded}
-use Rattle.encoding.specs.Steps.{recordHeld}
+use Rattle.settings.specs.{declared.settings.Settings.{Settings}, Held.{settingsHeld, heldSetting, faceHeld}}
+use Rattle.encoding.specs.{Encoding.{recordOf, encoded}, Steps.{recordHeld}}
 
 record-short : (s : Setting) → length (recordOf s) ≤ 24
 unfolding recordOf bytesOf evBytes throttleBytes

@@ -1,8 +1,7 @@
 -- `length_held` meets its contract. Assumes nothing.
 use mathlib.Core.Path.{ap, sym, _∙_}
 use lib.ListN.{length}
-use Rattle.controls.specs.declared.HeldSetting.{HeldSetting}
-use Rattle.controls.specs.Controls.{settingHeld}
+use Rattle.controls.specs.{declared.HeldSetting.{HeldSetting}, Controls.{settingHeld}}
 use Rattle.encoding.specs.Steps.{recordHeld}
 use borrow.Author.Needs.{needs}
 use Rattle.encoding.proofs.length_held.Statement.{statement}

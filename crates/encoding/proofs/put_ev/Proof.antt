@@ -1,10 +1,8 @@
 -- `put_ev` meets its contract. Assumes nothing.
-use mathlib.Core.Path.{ap, _∙_}
-use mathlib.Core.List.{List, [], _∷_}
+use mathlib.Core.{Path.{ap, _∙_}, List.{List, [], _∷_}}
 use Prim.Native.Nat.{ℕ}
 use lib.ListN.{getD}
-use Rattle.wire.specs.Numbers.{bytesOf}
-use Rattle.wire.specs.Writes.{overlay}
+use Rattle.wire.specs.{Numbers.{bytesOf}, Writes.{overlay}}
 use Rattle.encoding.specs.Encoding.{recordOf}
 use Rattle.exposure.specs.Exposure.{evBytes}
 use borrow.Author.Needs.{needs}

@@ -1,9 +1,7 @@
 -- `put_face` meets its contract. Assumes nothing.
-use mathlib.Core.List.{List, _∷_}
+use mathlib.Core.{List.{List, _∷_}, Path.{ap, sym, _∙_}}
 use Prim.Native.Nat.{ℕ}
-use Rattle.wire.specs.Writes.{overlay}
-use mathlib.Core.Path.{ap, sym, _∙_}
-use Rattle.wire.specs.Numbers.{bytesOf}
+use Rattle.wire.specs.{Writes.{overlay}, Numbers.{bytesOf}}
 use Rattle.encoding.specs.Encoding.{recordOf}
 use Rattle.face.proofs.Laws.Answers.{entry-small}
 use borrow.Author.Needs.{needs}

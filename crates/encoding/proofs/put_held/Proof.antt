@@ -1,8 +1,7 @@
 -- `put_held` meets its contract. Assumes nothing.
 use mathlib.Core.Path.{ap, sym, _∙_}
 use Rattle.wire.specs.Writes.{overlay}
-use Rattle.controls.specs.declared.HeldSetting.{HeldSetting}
-use Rattle.controls.specs.Controls.{settingHeld}
+use Rattle.controls.specs.{declared.HeldSetting.{HeldSetting}, Controls.{settingHeld}}
 use Rattle.encoding.specs.Steps.{recordHeld}
 use Rattle.encoding.proofs.Laws.Encoding.{nothing-laid}
 use borrow.Author.Needs.{needs}

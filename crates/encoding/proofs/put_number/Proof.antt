@@ -1,11 +1,9 @@
 -- `put_number` meets its contract. Assumes nothing.
-use mathlib.Core.Path.{ap₂, sym, _∙_}
-use mathlib.Core.List.{List, [], _∷_, _++_}
+use mathlib.Core.{Path.{ap₂, sym, _∙_}, List.{List, [], _∷_, _++_}}
 use Rattle.wire.proofs.Laws.Bytes.{bytes-byte}
 use Prim.Native.Nat.{ℕ}
 use lib.ListN.{getD}
-use Rattle.wire.specs.Numbers.{bytesOf}
-use Rattle.wire.specs.Writes.{overlay}
+use Rattle.wire.specs.{Numbers.{bytesOf}, Writes.{overlay}}
 use borrow.Author.Needs.{needs}
 use Rattle.encoding.proofs.put_number.Statement.{statement}
 use Rattle.encoding.proofs.put_number.Tie as tie

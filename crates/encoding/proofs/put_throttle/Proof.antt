@@ -1,10 +1,8 @@
 -- `put_throttle` meets its contract. Assumes nothing.
-use mathlib.Core.Path.{ap₂, _∙_}
-use mathlib.Core.List.{List, [], _∷_}
+use mathlib.Core.{Path.{ap₂, _∙_}, List.{List, [], _∷_}}
 use Prim.Native.Nat.{ℕ}
 use lib.ListN.{getD}
-use Rattle.wire.specs.Numbers.{bytesOf}
-use Rattle.wire.specs.Writes.{overlay}
+use Rattle.wire.specs.{Numbers.{bytesOf}, Writes.{overlay}}
 use Rattle.encoding.specs.Encoding.{recordOf}
 use Rattle.throttle.specs.Throttle.{throttleBytes}
 use borrow.Author.Needs.{needs}

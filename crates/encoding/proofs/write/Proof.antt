@@ -1,12 +1,10 @@
 -- `write` meets its contract. Assumes nothing.
-use mathlib.Core.Path.{_≡_, refl, ap, subst, _∙_}
-use mathlib.Core.List.{List}
+use mathlib.Core.{Path.{_≡_, refl, ap, subst, _∙_}, List.{List}}
 use Prim.Native.Nat.{ℕ, _+_, _-_, _≤_}
 use native.Mathlib.Omega.{arith}
 use lib.ListN.{length}
 use borrow.Author.Needs.{needs}
-use Rattle.wire.specs.Endpoints.{places}
-use Rattle.wire.specs.Writes.{overlay}
+use Rattle.wire.specs.{Endpoints.{places}, Writes.{overlay}}
 use Rattle.wire.proofs.Laws.Writes as laid
 use Rattle.encoding.specs.Encoding.{encoded}
 use Rattle.encoding.proofs.Laws.Encoding.{Measured, Progress, first-measured, first-written, place-measured, place-written, held-written, held-last, below-all}

@@ -1,25 +1,16 @@
 -- Entries of a SET, one by one and one after the other. Assumes nothing.
-use mathlib.Core.Path.{_≡_, refl, ap, ap₂, sym, _∙_}
-use mathlib.Core.List.{List}
-use mathlib.Core.Bool.{Bool, true, false, _||_, or-true, or-false}
+use mathlib.Core.{Path.{_≡_, refl, ap, ap₂, sym, _∙_}, List.{List}, Bool.{Bool, true, false, _||_, or-true, or-false}}
 use Prim.Native.Nat.{ℕ, zero, suc, _+_, _*_, _≤_, _<_}
-use native.Mathlib.Numerals.{add-one}
-use native.Mathlib.Omega.{arith}
-use lib.Dec.{eqb}
-use lib.ListN.{length, getD, set, replicate, getD-replicate}
-use lib.Seq.{getD-set-same, getD-set-other}
+use native.Mathlib.{Numerals.{add-one}, Omega.{arith}}
+use lib.{Dec.{eqb}, ListN.{length, getD, set, replicate, getD-replicate}, Seq.{getD-set-same, getD-set-other}}
 use borrow.Author.Tests.{ne-eqb, eqb-true, eqb-false}
-use Rattle.wire.specs.Endpoints.{endpointLimit}
-use Rattle.wire.specs.Numbers.{leAt}
-use Rattle.wire.specs.Uvc.{outOfRange}
-use Rattle.controls.specs.declared.Item.the-variants.{Refused, Given}
+use Rattle.wire.specs.{Endpoints.{endpointLimit}, Numbers.{leAt}, Uvc.{outOfRange}}
+use Rattle.controls.specs.{declared.Item.the-variants.{Refused, Given}, Controls.{itemCode, firstRefusal}}
 use Rattle.controls.specs.declared.Setting.the-variants as S
-use Rattle.controls.specs.Controls.{itemCode, firstRefusal}
 use Rattle.controls.proofs.Laws.Controls as controls
 use Rattle.controls.proofs.Laws.Items.{none-refused, stops, passes}
-use Rattle.face.specs.declared.limits.FaceLimits.{FaceLimits}
+use Rattle.face.specs.{declared.limits.FaceLimits.{FaceLimits}, Limits.{addressAt, offersAt, offersOf, placeOf}}
 use Rattle.entries.specs.declared.FacesTaken.{FacesTaken}
-use Rattle.face.specs.Limits.{addressAt, offersAt, offersOf, placeOf}
 use Rattle.entries.specs.Entries.{entryAddress, entryFlags, seenIn, seenBefore, entryTests, entryRefusal, faceItem, putFace, entriesPut, facesTaken}
 use Rattle.face.proofs.Laws.Limits.{offers-none, offers-placed, address-placed}
 

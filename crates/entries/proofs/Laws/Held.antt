@@ -1,16 +1,11 @@
 -- Settings held: with one more, and which keep their rules. Assumes nothing.
-use mathlib.Core.Path.{_≡_, refl, ap, _∙_}
-use mathlib.Core.List.{List}
-use mathlib.Core.Bool.{Bool, true, false, cond}
+use mathlib.Core.{Path.{_≡_, refl, ap, _∙_}, List.{List}, Bool.{Bool, true, false, cond}}
 use Prim.Native.Nat.{ℕ, suc, _+_, _-_, _≤_, _<_}
 use native.Mathlib.Omega.{arith}
-use lib.Dec.{leb, eqb}
-use lib.ListN.{length, getD, set, length-set}
-use lib.Seq.{getD-set-same, getD-set-other}
+use lib.{Dec.{leb, eqb}, ListN.{length, getD, set, length-set}, Seq.{getD-set-same, getD-set-other}}
 use borrow.Author.Tests.{eqb-true, eqb-false, leb-true, leb-false}
 use Rattle.wire.specs.Endpoints.{firstAddress, places}
-use Rattle.face.specs.declared.limits.FaceLimits.{FaceLimits}
-use Rattle.face.specs.Limits.{addressAt, offersAt, offersFrom, offersOf}
+use Rattle.face.specs.{declared.limits.FaceLimits.{FaceLimits}, Limits.{addressAt, offersAt, offersFrom, offersOf}}
 use Rattle.wire.proofs.Laws.Below.{all-at, all-of}
 use Rattle.entries.specs.Entries.{flagsKept, settingRefusal, faceKept, facesKept, putFace}
 

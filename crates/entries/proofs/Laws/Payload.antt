@@ -1,24 +1,16 @@
 -- A SET's payload: the length that it must have, an entry read back, and what an accepted entry gives. Assumes nothing.
-use mathlib.Core.Path.{_≡_, refl, ap}
-use mathlib.Core.List.{List, [], _∷_}
-use mathlib.Core.Bool.{Bool, true, false, cond, not}
+use mathlib.Core.{Path.{_≡_, refl, ap}, List.{List, [], _∷_}, Bool.{Bool, true, false, cond, not}}
 use Prim.Native.Nat.{ℕ, _+_, _*_, _^_, _≤_, _<_}
 use native.Mathlib.Omega.{arith}
-use lib.Dec.{leb, eqb}
-use lib.ListN.{length, getD}
+use lib.{Dec.{leb, eqb}, ListN.{length, getD}}
 use borrow.Author.Tests.{eqb-false, le-leb, leb-true}
-use Rattle.wire.specs.Numbers.{leAt, bytesOf}
-use Rattle.wire.specs.Rows.{_⇒_, firstOf}
-use Rattle.wire.specs.Uvc.{invalidValue, outOfRange}
+use Rattle.wire.specs.{Numbers.{leAt, bytesOf}, Rows.{_⇒_, firstOf}, Uvc.{invalidValue, outOfRange}}
 use Rattle.wire.proofs.Laws.Bytes.{number-bytes}
 use Rattle.flags.specs.Flags.{oneFlag}
-use Rattle.controls.specs.declared.Item.the-variants.{Given}
+use Rattle.controls.specs.{declared.Item.the-variants.{Given}, Controls.{itemOf}}
 use Rattle.controls.specs.declared.Setting.the-variants as S
-use Rattle.controls.specs.Controls.{itemOf}
 use Rattle.controls.proofs.Laws.Controls.{given-is}
-use Rattle.face.specs.declared.limits.FaceLimits.{FaceLimits}
-use Rattle.face.specs.Limits.{endpointsOf, faceValid, offersOf}
-use Rattle.face.specs.Answers.{entryOf}
+use Rattle.face.specs.{declared.limits.FaceLimits.{FaceLimits}, Limits.{endpointsOf, faceValid, offersOf}, Answers.{entryOf}}
 use Rattle.face.proofs.Laws.Limits.{count-most}
 use Rattle.entries.specs.Entries.{faceSetLength, entryAddress, entryFlags, seenIn, seenBefore, isChoice, faceRefusal, entryRefusal, faceItem}
 

@@ -1,11 +1,10 @@
 -- `entry_tests` meets its contract. Assumes nothing.
 use mathlib.Core.Path.{_≡_, sym, _∙_}
 use native.Mathlib.Omega.{arith}
-use borrow.Author.Tests.{eq-eqb, ne-eqb}
+use borrow.Author.{Tests.{eq-eqb, ne-eqb}, Needs.{needs}}
 use Rattle.flags.proofs.Laws.Bits.{chosen-below}
 use Rattle.wire.specs.Uvc.{invalidValue, outOfRange}
 use Rattle.entries.specs.Entries.{isChoice, entryTests}
-use borrow.Author.Needs.{needs}
 use Rattle.entries.proofs.entry_tests.Statement.{statement}
 use Rattle.entries.proofs.entry_tests.Tie as tie
 

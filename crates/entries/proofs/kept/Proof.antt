@@ -1,13 +1,10 @@
 -- `kept` meets its contract. Assumes nothing.
-use mathlib.Core.Path.{_≡_, refl, ap₂, _∙_}
-use mathlib.Core.Bool.{_&&_}
+use mathlib.Core.{Path.{_≡_, refl, ap₂, _∙_}, Bool.{_&&_}}
 use Prim.Native.Nat.{_≤_, _-_, _+_}
-use native.Mathlib.Numerals.{add-one}
-use native.Mathlib.Omega.{arith}
+use native.Mathlib.{Numerals.{add-one}, Omega.{arith}}
 use lib.ListN.{getD}
 use borrow.Author.Needs.{needs}
-use Rattle.wire.specs.Endpoints.{places}
-use Rattle.wire.specs.Rows.{allBelow}
+use Rattle.wire.specs.{Endpoints.{places}, Rows.{allBelow}}
 use Rattle.entries.specs.Entries.{flagsKept, facesKept}
 use Rattle.wire.proofs.Laws.Below.{all-same}
 use Rattle.entries.proofs.Laws.Held.{kept-place}

@@ -2,10 +2,9 @@
 use mathlib.Core.Path.{sym}
 use native.Mathlib.Omega.{arith}
 use lib.Seq.{set-out}
-use borrow.Author.Tests.{le-leb, lt-leb}
+use borrow.Author.{Tests.{le-leb, lt-leb}, Needs.{needs}}
 use Rattle.wire.specs.Endpoints.{firstAddress}
 use Rattle.entries.specs.Entries.{putFace}
-use borrow.Author.Needs.{needs}
 use Rattle.entries.proofs.lay.Statement.{statement}
 use Rattle.entries.proofs.lay.Tie as tie
 

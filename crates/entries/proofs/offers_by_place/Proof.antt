@@ -7,8 +7,7 @@ use Rattle.wire.specs.Endpoints.{firstAddress, places, endpointLimit}
 use Rattle.face.specs.Limits.{endpointsOf, addressAt, offersAt, offersFrom, offersOf}
 use Rattle.entries.specs.Entries.{putFace}
 use Rattle.entries.proofs.Laws.Held.{table-next, length-put}
-use borrow.Author.Tests.{not-true, not-false}
-use borrow.Author.Needs.{needs}
+use borrow.Author.{Tests.{not-true, not-false}, Needs.{needs}}
 use Rattle.entries.proofs.offers_by_place.Statement.{statement}
 use Rattle.entries.proofs.offers_by_place.Tie as tie
 

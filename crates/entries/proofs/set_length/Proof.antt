@@ -2,8 +2,7 @@
 use mathlib.Core.Path.{sym, _∙_}
 use native.Mathlib.Omega.{arith}
 use lib.ListN.{getD}
-use borrow.Author.Tests.{le-leb, lt-leb}
-use borrow.Author.Needs.{needs}
+use borrow.Author.{Tests.{le-leb, lt-leb}, Needs.{needs}}
 use Rattle.entries.proofs.Laws.Payload.{set-length-empty, set-length-first}
 use Rattle.entries.proofs.set_length.Statement.{statement}
 use Rattle.entries.proofs.set_length.Tie as tie

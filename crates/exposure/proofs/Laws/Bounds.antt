@@ -1,11 +1,8 @@
 -- Signed numbers between bounds, and products that fit. Assumes nothing.
-use mathlib.Core.Path.{_≡_, ap₂, _∙_}
-use mathlib.Core.Bool.{true, false≢true}
+use mathlib.Core.{Path.{_≡_, ap₂, _∙_}, Bool.{true, false≢true}}
 use Prim.Native.Nat.{ℕ, zero, suc, _*_, _^_, _≤_, _<_}
-use native.Mathlib.Nat.{le-refl, le-trans, le-suc, lt-of-le-of-lt, mul-le-mul}
-use native.Mathlib.Omega.{arith}
-use lib.IntN.{ℤ, pos, negsuc, negℤ, _*ℤ_}
-use lib.Signed.{mag, leZ}
+use native.Mathlib.{Nat.{le-refl, le-trans, le-suc, lt-of-le-of-lt, mul-le-mul}, Omega.{arith}}
+use lib.{IntN.{ℤ, pos, negsuc, negℤ, _*ℤ_}, Signed.{mag, leZ}}
 use mir.Syntax.{Width}
 use mir.Val.{SFits, toZ, ofZ, hbits}
 use mir.Facts.{toZ-pos, toZ-ofZ}

@@ -1,32 +1,21 @@
 -- Laws of exposure compensation. Assumes nothing.
-use mathlib.Core.Path.{_≡_, refl, ap, ap₂, _∙_}
-use mathlib.Core.Bool.{Bool, true, false, cond, and-eq-true-iff}
-use mathlib.Core.List.{List, _++_}
+use mathlib.Core.{Path.{_≡_, refl, ap, ap₂, _∙_}, Bool.{Bool, true, false, cond, and-eq-true-iff}, List.{List, _++_}}
 use Prim.Native.Nat.{ℕ, zero, suc, _<_, _≤_, _^_, _/_}
-use native.Mathlib.Nat.{lt-of-le-of-lt}
-use native.Mathlib.Omega.{arith}
-use lib.Dec.{lit<, lit≤}
-use lib.ListN.{length, take, drop, length-drop, take-append-drop}
-use lib.Seq.{take-all}
-use lib.IntN.{ℤ, pos, negsuc, _*ℤ_}
+use native.Mathlib.{Nat.{lt-of-le-of-lt}, Omega.{arith}}
+use lib.{Dec.{lit<, lit≤}, ListN.{length, take, drop, length-drop, take-append-drop}, Seq.{take-all}, IntN.{ℤ, pos, negsuc, _*ℤ_}}
 use lib.Signed.{mag, leZ}
 use mir.Syntax.{w32}
 use mir.Val.{SFits}
-use Rattle.wire.specs.Uvc.{invalidValue, outOfRange}
-use Rattle.wire.specs.Numbers.{leAt, bytesOf, signed32, bits32}
-use Rattle.flags.specs.Flags.{oneFlag}
-use Rattle.flags.specs.declared.Choice.{Choice}
-use Rattle.flags.specs.declared.Choice.the-variants.{At, Refused}
+use Rattle.wire.specs.{Uvc.{invalidValue, outOfRange}, Numbers.{leAt, bytesOf, signed32, bits32}}
+use Rattle.flags.specs.{declared.{Choice.{Choice}, Choice.the-variants.{At, Refused}}, Flags.{oneFlag}}
 use Rattle.flags.proofs.Laws.Bits.{chosen-below}
-use Rattle.wire.proofs.Laws.Numbers.{Bytes, below}
-use Rattle.exposure.specs.declared.EvLimits.{EvLimits}
-use Rattle.controls.specs.declared.EvSetting.{EvSetting}
-use Rattle.controls.specs.declared.Setting.the-variants as S
-use Rattle.controls.specs.Controls.{itemOf}
-use Rattle.exposure.specs.Exposure.{evValid, divisor, inRange, refusalAt, evRefusal, evFlags, evValue, evItem, evBytes, unitsPerStop, scaledAt, scaled}
-use Rattle.exposure.proofs.Laws.Bounds.{mag-mul, between}
-use Rattle.wire.proofs.Laws.Signed.{bits-below, signed-bits, bits-signed}
+use Rattle.wire.proofs.Laws.{Numbers.{Bytes, below}, Signed.{bits-below, signed-bits, bits-signed}}
 use Rattle.wire.proofs.Laws.Bytes.{number-bytes, bytes-at, first-part, second-part}
+use Rattle.exposure.specs.declared.EvLimits.{EvLimits}
+use Rattle.exposure.specs.Exposure.{evValid, divisor, inRange, refusalAt, evRefusal, evFlags, evValue, evItem, evBytes, unitsPerStop, scaledAt, scaled}
+use Rattle.controls.specs.{declared.EvSetting.{EvSetting}, Controls.{itemOf}}
+use Rattle.controls.specs.declared.Setting.the-variants as S
+use Rattle.exposure.proofs.Laws.Bounds.{mag-mul, between}
 
 -- between 1 and 6 steps make a stop
 pub divisor-pos : (place : ℕ) → 0 < divisor place

@@ -1,6 +1,5 @@
 -- `answer` meets its contract. Assumes nothing.
-use mathlib.Core.Path.{ap, _∙_}
-use mathlib.Core.List.{List}
+use mathlib.Core.{Path.{ap, _∙_}, List.{List}}
 use Prim.Native.Nat.{ℕ}
 use borrow.Author.Needs.{needs}
 use Rattle.request.specs.Answers.{packed, answerBy}

@@ -4,8 +4,7 @@ use lib.IntN.{ℤ}
 use mir.Syntax.{w32}
 use mir.Val.{SFits, toZ, ofZ}
 use mir.Facts.{toZ-ofZ}
-use borrow.Author.Needs.{needs}
-use borrow.Author.Tests.{ne-eqb}
+use borrow.Author.{Needs.{needs}, Tests.{ne-eqb}}
 use Rattle.wire.specs.Uvc.{getCur, getMin, getMax, getRes}
 use Rattle.controls.specs.declared.EvSetting.{EvSetting}
 use Rattle.exposure.specs.Exposure.{evAttribute, evCurrent}

@@ -1,6 +1,5 @@
 -- `bytes` meets its contract. Assumes nothing.
-use mathlib.Core.Path.{_≡_, ap, sym, _∙_}
-use mathlib.Core.List.{List, [], _∷_, _++_}
+use mathlib.Core.{Path.{_≡_, ap, sym, _∙_}, List.{List, [], _∷_, _++_}}
 use Prim.Native.Nat.{ℕ, _<_}
 use lib.ListN.{getD}
 use mir.Syntax.{w32}

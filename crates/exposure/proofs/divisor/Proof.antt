@@ -1,6 +1,5 @@
 -- `divisor` meets its contract. Assumes nothing.
-use mathlib.Core.Path.{sym}
-use mathlib.Core.List.{[], _∷_}
+use mathlib.Core.{Path.{sym}, List.{[], _∷_}}
 use native.Mathlib.Omega.{arith}
 use lib.ListN.{List·getD-eq-default}
 use borrow.Author.Needs.{needs}

@@ -1,11 +1,8 @@
 -- `in_range` meets its contract. Assumes nothing.
-use mathlib.Core.Path.{_≡_, ap₂, _∙_}
-use mathlib.Core.Bool.{_&&_}
+use mathlib.Core.{Path.{_≡_, ap₂, _∙_}, Bool.{_&&_}}
 use Prim.Native.Nat.{ℕ, _^_}
 use native.Mathlib.Omega.{arith}
-use lib.Dec.{lit<}
-use lib.IntN.{ℤ, pos, _*ℤ_}
-use lib.Signed.{leZ}
+use lib.{Dec.{lit<}, IntN.{ℤ, pos, _*ℤ_}, Signed.{leZ}}
 use mir.Syntax.{w32, w64, w8}
 use mir.Val.{Fits, SFits, toZ, ofZ}
 use mir.Facts.{toZ-ofZ, sfits-widen}

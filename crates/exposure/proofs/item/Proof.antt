@@ -1,6 +1,5 @@
 -- `item` meets its contract. Assumes nothing.
-use mathlib.Core.Path.{_≡_, ap, ap₂, sym, _∙_}
-use mathlib.Core.List.{List}
+use mathlib.Core.{Path.{_≡_, ap, ap₂, sym, _∙_}, List.{List}}
 use Prim.Native.Nat.{ℕ, _<_}
 use lib.IntN.{ℤ}
 use mir.Syntax.{w32}
@@ -8,11 +7,8 @@ use mir.Val.{SFits, toZ, ofZ}
 use mir.Facts.{toZ-ofZ}
 use borrow.Author.Needs.{needs}
 use Rattle.wire.specs.Numbers.{signed32}
-use Rattle.exposure.specs.declared.EvLimits.{EvLimits}
-use Rattle.controls.specs.declared.Item.{Item}
-use Rattle.controls.specs.declared.Item.the-variants.{Refused, Given}
-use Rattle.controls.specs.declared.Setting.the-variants.{Ev}
-use Rattle.exposure.specs.Exposure.{evFlags, evValue, evRefusal, evItem}
+use Rattle.exposure.specs.{declared.EvLimits.{EvLimits}, Exposure.{evFlags, evValue, evRefusal, evItem}}
+use Rattle.controls.specs.declared.{Item.{Item}, Item.the-variants.{Refused, Given}, Setting.the-variants.{Ev}}
 use Rattle.controls.proofs.Laws.Controls.{item-given, item-refused}
 use Rattle.exposure.proofs.Laws.Exposure.{accepted-below}
 use Rattle.exposure.proofs.item.Statement.{statement}

@@ -4,10 +4,8 @@ use Prim.Native.Nat.{ℕ}
 use lib.IntN.{ℤ}
 use mir.Facts.{toZ-ofZ}
 use borrow.Author.Needs.{needs}
-use Rattle.flags.specs.Flags.{oneFlag}
-use Rattle.flags.specs.declared.Choice.the-variants.{At}
-use Rattle.exposure.specs.declared.EvLimits.{EvLimits}
-use Rattle.exposure.specs.Exposure.{divisor, inRange}
+use Rattle.flags.specs.{declared.Choice.the-variants.{At}, Flags.{oneFlag}}
+use Rattle.exposure.specs.{declared.EvLimits.{EvLimits}, Exposure.{divisor, inRange}}
 use Rattle.exposure.proofs.Laws.Exposure.{refused-flags, refused-value, accepted}
 use Rattle.exposure.proofs.refusal.Statement.{statement}
 use Rattle.exposure.proofs.refusal.Tie as tie

@@ -1,21 +1,15 @@
 -- `scaled` meets its contract. Assumes nothing.
-use mathlib.Core.Path.{_≡_, ap, ap₂, sym, _∙_}
-use mathlib.Core.Bool.{true}
+use mathlib.Core.{Path.{_≡_, ap, ap₂, sym, _∙_}, Bool.{true}}
 use Prim.Native.Nat.{ℕ, _/_, _<_}
 use native.Mathlib.Nat.{div-le-self, lt-of-le-of-lt}
-use lib.Dec.{lit<}
-use lib.IntN.{ℤ, pos, _*ℤ_}
-use lib.Signed.{mag}
+use lib.{Dec.{lit<}, IntN.{ℤ, pos, _*ℤ_}, Signed.{mag}}
 use mir.Syntax.{w32}
 use mir.Val.{SFits, toZ, ofZ}
 use mir.Facts.{toZ-ofZ}
-use borrow.Author.Needs.{needs}
-use borrow.Author.Tests.{not-true, not-false}
-use Rattle.flags.specs.Flags.{oneFlag}
-use Rattle.flags.specs.declared.Choice.the-variants.{At}
-use Rattle.exposure.specs.declared.EvLimits.{EvLimits}
+use borrow.Author.{Needs.{needs}, Tests.{not-true, not-false}}
+use Rattle.flags.specs.{declared.Choice.the-variants.{At}, Flags.{oneFlag}}
+use Rattle.exposure.specs.{declared.EvLimits.{EvLimits}, Exposure.{evValid, divisor, inRange, unitsPerStop}}
 use Rattle.controls.specs.declared.EvSetting.{EvSetting}
-use Rattle.exposure.specs.Exposure.{evValid, divisor, inRange, unitsPerStop}
 use Rattle.exposure.proofs.Laws.Bounds.{product-fits, product-is}
 use Rattle.exposure.proofs.Laws.Exposure.{divisor-pos, range-small, scaled-invalid, scaled-flags, scaled-value, scaled-is}
 use Rattle.exposure.proofs.scaled.Statement.{statement}

@@ -1,23 +1,13 @@
 -- Answers of face authentication: their entries, their length, and what they are while no setting is held. Assumes nothing.
-use mathlib.Core.Path.{_≡_, refl, ap}
-use mathlib.Core.List.{List, [], _∷_}
-use mathlib.Core.Bool.{Bool, true, false, cond, _||_}
+use mathlib.Core.{Path.{_≡_, refl, ap}, List.{List, [], _∷_}, Bool.{Bool, true, false, cond, _||_}}
 use Prim.Native.Nat.{ℕ, zero, suc, _+_, _*_, _≤_, _<_}
-use native.Mathlib.Numerals.{add-one}
-use native.Mathlib.Omega.{arith}
-use lib.Dec.{eqb, lit≤}
-use lib.ListN.{length, length-append}
-use Rattle.wire.specs.Endpoints.{endpointLimit}
-use Rattle.wire.specs.Numbers.{bytesOf}
-use Rattle.wire.specs.Writes.{overlay}
-use Rattle.wire.specs.Uvc.{getCur, getDef, getLen, getMin, getRes}
-use Rattle.wire.proofs.Laws.Bytes.{bytes-byte}
-use Rattle.wire.proofs.Laws.Writes.{append}
+use native.Mathlib.{Numerals.{add-one}, Omega.{arith}}
+use lib.{Dec.{eqb, lit≤}, ListN.{length, length-append}}
+use Rattle.wire.specs.{Endpoints.{endpointLimit}, Numbers.{bytesOf}, Writes.{overlay}, Uvc.{getCur, getDef, getLen, getMin, getRes}}
+use Rattle.wire.proofs.Laws.{Bytes.{bytes-byte}, Writes.{append}}
 use Rattle.request.specs.Answers.{answerBy, longestAnswer}
-use Rattle.request.proofs.Laws.Answers.{answer-len, answer-length}
-use Rattle.request.proofs.Laws.Packed.{blank}
-use Rattle.face.specs.declared.limits.FaceLimits.{FaceLimits}
-use Rattle.face.specs.Limits.{endpointsOf, addressAt}
+use Rattle.request.proofs.Laws.{Answers.{answer-len, answer-length}, Packed.{blank}}
+use Rattle.face.specs.{declared.limits.FaceLimits.{FaceLimits}, Limits.{endpointsOf, addressAt}}
 use Rattle.face.specs.Answers.{entryOf, heldAt, flagsAt, entriesOf, faceValue, faceAnswer}
 
 -- an entry whose flags are one byte

@@ -1,9 +1,7 @@
 -- The endpoints that a profile lists: what a valid one says of each, and where an address stands among them. Assumes nothing.
-use mathlib.Core.Path.{_≡_, refl, _∙_}
-use mathlib.Core.Bool.{Bool, true, false, cond, _||_, and-eq-true-iff}
+use mathlib.Core.{Path.{_≡_, refl, _∙_}, Bool.{Bool, true, false, cond, _||_, and-eq-true-iff}}
 use Prim.Native.Nat.{ℕ, zero, suc, _+_, _-_, _/_, _≤_, _<_}
-use native.Mathlib.Numerals.{add-one, sub-one}
-use native.Mathlib.Omega.{arith}
+use native.Mathlib.{Numerals.{add-one, sub-one}, Omega.{arith}}
 use lib.Dec.{ltb, eqb}
 use borrow.Author.Tests.{eq-eqb, ne-eqb, eqb-true, lt-ltb, le-ltb, ltb-true, leb-true}
 use Rattle.wire.proofs.Laws.Below.{all-at}

@@ -1,17 +1,10 @@
 -- What the counts of a number's bits say of the bits. Assumes nothing.
-use mathlib.Core.Path.{_≡_, refl, ap, ap₂, sym, _∙_}
-use mathlib.Core.List.{List, [], _∷_}
-use mathlib.Core.Bool.{Bool, true, false, cond, _&&_}
+use mathlib.Core.{Path.{_≡_, refl, ap, ap₂, sym, _∙_}, List.{List, [], _∷_}, Bool.{Bool, true, false, cond, _&&_}}
 use Prim.Native.Nat.{ℕ, zero, suc, _+_, _*_, _/_, _%_, _^_, _≤_, _<_}
-use native.Mathlib.Nat.{pow-succ', lt-of-lt-of-le, div-eq-of-lt, mod-lt, mod-add-div, mul-assoc}
-use native.Mathlib.Omega.{arith}
-use lib.Pow.{pow-mono, pow-lt}
-use lib.Dec.{eqb, ltb, lit<}
-use lib.ListN.{length}
-use lib.Count.{ones, ones-step, ones-ones, trailingZeros, under}
+use native.Mathlib.{Nat.{pow-succ', lt-of-lt-of-le, div-eq-of-lt, mod-lt, mod-add-div, mul-assoc}, Omega.{arith}}
+use lib.{Pow.{pow-mono, pow-lt}, Dec.{eqb, ltb, lit<}, ListN.{length}, Count.{ones, ones-step, ones-ones, trailingZeros, under}}
 use borrow.Author.Tests.{ltb-true, ltb-false, eqb-true, eqb-false, eq-eqb, ne-eqb}
-use Rattle.flags.specs.declared.Choice.the-variants.{At, Refused}
-use Rattle.flags.specs.Flags.{isSet, bitsOf, count, first, oneFlag}
+use Rattle.flags.specs.{declared.Choice.the-variants.{At, Refused}, Flags.{isSet, bitsOf, count, first, oneFlag}}
 
 -- the number that bits stand for, D0 first
 digit : Bool → ℕ

@@ -1,12 +1,10 @@
 -- `one_flag` meets its contract. Assumes nothing.
 use Rattle.flags.proofs.Laws.Bits.{not-one, one}
-use Rattle.flags.specs.declared.Choice.the-variants.{At, Refused}
-use Rattle.flags.specs.Flags.{oneFlag}
+use Rattle.flags.specs.{declared.Choice.the-variants.{At, Refused}, Flags.{oneFlag}}
 use lib.Count.{trailingZeros, trailing-le}
-use mathlib.Core.Bool.{Bool, cond}
+use mathlib.Core.{Bool.{Bool, cond}, Path.{_≡_, ap, sym, _∙_}}
 use native.Mathlib.Omega.{arith}
 use Prim.Native.Nat.{_%_, _^_}
-use mathlib.Core.Path.{_≡_, ap, sym, _∙_}
 use borrow.Author.Needs.{needs}
 use Rattle.flags.proofs.one_flag.Statement.{statement}
 use Rattle.flags.proofs.one_flag.Tie as tie

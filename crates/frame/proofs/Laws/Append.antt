@@ -1,23 +1,13 @@
 -- Laws of appending: which row of its table answers, what acceptance says, and the bytes written in turn. Assumes nothing.
 use Prim.Native.Nat.{ℕ, _+_, _≤_, _<_}
-use mathlib.Core.Path.{_≡_, refl, sym, ap, ap₂, _∙_}
-use mathlib.Core.List.{List, [], _∷_, _++_, append-assoc}
-use mathlib.Core.Bool.{Bool, true, false, cond}
+use mathlib.Core.{Path.{_≡_, refl, sym, ap, ap₂, _∙_}, List.{List, [], _∷_, _++_, append-assoc}, Bool.{Bool, true, false, cond}}
 use native.Mathlib.Omega.{arith}
-use lib.ListN.{length, take, drop, length-append, length-take}
-use lib.Seq.{take-at, drop-drop, drop-at}
-use lib.Dec.{eqb}
+use lib.{ListN.{length, take, drop, length-append, length-take}, Seq.{take-at, drop-drop, drop-at}, Dec.{eqb}}
 use borrow.Author.Tests.{lt-ltb, le-ltb, ltb-false, eq-eqb, ne-eqb, eqb-true, not-false}
-use Rattle.wire.specs.Numbers.{bytesOf}
-use Rattle.wire.specs.Writes.{overlay}
-use Rattle.wire.proofs.Laws.Writes.{fits, same-length}
-use Rattle.frame.specs.declared.writer.Appended.{Appended}
-use Rattle.frame.specs.Ids.{isKnown}
-use Rattle.frame.specs.Writer.{itemBytes, endOf, appendRefusal, appendedOf, writtenOf}
-use Rattle.wire.specs.Rows.{_⇒_}
-use Rattle.wire.specs.Uvc.{noRoom}
-use Rattle.frame.specs.Codes.{unknownId, tooLong, longestBlock}
-use Rattle.wire.proofs.Laws.Rows.{quiet}
+use Rattle.wire.specs.{Numbers.{bytesOf}, Writes.{overlay}, Rows.{_⇒_}, Uvc.{noRoom}}
+use Rattle.wire.proofs.Laws.{Writes.{fits, same-length}, Rows.{quiet}}
+use Rattle.frame.specs.{declared.writer.Appended.{Appended}, Ids.{isKnown}}
+use Rattle.frame.specs.{Writer.{itemBytes, endOf, appendRefusal, appendedOf, writtenOf}, Codes.{unknownId, tooLong, longestBlock}}
 
 module _ (room at id len : ℕ) where
   pub id-unknown : isKnown id ≡ false → unknownId ≡ appendRefusal room at id len

@@ -1,18 +1,13 @@
 -- What stands behind a sound block once an item is appended there. Assumes nothing.
 use Prim.Native.Nat.{ℕ, zero, suc, _+_, _-_, _^_, _≤_, _<_}
-use mathlib.Core.Path.{_≡_, refl, sym, ap, ap₂, _∙_}
-use mathlib.Core.List.{List, [], _∷_, _++_, append-nil}
-use mathlib.Core.Bool.{Bool, true, false, cond}
+use mathlib.Core.{Path.{_≡_, refl, sym, ap, ap₂, _∙_}, List.{List, [], _∷_, _++_, append-nil}, Bool.{Bool, true, false, cond}}
 use native.Mathlib.Omega.{arith}
-use lib.ListN.{length, take, drop, getD, length-append, length-take, length-drop}
-use lib.Seq.{take-at}
-use lib.Dec.{ltb}
+use lib.{ListN.{length, take, drop, getD, length-append, length-take, length-drop}, Seq.{take-at}, Dec.{ltb}}
 use borrow.Author.Tests.{ltb-false}
 use Rattle.frame.specs.Codes.{longestBlock, tooLong}
-use Rattle.wire.proofs.Laws.Writes as overlays
-use Rattle.frame.specs.Items.{MetadataItem, BlockReading, refused, sound, _before_, itemsFrom, blockItems}
-use Rattle.frame.specs.Items.{nthItem}
+use Rattle.frame.specs.Items.{MetadataItem, BlockReading, refused, sound, _before_, itemsFrom, blockItems, nthItem}
 use Rattle.frame.specs.Writer.{itemBytes, appendRefusal, writtenOf}
+use Rattle.wire.proofs.Laws.Writes as overlays
 use Rattle.frame.proofs.Laws.Fuel.{nothing-left}
 use Rattle.frame.proofs.Laws.Append.{accepted, writes}
 use Rattle.frame.proofs.Laws.Join.{_then_, Split, every, join}

@@ -1,10 +1,8 @@
 -- Numbers read from a longer list. Assumes nothing.
 use Prim.Native.Nat.{ℕ, _+_, _^_, _≤_, _<_}
-use mathlib.Core.Path.{_≡_}
-use mathlib.Core.List.{List, _++_}
+use mathlib.Core.{Path.{_≡_}, List.{List, _++_}}
 use native.Mathlib.Omega.{arith}
-use lib.ListN.{length, drop, length-drop}
-use lib.Seq.{take-at, drop-at, take-append-le, drop-append-le}
+use lib.{ListN.{length, drop, length-drop}, Seq.{take-at, drop-at, take-append-le, drop-append-le}}
 use Rattle.wire.specs.Numbers.{leAt, bytesOf}
 use Rattle.wire.proofs.Laws.Bytes.{length-bytes, number-bytes}
 

@@ -1,14 +1,10 @@
 -- The items of the rest of a block, with no bound in sight: none in no bytes, else one and those behind it. Assumes nothing.
 use Prim.Native.Nat.{ℕ, zero, suc, _≤_, _<_}
-use mathlib.Core.Path.{_≡_, refl, sym, ap, _∙_}
-use mathlib.Core.List.{List, []}
-use mathlib.Core.Bool.{Bool, true, false, cond}
+use mathlib.Core.{Path.{_≡_, refl, sym, ap, _∙_}, List.{List, []}, Bool.{Bool, true, false, cond}}
 use native.Mathlib.Omega.{arith}
-use lib.ListN.{length, drop, length-drop}
-use lib.Dec.{ltb}
+use lib.{ListN.{length, drop, length-drop}, Dec.{ltb}}
 use borrow.Author.Tests.{ltb-true, le-ltb, lt-ltb}
-use Rattle.frame.specs.declared.items.Head.{Head}
-use Rattle.frame.specs.declared.items.Head.the-variants.{Bad, Whole}
+use Rattle.frame.specs.declared.{items.Head.{Head}, items.Head.the-variants.{Bad, Whole}}
 use Rattle.frame.specs.Items.{BlockReading, sound, firstItem, _before_, follow, itemsIn, itemsFrom, itemIn}
 use Rattle.frame.proofs.Laws.Heads.{Says, says}
 

@@ -1,18 +1,12 @@
 -- One item by itself: which row of its table answers, and what a sound one says of its bytes. Assumes nothing.
 use Prim.Native.Nat.{ℕ, _≤_, _<_}
-use mathlib.Core.Path.{_≡_, refl, sym}
-use mathlib.Core.List.{List, [], _∷_}
-use mathlib.Core.Bool.{Bool, true, false, cond}
+use mathlib.Core.{Path.{_≡_, refl, sym}, List.{List, [], _∷_}, Bool.{Bool, true, false, cond}}
 use native.Mathlib.Omega.{arith}
-use lib.ListN.{length}
-use lib.Dec.{ltb, eqb}
+use lib.{ListN.{length}, Dec.{ltb, eqb}}
 use borrow.Author.Tests.{lt-ltb, le-ltb, ltb-false, eqb-true, eqb-false, not-false}
-use Rattle.frame.specs.declared.items.Head.{Head}
-use Rattle.frame.specs.declared.items.Head.the-variants.{Bad, Whole}
-use Rattle.frame.specs.Ids.{isKnown}
-use Rattle.frame.specs.Items.{itemId, itemSize, itemRefusal, firstItem}
+use Rattle.frame.specs.{declared.{items.Head.{Head}, items.Head.the-variants.{Bad, Whole}}, Ids.{isKnown}}
+use Rattle.frame.specs.{Items.{itemId, itemSize, itemRefusal, firstItem}, Codes.{truncated, unknownId, shortSize}}
 use Rattle.wire.specs.Rows.{_⇒_}
-use Rattle.frame.specs.Codes.{truncated, unknownId, shortSize}
 use Rattle.wire.proofs.Laws.Rows.{quiet}
 
 module _ (s : List ℕ) where

@@ -1,15 +1,10 @@
 -- A sound block in front of other bytes: its items, and then what those bytes hold. Assumes nothing.
 use Prim.Native.Nat.{ℕ, zero, suc, _-_, _≤_, _<_}
-use mathlib.Core.Path.{_≡_, refl, sym, ap, _∙_}
-use mathlib.Core.List.{List, [], _∷_, _++_}
-use mathlib.Core.Bool.{Bool, true, false}
+use mathlib.Core.{Path.{_≡_, refl, sym, ap, _∙_}, List.{List, [], _∷_, _++_}, Bool.{Bool, true, false}}
 use native.Mathlib.Omega.{arith}
-use lib.ListN.{length, drop, length-append, length-drop}
-use lib.Dec.{ltb}
+use lib.{ListN.{length, drop, length-append, length-drop}, Dec.{ltb}, Seq.{take-append-le, drop-append-le}}
 use borrow.Author.Tests.{ltb-true, ltb-false}
-use lib.Seq.{take-append-le, drop-append-le}
-use Rattle.frame.specs.declared.items.Head.{Head}
-use Rattle.frame.specs.declared.items.Head.the-variants.{Bad, Whole}
+use Rattle.frame.specs.declared.{items.Head.{Head}, items.Head.the-variants.{Bad, Whole}}
 use Rattle.frame.specs.Items.{MetadataItem, BlockReading, refused, sound, firstItem, _before_, follow, itemsFrom, itemIn}
 use Rattle.frame.proofs.Laws.Heads.{Sound, sound-head, head-of}
 use Rattle.frame.proofs.Laws.Fuel.{nothing-left, one-then}

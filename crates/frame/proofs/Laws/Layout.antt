@@ -1,20 +1,14 @@
 -- Items laid out and read again, and a sound block laid out again. Assumes nothing.
 use Prim.Native.Nat.{ℕ, _+_, _-_, _^_, _≤_, _<_}
-use mathlib.Core.Path.{_≡_, refl, sym, ap, ap₂, _∙_}
-use mathlib.Core.List.{List, [], _∷_, _++_, append-assoc}
-use mathlib.Core.Bool.{true}
+use mathlib.Core.{Path.{_≡_, refl, sym, ap, ap₂, _∙_}, List.{List, [], _∷_, _++_, append-assoc}, Bool.{true}}
 use native.Mathlib.Omega.{arith}
-use lib.ListN.{length, take, drop, length-append, length-take, length-drop, take-append-drop}
-use lib.Seq.{take-at, drop-at, take-add}
-use Rattle.frame.specs.Codes.{longestBlock}
-use Rattle.wire.specs.Numbers.{bytesOf}
-use Rattle.wire.proofs.Laws.Numbers.{Bytes, bytes-drop, below}
-use Rattle.frame.specs.Ids.{isKnown}
-use Rattle.frame.specs.Items.{MetadataItem, BlockReading, sound, _before_, itemsFrom}
+use lib.{ListN.{length, take, drop, length-append, length-take, length-drop, take-append-drop}, Seq.{take-at, drop-at, take-add}}
+use Rattle.frame.specs.{Codes.{longestBlock}, Ids.{isKnown}, Items.{MetadataItem, BlockReading, sound, _before_, itemsFrom}}
 use Rattle.frame.specs.Writer.{itemBytes, layout, Writable}
+use Rattle.wire.specs.Numbers.{bytesOf}
+use Rattle.wire.proofs.Laws.{Numbers.{Bytes, bytes-drop, below}, Bytes.{length-bytes, bytes-at}}
 use Rattle.frame.proofs.Laws.Heads.{Sound}
 use Rattle.frame.proofs.Laws.Fuel.{nothing-left}
-use Rattle.wire.proofs.Laws.Bytes.{length-bytes, bytes-at}
 use Rattle.frame.proofs.Laws.Bytes.{at-front, behind}
 use Rattle.frame.proofs.Laws.Join.{Split, every, front}
 

@@ -1,14 +1,10 @@
 -- The part handed back for item k lies in the block, and its bytes are the item's payload. Assumes nothing.
 use Prim.Native.Nat.{ℕ, zero, suc, _+_, _-_, _≤_, _<_}
-use mathlib.Core.Path.{_≡_, refl, sym, ap, ap₂, _∙_}
-use mathlib.Core.List.{List, [], _∷_}
+use mathlib.Core.{Path.{_≡_, refl, sym, ap, ap₂, _∙_}, List.{List, [], _∷_}}
 use native.Mathlib.Omega.{arith}
-use lib.ListN.{length, take, drop, getD, length-take, length-drop}
-use lib.Seq.{drop-drop}
-use Rattle.frame.specs.Codes.{noItem}
+use lib.{ListN.{length, take, drop, getD, length-take, length-drop}, Seq.{drop-drop}}
+use Rattle.frame.specs.{Codes.{noItem}, Items.{MetadataItem, sound, itemsFrom, itemIn, absent, refusedItem, nthItem}}
 use Rattle.wire.specs.Parts.{bytesAt}
-use Rattle.frame.specs.Items.{MetadataItem, sound, itemsFrom, itemIn, absent}
-use Rattle.frame.specs.Items.{refusedItem, nthItem}
 use Rattle.frame.proofs.Laws.Heads.{Sound}
 use Rattle.frame.proofs.Laws.Join.{Split, every}
 

@@ -1,14 +1,10 @@
 -- What is left of each answer where its number is not 0. Assumes nothing.
 use Prim.Native.Nat.{ℕ, zero, suc, _+_}
-use mathlib.Core.Path.{_≡_, refl}
-use mathlib.Core.List.{List, [], _∷_}
-use mathlib.Core.Bool.{Bool, true, false, cond}
-use lib.ListN.{length}
-use lib.Dec.{eqb}
+use mathlib.Core.{Path.{_≡_, refl}, List.{List, [], _∷_}, Bool.{Bool, true, false, cond}}
+use lib.{ListN.{length}, Dec.{eqb}}
 use Rattle.wire.specs.Writes.{overlay}
 use Rattle.frame.specs.declared.writer.Appended.{Appended}
-use Rattle.frame.specs.Items.{MetadataItem, BlockReading, refused, sound, blockItems}
-use Rattle.frame.specs.Items.{refusedItem, nthItem, foundIn, countIn, blockItem, blockCount}
+use Rattle.frame.specs.Items.{MetadataItem, BlockReading, refused, sound, blockItems, refusedItem, nthItem, foundIn, countIn, blockItem, blockCount}
 use Rattle.frame.specs.Writer.{itemBytes, endOf, appendRefusal, appendedOf, writtenOf}
 
 no-item : (at k : ℕ) (is : List MetadataItem) → (nthItem at k is .code ≡ 0 → ⊥) → nthItem at k is ≡ refusedItem (nthItem at k is .code)

@@ -1,19 +1,12 @@
 -- Laws of the walk over a block: what is left to walk comes to what the whole comes to. Assumes nothing.
 use Prim.Native.Nat.{ℕ, zero, suc, _+_, _-_, _≤_, _<_}
-use mathlib.Core.Path.{_≡_, refl, sym, ap, ap₂, _∙_}
-use mathlib.Core.List.{List, [], _∷_}
-use native.Mathlib.Omega.{arith}
-use native.Mathlib.Numerals.{add-one}
-use lib.ListN.{length, drop, length-take, length-drop}
-use lib.Seq.{drop-drop}
+use mathlib.Core.{Path.{_≡_, refl, sym, ap, ap₂, _∙_}, List.{List, [], _∷_}}
+use native.Mathlib.{Omega.{arith}, Numerals.{add-one}}
+use lib.{ListN.{length, drop, length-take, length-drop}, Seq.{drop-drop}}
 use borrow.Author.Tests.{eq-eqb, ne-eqb, lt-ltb, le-ltb}
-use Rattle.frame.specs.declared.items.Head.{Head}
-use Rattle.frame.specs.declared.items.Head.the-variants.{Bad, Whole}
-use Rattle.frame.specs.declared.items.Found.{Found}
-use Rattle.frame.specs.declared.items.Survey.{Survey}
+use Rattle.frame.specs.declared.{items.Head.{Head}, items.Head.the-variants.{Bad, Whole}, items.Found.{Found}, items.Survey.{Survey}}
 use Rattle.frame.specs.Codes.{noItem, tooLong, longestBlock}
-use Rattle.frame.specs.Items.{MetadataItem, BlockReading, refused, sound, firstItem, _before_, follow, itemsFrom, blockItems, itemIn}
-use Rattle.frame.specs.Items.{refusedItem, nthItem}
+use Rattle.frame.specs.Items.{MetadataItem, BlockReading, refused, sound, firstItem, _before_, follow, itemsFrom, blockItems, itemIn, refusedItem, nthItem}
 use Rattle.frame.specs.Steps.{surveyOf, stoppedAt, passItem, walkedOver, onward}
 use Rattle.frame.proofs.Laws.Heads.{sound-head}
 use Rattle.frame.proofs.Laws.Fuel.{nothing-left, one-then}

@@ -1,6 +1,5 @@
 -- `attribute` meets its contract. Assumes nothing.
-use borrow.Author.Tests.{eq-eqb, ne-eqb}
-use borrow.Author.Needs.{needs}
+use borrow.Author.{Tests.{eq-eqb, ne-eqb}, Needs.{needs}}
 use Rattle.wire.specs.Uvc.{getCur, getMax}
 use Rattle.hdr.specs.Hdr.{hdrAttribute}
 use Rattle.hdr.proofs.attribute.Statement.{statement}

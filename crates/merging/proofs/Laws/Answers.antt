@@ -1,11 +1,7 @@
 -- What merging answers, outcome by outcome. Assumes nothing.
 use Prim.Native.Nat.{ℕ, _≤_, _<_}
-use mathlib.Core.Path.{_≡_, refl}
-use mathlib.Core.Bool.{Bool, true, false, cond}
-use mathlib.Core.List.{List, _++_}
-use lib.ListN.{length, drop}
-use lib.Seq.{take-at}
-use lib.Dec.{eqb}
+use mathlib.Core.{Path.{_≡_, refl}, Bool.{Bool, true, false, cond}, List.{List, _++_}}
+use lib.{ListN.{length, drop}, Seq.{take-at}, Dec.{eqb}}
 use borrow.Author.Tests.{le-leb, lt-leb, eqb-true}
 use Rattle.wire.specs.Uvc.{malformedSnapshot, noRoom}
 use Rattle.snapshot.specs.Form.{wellFormed}

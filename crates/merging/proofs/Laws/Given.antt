@@ -1,12 +1,8 @@
 -- The snapshot of two runs of settings is the first's merged with the second's. Assumes nothing.
 use Prim.Native.Nat.{ℕ}
-use mathlib.Core.Path.{_≡_, sym, ap, ap₂, _∙_, fun-ext}
-use mathlib.Core.List.{List, _++_}
-use mathlib.Core.Option.{Option·map}
-use Rattle.snapshot.specs.Records.{encode}
-use Rattle.snapshot.specs.Given.{overs, KeyedSetting, lastOf, snapshotOf}
-use Rattle.snapshot.proofs.Laws.Maps.{decode-encode}
-use Rattle.snapshot.proofs.Laws.Given.{last-append, over-map, EachRecord, records-good}
+use mathlib.Core.{Path.{_≡_, sym, ap, ap₂, _∙_, fun-ext}, List.{List, _++_}, Option.{Option·map}}
+use Rattle.snapshot.specs.{Records.{encode}, Given.{overs, KeyedSetting, lastOf, snapshotOf}}
+use Rattle.snapshot.proofs.Laws.{Maps.{decode-encode}, Given.{last-append, over-map, EachRecord, records-good}}
 use Rattle.merging.specs.Merging.{merged}
 
 module _ {Value : Type 0} (recordOf : Value → List ℕ) where

@@ -1,21 +1,12 @@
 -- The laws of merging. Assumes nothing.
 use Prim.Native.Nat.{ℕ, zero, suc, _≤_}
-use mathlib.Core.Path.{_≡_, refl, sym, ap, _∙_, fun-ext}
-use mathlib.Core.Logic.{_⊎_, inl, inr}
-use mathlib.Core.List.{List, []}
-use mathlib.Core.Option.{Option, none, some}
-use mathlib.Core.Bool.{true}
+use mathlib.Core.{Path.{_≡_, refl, sym, ap, _∙_, fun-ext}, Logic.{_⊎_, inl, inr}, List.{List, []}, Option.{Option, none, some}, Bool.{true}}
 use lib.ListN.{length}
-use Rattle.snapshot.specs.Keys.{longestSnapshot}
-use Rattle.snapshot.specs.Form.{wellFormed}
-use Rattle.snapshot.specs.Records.{skip, from, recordAt, decode, encode, GoodAt, Good}
+use Rattle.snapshot.specs.{Keys.{longestSnapshot}, Form.{wellFormed}, Records.{skip, from, recordAt, decode, encode, GoodAt, Good}}
 use Rattle.snapshot.specs.Given.{over, overs}
-use Rattle.snapshot.proofs.Laws.Given.{over-assoc, over-none}
+use Rattle.snapshot.proofs.Laws.{Given.{over-assoc, over-none}, Sound.{stands-nil}, Maps.{decode-good, decode-encode}}
+use Rattle.snapshot.proofs.Laws.{Lengths.{encode-length}, Form.{encode-decode, encode-formed}}
 use Rattle.merging.specs.Merging.{merged, Apart}
-use Rattle.snapshot.proofs.Laws.Sound.{stands-nil}
-use Rattle.snapshot.proofs.Laws.Maps.{decode-good, decode-encode}
-use Rattle.snapshot.proofs.Laws.Lengths.{encode-length}
-use Rattle.snapshot.proofs.Laws.Form.{encode-decode, encode-formed}
 
 over-good : (k : ℕ) (a b : Option (List ℕ)) → GoodAt k a → GoodAt k b → GoodAt k (over a b)
 over-good k a none p q = p

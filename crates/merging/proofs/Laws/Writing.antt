@@ -1,26 +1,17 @@
 -- Writing a merged snapshot record by record, as far as the lent buffer reaches. Assumes nothing.
 use Prim.Native.Nat.{ℕ, zero, suc, _+_, _-_, _≤_, _<_, min}
-use native.Mathlib.Omega.{arith}
-use native.Mathlib.Nat.{add-zero}
-use native.Mathlib.Numerals.{add-one}
-use mathlib.Core.Path.{_≡_, refl, sym, ap, ap₂, _∙_}
-use mathlib.Core.Bool.{Bool, true, false}
-use mathlib.Core.List.{List, _++_, append-nil}
-use mathlib.Core.Option.{none}
-use lib.ListN.{length, take, drop, length-append, length-drop}
-use lib.Seq.{length-take-le}
-use lib.Dec.{leb}
+use native.Mathlib.{Omega.{arith}, Nat.{add-zero}, Numerals.{add-one}}
+use mathlib.Core.{Path.{_≡_, refl, sym, ap, ap₂, _∙_}, Bool.{Bool, true, false}, List.{List, _++_, append-nil}, Option.{none}}
+use lib.{ListN.{length, take, drop, length-append, length-drop}, Seq.{length-take-le}, Dec.{leb}}
 use borrow.Author.Tests.{leb-true, leb-false}
 use Rattle.wire.specs.Writes.{overlay}
 use Rattle.wire.proofs.Laws.Writes.{no-bytes, append, same-length}
-use Rattle.snapshot.specs.Keys.{keys, recordLength, longestSnapshot}
-use Rattle.snapshot.specs.Form.{wellFormed}
-use Rattle.snapshot.specs.Records.{keyAt, decode, recordBytes, records, encode}
-use Rattle.snapshot.specs.Given.{over, overs}
+use Rattle.snapshot.specs.{Keys.{keys, recordLength, longestSnapshot}, Form.{wellFormed}}
+use Rattle.snapshot.specs.{Records.{keyAt, decode, recordBytes, records, encode}, Given.{over, overs}}
 use Rattle.merging.specs.Merging.{merged}
 use Rattle.snapshot.proofs.Laws.Maps.{records-split}
-use Rattle.merging.proofs.Laws.Merging.{merged-length}
 use Rattle.snapshot.proofs.Laws.Walk.{At, first-at, none-before, record-at, next-at, next-within, next-above, none-between}
+use Rattle.merging.proofs.Laws.Merging.{merged-length}
 
 -- the merged records of the keys below k
 abbrev pub front : List ℕ → List ℕ → ℕ → List ℕ

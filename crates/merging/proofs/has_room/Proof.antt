@@ -2,8 +2,7 @@
 use mathlib.Core.Path.{sym}
 use native.Mathlib.Omega.{arith}
 use lib.ListN.{length}
-use borrow.Author.Needs.{needs}
-use borrow.Author.Tests.{le-leb}
+use borrow.Author.{Needs.{needs}, Tests.{le-leb}}
 use Rattle.merging.specs.Merging.{merged}
 use Rattle.merging.proofs.Laws.Merging.{merged-length}
 use Rattle.merging.proofs.has_room.Statement.{statement}

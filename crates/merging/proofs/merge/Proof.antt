@@ -1,10 +1,8 @@
 -- `merge` meets its contract. Assumes nothing.
 use Prim.Native.Nat.{ℕ, _≤_}
-use mathlib.Core.Path.{_≡_, sym, _∙_}
-use mathlib.Core.Bool.{true}
+use mathlib.Core.{Path.{_≡_, sym, _∙_}, Bool.{true}}
 use lib.ListN.{length}
-use borrow.Author.Needs.{needs}
-use borrow.Author.Tests.{not-true, not-false, leb-true, leb-false}
+use borrow.Author.{Needs.{needs}, Tests.{not-true, not-false, leb-true, leb-false}}
 use Rattle.wire.proofs.Laws.Writes.{fits-start}
 use Rattle.snapshot.specs.Form.{wellFormed}
 use Rattle.merging.specs.Merging.{merged}

@@ -1,6 +1,5 @@
 -- `attribute` meets its contract. Assumes nothing.
-use borrow.Author.Tests.{eq-eqb, ne-eqb, not-true, not-false}
-use borrow.Author.Needs.{needs}
+use borrow.Author.{Tests.{eq-eqb, ne-eqb, not-true, not-false}, Needs.{needs}}
 use Rattle.wire.specs.Uvc.{getCur, getRes}
 use Rattle.metadata.specs.Metadata.{metadataAttribute}
 use Rattle.metadata.proofs.attribute.Statement.{statement}

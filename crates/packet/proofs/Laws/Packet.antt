@@ -1,17 +1,12 @@
 -- Laws of the payload header: which row of its table answers. Assumes nothing.
 use Prim.Native.Nat.{ℕ, _+_, _-_, _≤_, _<_}
-use mathlib.Core.Path.{_≡_, refl}
-use mathlib.Core.List.{List, [], _∷_}
-use mathlib.Core.Bool.{Bool, true, false, cond}
+use mathlib.Core.{Path.{_≡_, refl}, List.{List, [], _∷_}, Bool.{Bool, true, false, cond}}
 use native.Mathlib.Omega.{arith}
-use lib.ListN.{length}
-use lib.Dec.{ltb, eqb}
+use lib.{ListN.{length}, Dec.{ltb, eqb}}
 use borrow.Author.Tests.{lt-ltb, le-ltb, ltb-false, eqb-true}
-use Rattle.packet.specs.declared.Flag.{Flag}
-use Rattle.packet.specs.declared.PayloadHeader.{PayloadHeader}
-use Rattle.packet.specs.Packet.{headerLength, headerFlags, hasFlag, fieldLength, fieldsLength, headerRefusal, refusedHeader, headerOf}
+use Rattle.packet.specs.declared.{Flag.{Flag}, PayloadHeader.{PayloadHeader}}
+use Rattle.packet.specs.Packet.{headerLength, headerFlags, hasFlag, fieldLength, fieldsLength, headerRefusal, refusedHeader, headerOf, cutHeader, shortHeader}
 use Rattle.wire.specs.Rows.{_⇒_}
-use Rattle.packet.specs.Packet.{cutHeader, shortHeader}
 use Rattle.wire.proofs.Laws.Rows.{quiet}
 
 module _ (flags : ℕ) (flag : Flag) (len : ℕ) where

@@ -1,6 +1,5 @@
 -- A valid profile has no control but the five. Assumes nothing.
-use mathlib.Core.Path.{_≡_, refl, sym, _∙_, subst}
-use mathlib.Core.Bool.{Bool, true, false, cond, not, _&&_, _||_, true≢false, and-eq-true-iff}
+use mathlib.Core.{Path.{_≡_, refl, sym, _∙_, subst}, Bool.{Bool, true, false, cond, not, _&&_, _||_, true≢false, and-eq-true-iff}}
 use Prim.Native.Nat.{ℕ, suc, _+_, _-_, _^_, _≤_}
 use native.Mathlib.Omega.{arith}
 use lib.Dec.{eqb, leb, ltb}
@@ -10,8 +9,7 @@ use Rattle.flags.proofs.Laws.Bits.{high-clear}
 use Rattle.request.specs.Table.{hasControl}
 use Rattle.wire.specs.Rows.{allBelow}
 use Rattle.wire.proofs.Laws.Below.{all-at}
-use Rattle.profile.specs.KnownControl.{KnownControl, ev, face, metadata, hdr, throttle}
-use Rattle.profile.specs.Profile.{presenceValid}
+use Rattle.profile.specs.{KnownControl.{KnownControl, ev, face, metadata, hdr, throttle}, Profile.{presenceValid}}
 
 -- a test that is computed for both truth values
 every : (Bool → Bool) → Bool

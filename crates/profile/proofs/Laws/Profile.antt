@@ -1,13 +1,9 @@
 -- The profile: its tests as the code takes them, and what a valid one says of a control that is there. Assumes nothing.
-use mathlib.Core.Path.{_≡_, refl, sym}
-use mathlib.Core.List.{[], _∷_}
-use mathlib.Core.Bool.{Bool, true, false, _&&_, and-true, and-eq-true-iff}
-use Rattle.wire.specs.Rows.{allOf}
-use Rattle.wire.specs.Selectors.{ev, face}
+use mathlib.Core.{Path.{_≡_, refl, sym}, List.{[], _∷_}, Bool.{Bool, true, false, _&&_, and-true, and-eq-true-iff}}
+use Rattle.wire.specs.{Rows.{allOf}, Selectors.{ev, face}}
 use Rattle.exposure.specs.Exposure.{evValid}
 use Rattle.face.specs.Limits.{faceValid}
-use Rattle.profile.specs.declared.Profile.{Profile}
-use Rattle.profile.specs.Profile.{has, presenceValid, profileValid}
+use Rattle.profile.specs.{declared.Profile.{Profile}, Profile.{has, presenceValid, profileValid}}
 
 -- five tests, one after the other
 pub all-five : (a b c d e : Bool) → a && b && c && d && e ≡ allOf (a ∷ b ∷ c ∷ d ∷ e ∷ [])

@@ -1,6 +1,5 @@
 -- `set_length` meets its contract. Assumes nothing.
-use borrow.Author.Tests.{eq-eqb, ne-eqb}
-use borrow.Author.Needs.{needs}
+use borrow.Author.{Tests.{eq-eqb, ne-eqb}, Needs.{needs}}
 use Rattle.profile.proofs.set_length.Statement.{statement}
 use Rattle.profile.proofs.set_length.Tie as tie
 

@@ -1,14 +1,10 @@
 -- Answers: their length, and what is packed. Assumes nothing.
-use mathlib.Core.Path.{_≡_}
-use mathlib.Core.List.{List, [], _∷_}
-use mathlib.Core.Bool.{Bool, true, false, cond}
+use mathlib.Core.{Path.{_≡_}, List.{List, [], _∷_}, Bool.{Bool, true, false, cond}}
 use Prim.Native.Nat.{ℕ, _≤_}
 use native.Mathlib.Omega.{arith}
-use lib.Dec.{eqb}
-use lib.ListN.{length}
+use lib.{Dec.{eqb}, ListN.{length}}
 use borrow.Author.Tests.{eq-eqb, ne-eqb}
-use Rattle.wire.specs.Numbers.{bytesOf}
-use Rattle.wire.specs.Uvc.{getInfo, getLen}
+use Rattle.wire.specs.{Numbers.{bytesOf}, Uvc.{getInfo, getLen}}
 use Rattle.request.specs.Answers.{answerBy}
 
 -- LEN, INFO and the rest

@@ -1,14 +1,11 @@
 -- Answers as they are handed on: bytes laid over zeros, and taken out again. Assumes nothing.
-use mathlib.Core.Path.{_≡_, ap₂, sym}
-use mathlib.Core.List.{List}
+use mathlib.Core.{Path.{_≡_, ap₂, sym}, List.{List}}
 use Prim.Native.Nat.{ℕ, min, _≤_}
 use native.Mathlib.Omega.{arith}
-use lib.ListN.{length, take, replicate}
-use lib.Seq.{length-take-le}
+use lib.{ListN.{length, take, replicate}, Seq.{length-take-le}}
 use Rattle.wire.specs.Writes.{overlay}
 use Rattle.wire.proofs.Laws.Writes.{front, same-length}
-use Rattle.request.specs.declared.answers.Answer.{Answer}
-use Rattle.request.specs.Answers.{packed}
+use Rattle.request.specs.{declared.answers.Answer.{Answer}, Answers.{packed}}
 
 -- the empty answer that an answer is laid over
 abbrev pub blank : List ℕ

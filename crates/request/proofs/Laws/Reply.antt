@@ -1,13 +1,10 @@
 -- Laws of what a GET reports and leaves in the reply buffer. Assumes nothing.
-use mathlib.Core.Path.{_≡_, ap, _∙_}
-use mathlib.Core.List.{List, _++_}
+use mathlib.Core.{Path.{_≡_, ap, _∙_}, List.{List, _++_}}
 use Prim.Native.Nat.{ℕ, _+_, _≤_, _<_}
 use native.Mathlib.Omega.{arith}
-use lib.ListN.{length, take, drop}
-use lib.Seq.{length-take-le}
+use lib.{ListN.{length, take, drop}, Seq.{length-take-le}}
 use borrow.Author.Tests.{le-leb, lt-leb}
-use Rattle.wire.specs.Uvc.{noRoom}
-use Rattle.wire.specs.Writes.{overlay}
+use Rattle.wire.specs.{Uvc.{noRoom}, Writes.{overlay}}
 use Rattle.wire.proofs.Laws.Writes.{fits}
 use Rattle.request.specs.Reply.{sentLength, sentOf, replyOf}
 

@@ -1,18 +1,12 @@
 -- The number that answers a request, by how far its tests go. Assumes nothing.
-use mathlib.Core.Path.{_≡_, refl, ap, sym, _∙_}
-use mathlib.Core.List.{List, [], _∷_, _++_}
-use mathlib.Core.Bool.{Bool, true, false, cond, not, _&&_}
+use mathlib.Core.{Path.{_≡_, refl, ap, sym, _∙_}, List.{List, [], _∷_, _++_}, Bool.{Bool, true, false, cond, not, _&&_}}
 use Prim.Native.Nat.{ℕ}
-use lib.Dec.{eqb, ltb, leb}
-use lib.ListN.{length}
+use lib.{Dec.{eqb, ltb, leb}, ListN.{length}}
 use borrow.Author.Tests.{eq-eqb, ne-eqb, eqb-true, le-ltb, lt-ltb, leb-true, leb-false}
-use Rattle.wire.specs.Rows.{Row, _⇒_, answers, firstOf}
-use Rattle.wire.specs.Uvc.{malformedRecord, noRoom}
+use Rattle.wire.specs.{Rows.{Row, _⇒_, answers, firstOf}, Uvc.{malformedRecord, noRoom}}
 use Rattle.wire.proofs.Laws.Rows.{first-append}
-use Rattle.request.specs.Setup.{setupSelector, setupCode, setupWLength, isSetRequest}
-use Rattle.request.specs.Table.{Table}
-use Rattle.request.specs.Tests.{requestTests, valueTests, asked, sentCount, requestRows, requestCode}
-use Rattle.request.specs.Reply.{sentOf, replyOf}
+use Rattle.request.specs.{Setup.{setupSelector, setupCode, setupWLength, isSetRequest}, Table.{Table}}
+use Rattle.request.specs.{Tests.{requestTests, valueTests, asked, sentCount, requestRows, requestCode}, Reply.{sentOf, replyOf}}
 use Rattle.request.specs.Requests.{replied}
 
 -- a row that comes to its own number

@@ -1,28 +1,18 @@
 -- Laws of items taken one after the other. Assumes nothing.
-use mathlib.Core.Path.{_≡_, refl, ap, ap₂, sym, _∙_, fun-ext}
-use mathlib.Core.List.{List, [], _∷_, _++_, append-assoc, append-nil}
+use mathlib.Core.{Path.{_≡_, refl, ap, ap₂, sym, _∙_, fun-ext}, List.{List, [], _∷_, _++_, append-assoc, append-nil}}
 use mathlib.Core.Bool.{Bool, true, false, cond}
 use Prim.Native.Nat.{ℕ, zero, suc, _+_, _<_}
-use native.Mathlib.Nat.{zero-add}
-use native.Mathlib.Numerals.{add-one}
-use native.Mathlib.Omega.{arith}
-use lib.Dec.{eqb}
-use lib.ListN.{getD}
+use native.Mathlib.{Nat.{zero-add}, Numerals.{add-one}, Omega.{arith}}
+use lib.{Dec.{eqb}, ListN.{getD}}
 use borrow.Author.Tests.{ne-eqb, eqb-true}
 use Rattle.wire.specs.Selectors.{face}
-use Rattle.controls.specs.declared.Item.{Item}
-use Rattle.controls.specs.declared.Item.the-variants.{Refused, Given}
-use Rattle.controls.specs.declared.Setting.{Setting}
+use Rattle.controls.specs.{declared.{Item.{Item}, Item.the-variants.{Refused, Given}, Setting.{Setting}}, Controls.{itemCode, firstRefusal}}
 use Rattle.controls.specs.declared.Setting.the-variants as S
-use Rattle.controls.specs.Controls.{itemCode, firstRefusal}
 use Rattle.entries.specs.declared.FacesTaken.{FacesTaken}
 use Rattle.entries.specs.Entries.{entryAddress, entryFlags, entryRefusal, faceItem, entriesPut, facesTaken}
 use Rattle.entries.proofs.Laws.Entries.{entry-code, taken-entries}
-use Rattle.profile.specs.declared.Profile.{Profile}
-use Rattle.settings.specs.declared.settings.Settings.{Settings}
-use Rattle.settings.specs.declared.items.SetTaken.{SetTaken}
-use Rattle.settings.specs.Settings.{put}
-use Rattle.profile.specs.Items.{profileItem, setRefusal}
+use Rattle.profile.specs.{declared.Profile.{Profile}, Items.{profileItem, setRefusal}}
+use Rattle.settings.specs.{declared.{settings.Settings.{Settings}, items.SetTaken.{SetTaken}}, Settings.{put}}
 use Rattle.settings.specs.Items.{givenOf, allGiven, putAll, setGives, setTaken}
 
 -- one more

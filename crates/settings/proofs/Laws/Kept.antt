@@ -1,29 +1,20 @@
 -- Settings that keep their rules, as the code tests them: control by control. Assumes nothing.
-use mathlib.Core.Path.{_≡_, refl, ap, sym, _∙_}
-use mathlib.Core.List.{[], _∷_}
-use mathlib.Core.Option.{none, some}
+use mathlib.Core.{Path.{_≡_, refl, ap, sym, _∙_}, List.{[], _∷_}, Option.{none, some}}
 use mathlib.Core.Bool.{Bool, true, false, cond, not, _&&_, _||_, and-true}
 use Prim.Native.Nat.{ℕ, suc, _+_, _<_}
-use native.Mathlib.Numerals.{sub-one}
-use native.Mathlib.Omega.{arith}
-use lib.Dec.{eqb}
-use lib.ListN.{getD}
+use native.Mathlib.{Numerals.{sub-one}, Omega.{arith}}
+use lib.{Dec.{eqb}, ListN.{getD}}
 use borrow.Author.Tests.{ne-eqb, le-leb}
-use Rattle.wire.specs.Uvc.{invalidControl, invalidRequest}
-use Rattle.wire.specs.Endpoints.{firstAddress, places}
-use Rattle.wire.specs.Rows.{_⇒_, firstOf}
+use Rattle.wire.specs.{Uvc.{invalidControl, invalidRequest}, Endpoints.{firstAddress, places}, Rows.{_⇒_, firstOf, allBelow}}
 use Rattle.wire.specs.Selectors.{face, metadata}
 use Rattle.snapshot.specs.Keys.{evKey, metadataKey, hdrKey, throttleKey}
 use Rattle.controls.specs.declared.Setting.{Setting}
 use Rattle.controls.specs.declared.Setting.the-variants as S
 use Rattle.metadata.specs.Metadata.{metadataRefusal}
-use Rattle.wire.specs.Rows.{allBelow}
 use Rattle.entries.specs.Entries.{settingRefusal, faceKept, facesKept}
 use Rattle.wire.proofs.Laws.Below.{all-same, below-front}
-use Rattle.profile.specs.declared.Profile.{Profile}
-use Rattle.settings.specs.declared.settings.Settings.{Settings}
-use Rattle.profile.specs.Profile.{has, isSettable, profileValid, profileRefusal}
-use Rattle.settings.specs.Settings.{settingSelector}
+use Rattle.profile.specs.{declared.Profile.{Profile}, Profile.{has, isSettable, profileValid, profileRefusal}}
+use Rattle.settings.specs.{declared.settings.Settings.{Settings}, Settings.{settingSelector}}
 use Rattle.settings.specs.Held.{evHeld, metadataHeld, hdrHeld, throttleHeld, settingsHeld}
 use Rattle.settings.specs.Kept.{valueRefusal, kept, settingsWellFormed}
 

@@ -1,14 +1,10 @@
 -- The records of the five controls, from the bytes of their settings, are records of their keys. Assumes nothing.
 use Prim.Native.Nat.{ℕ, _+_, _-_, _≤_}
 use native.Mathlib.Omega.{arith}
-use mathlib.Core.Path.{refl}
-use mathlib.Core.List.{[], _∷_}
+use mathlib.Core.{Path.{refl}, List.{[], _∷_}}
 use borrow.Author.Tests.{le-leb, eq-eqb, ne-eqb}
-use Rattle.wire.specs.Numbers.{leAt, number}
-use Rattle.wire.specs.Selectors.{ev, face, metadata, hdr, throttle}
-use Rattle.wire.specs.Endpoints.{firstAddress, lastAddress, places}
-use Rattle.snapshot.specs.Form.{soundRecord, statedKey}
-use Rattle.snapshot.specs.Records.{stands, IsRecord}
+use Rattle.wire.specs.{Numbers.{leAt, number}, Selectors.{ev, face, metadata, hdr, throttle}, Endpoints.{firstAddress, lastAddress, places}}
+use Rattle.snapshot.specs.{Form.{soundRecord, statedKey}, Records.{stands, IsRecord}}
 
 pub record-ev : (a b c d e f g h i j k : ℕ) → IsRecord 0 (15 ∷ 0 ∷ ev ∷ 0 ∷ a ∷ b ∷ c ∷ d ∷ e ∷ f ∷ g ∷ h ∷ i ∷ j ∷ k ∷ [])
 unfolding stands soundRecord statedKey leAt number

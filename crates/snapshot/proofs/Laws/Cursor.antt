@@ -1,21 +1,13 @@
 -- A cursor that goes through the keys, one after the other: what code that reads a snapshot goes by. Assumes nothing.
 use Prim.Native.Nat.{ℕ, _+_, _-_, _≤_, _<_}
-use native.Mathlib.Omega.{arith}
-use native.Mathlib.Numerals.{add-one}
-use mathlib.Core.Path.{_≡_, refl, sym, ap, ap₂, _∙_}
-use mathlib.Core.Bool.{Bool, true, false, cond, _&&_, true≢false}
-use mathlib.Core.List.{List, [], _∷_}
+use native.Mathlib.{Omega.{arith}, Numerals.{add-one}}
+use mathlib.Core.{Path.{_≡_, refl, sym, ap, ap₂, _∙_}, Bool.{Bool, true, false, cond, _&&_, true≢false}, List.{List, [], _∷_}}
 use mathlib.Core.Option.{none, some}
-use lib.ListN.{length, take, drop, length-drop}
-use lib.Seq.{drop-drop}
-use lib.Dec.{leb, ltb, eqb}
+use lib.{ListN.{length, take, drop, length-drop}, Seq.{drop-drop}, Dec.{leb, ltb, eqb}}
 use borrow.Author.Tests.{le-leb, lt-leb, lt-ltb, leb-true, ltb-true, eq-eqb, ne-eqb}
-use Rattle.wire.specs.declared.parts.Part.{Part}
-use Rattle.wire.specs.Parts.{nowhere}
-use Rattle.snapshot.specs.Keys.{keys, recordLength}
-use Rattle.snapshot.specs.Form.{soundRecord, statedKey, isEmpty, wellFormed}
-use Rattle.snapshot.specs.Records.{stands, keyAt, passed, skip, from, recordAt, decode, recordBytes, recordPlace}
-use Rattle.snapshot.specs.Steps.{EndsBelow}
+use Rattle.wire.specs.{declared.parts.Part.{Part}, Parts.{nowhere}}
+use Rattle.snapshot.specs.{Keys.{keys, recordLength}, Form.{soundRecord, statedKey, isEmpty, wellFormed}}
+use Rattle.snapshot.specs.{Records.{stands, keyAt, passed, skip, from, recordAt, decode, recordBytes, recordPlace}, Steps.{EndsBelow}}
 use Rattle.snapshot.proofs.Laws.Sound.{and-left, and-right, stands-long}
 use Rattle.snapshot.proofs.Laws.Form.{formed-from}
 use Rattle.snapshot.proofs.Laws.Stay.{other-stands, stay}

@@ -1,15 +1,10 @@
 -- The list of a snapshot's records in order agrees with the record of each key. Assumes nothing.
 use Prim.Native.Nat.{ℕ, zero, suc, _+_, _≤_, _<_}
 use native.Mathlib.Omega.{arith}
-use mathlib.Core.Path.{_≡_, refl, sym, ap, _∙_}
-use mathlib.Core.Bool.{Bool, true, false}
-use mathlib.Core.List.{List, [], _∷_, _++_}
-use mathlib.Core.Option.{Option, none, some}
-use lib.ListN.{length, take, length-drop}
-use lib.Dec.{leb, eqb}
+use mathlib.Core.{Path.{_≡_, refl, sym, ap, _∙_}, Bool.{Bool, true, false}, List.{List, [], _∷_, _++_}, Option.{Option, none, some}}
+use lib.{ListN.{length, take, length-drop}, Dec.{leb, eqb}}
 use borrow.Author.Tests.{leb-true, leb-false, eqb-true, eqb-false, ne-eqb}
-use Rattle.snapshot.specs.Keys.{keys, recordLength}
-use Rattle.snapshot.specs.Form.{soundRecord, formed, wellFormed}
+use Rattle.snapshot.specs.{Keys.{keys, recordLength}, Form.{soundRecord, formed, wellFormed}}
 use Rattle.snapshot.specs.Records.{stands, skip, from, recordAt, decode, recordBytes, records, encode, KeyedRecord, split, recordsOf, find, Ascending, joined}
 use Rattle.snapshot.proofs.Laws.Sound.{parts-sound, stands-sound, stands-size, stands-long, stands-some}
 use Rattle.snapshot.proofs.Laws.Maps.{skip-at, skip-not, decode-good, none-above}

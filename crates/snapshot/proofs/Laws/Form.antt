@@ -1,16 +1,11 @@
 -- Well-formed bytes: going through the keys passes all of them, and they are the snapshot of their records. Assumes nothing.
 use Prim.Native.Nat.{ℕ, zero, suc, _+_, _≤_, _<_}
-use native.Mathlib.Omega.{arith}
-use native.Mathlib.Nat.{zero-add}
-use mathlib.Core.Path.{_≡_, refl, sym, ap, _∙_}
-use mathlib.Core.Bool.{Bool, true, false, cond, _&&_, true≢false, false≢true}
-use mathlib.Core.List.{List, [], _∷_, _++_}
+use native.Mathlib.{Omega.{arith}, Nat.{zero-add}}
+use mathlib.Core.{Path.{_≡_, refl, sym, ap, _∙_}, Bool.{Bool, true, false, cond, _&&_, true≢false, false≢true}, List.{List, [], _∷_, _++_}}
 use mathlib.Core.Option.{Option, none, some}
-use lib.ListN.{length, take, drop, length-drop, take-append-drop}
-use lib.Dec.{leb}
+use lib.{ListN.{length, take, drop, length-drop, take-append-drop}, Dec.{leb}}
 use borrow.Author.Tests.{le-leb, lt-leb, leb-true, leb-false}
-use Rattle.snapshot.specs.Keys.{keys, recordLength}
-use Rattle.snapshot.specs.Form.{statedLength, soundRecord, statedKey, isEmpty, formed, wellFormed}
+use Rattle.snapshot.specs.{Keys.{keys, recordLength}, Form.{statedLength, soundRecord, statedKey, isEmpty, formed, wellFormed}}
 use Rattle.snapshot.specs.Records.{stands, skip, from, recordAt, decode, recordBytes, records, encode, Good}
 use Rattle.snapshot.proofs.Laws.Sound.{sound-parts, parts-sound, sound-of, stands-sound, sound-stands, stands-size, stands-long, stands-some}
 use Rattle.snapshot.proofs.Laws.Maps.{from-records}

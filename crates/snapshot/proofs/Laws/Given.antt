@@ -1,13 +1,10 @@
 -- Settings given one after the other, and their records. Assumes nothing.
 use Prim.Native.Nat.{ℕ}
-use mathlib.Core.Path.{_≡_, refl, sym, ap, _∙_, subst}
-use mathlib.Core.Bool.{Bool, true, false, cond}
-use mathlib.Core.List.{List, [], _∷_, _++_}
+use mathlib.Core.{Path.{_≡_, refl, sym, ap, _∙_, subst}, Bool.{Bool, true, false, cond}, List.{List, [], _∷_, _++_}}
 use mathlib.Core.Option.{Option, none, some, Option·map}
 use lib.Dec.{eqb}
 use borrow.Author.Tests.{eqb-true}
-use Rattle.snapshot.specs.Records.{IsRecord, GoodAt, Good}
-use Rattle.snapshot.specs.Given.{over, KeyedSetting, lastOf}
+use Rattle.snapshot.specs.{Records.{IsRecord, GoodAt, Good}, Given.{over, KeyedSetting, lastOf}}
 
 pub over-assoc : {A : Type 0} (a b c : Option A) → over (over a b) c ≡ over a (over b c)
 over-assoc a b none = refl

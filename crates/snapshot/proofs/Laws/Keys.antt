@@ -1,15 +1,11 @@
 -- The numbers of the keys stand in the order of kind, then address. Assumes nothing.
 use Prim.Native.Nat.{ℕ, zero, suc, _+_, _-_, _≤_, _<_}
 use native.Mathlib.Omega.{arith}
-use mathlib.Core.Path.{_≡_, refl, sym, ap, _∙_}
-use mathlib.Core.Bool.{Bool, true, false, cond}
-use mathlib.Core.List.{List}
-use lib.ListN.{getD}
-use lib.Dec.{leb, ltb, eqb}
+use mathlib.Core.{Path.{_≡_, refl, sym, ap, _∙_}, Bool.{Bool, true, false, cond}, List.{List}}
+use lib.{ListN.{getD}, Dec.{leb, ltb, eqb}}
 use borrow.Author.Tests.{eqb-true, eqb-false, leb-true, leb-false, ltb-true, ltb-false, le-leb, ne-eqb}
 use Rattle.wire.specs.Endpoints.{firstAddress, places}
-use Rattle.snapshot.specs.Keys.{keys}
-use Rattle.snapshot.specs.Form.{statedKind, orderPlace, soundRecord, statedKey}
+use Rattle.snapshot.specs.{Keys.{keys}, Form.{statedKind, orderPlace, soundRecord, statedKey}}
 use Rattle.snapshot.proofs.Laws.Sound.{Sound, Kind, ev, face, metadata, hdr, throttle, kind-of, sound-parts, sound-of, sound-address}
 
 -- the place of a key in the order

@@ -1,14 +1,9 @@
 -- Maps of records, and the first round trip: the snapshot of given records has those records. Assumes nothing.
 use Prim.Native.Nat.{ℕ, zero, suc, _+_, _-_, _≤_, _<_}
-use native.Mathlib.Omega.{arith}
-use native.Mathlib.Nat.{zero-add}
-use mathlib.Core.Path.{_≡_, refl, sym, ap, _∙_, fun-ext}
-use mathlib.Core.Bool.{Bool, true, false, cond}
-use mathlib.Core.List.{List, _++_, append-assoc}
+use native.Mathlib.{Omega.{arith}, Nat.{zero-add}}
+use mathlib.Core.{Path.{_≡_, refl, sym, ap, _∙_, fun-ext}, Bool.{Bool, true, false, cond}, List.{List, _++_, append-assoc}}
 use mathlib.Core.Option.{Option, none, some}
-use lib.ListN.{take, drop}
-use lib.Seq.{drop-at, take-at}
-use lib.Dec.{leb}
+use lib.{ListN.{take, drop}, Seq.{drop-at, take-at}, Dec.{leb}}
 use borrow.Author.Tests.{leb-true, leb-false}
 use Rattle.snapshot.specs.Keys.{keys, recordLength}
 use Rattle.snapshot.specs.Records.{stands, skip, from, recordAt, decode, recordBytes, records, encode, GoodAt, Good}

@@ -1,18 +1,13 @@
 -- A sound record is told from the bytes that it states to be its own, and from no others. Assumes nothing.
 use Prim.Native.Nat.{ℕ, zero, suc, _+_, _*_, _-_, _≤_, _<_}
-use mathlib.Core.Path.{_≡_, refl, sym, ap₂, _∙_}
-use mathlib.Core.Bool.{Bool, true, false, cond, _&&_, false≢true}
-use mathlib.Core.List.{List, [], _∷_, _++_}
+use mathlib.Core.{Path.{_≡_, refl, sym, ap₂, _∙_}, Bool.{Bool, true, false, cond, _&&_, false≢true}, List.{List, [], _∷_, _++_}}
 use native.Mathlib.Omega.{arith}
 use lib.ListN.{length, getD, take, drop, length-drop, length-append, List·getD-append}
-use lib.Seq.{getD-take, getD-drop, ext-getD, length-take-le}
-use lib.Dec.{leb, eqb}
+use lib.{Seq.{getD-take, getD-drop, ext-getD, length-take-le}, Dec.{leb, eqb}}
 use borrow.Author.Tests.{leb-true, ltb-true, eqb-true, le-leb, eq-eqb, ne-eqb, lt-ltb}
-use Rattle.wire.specs.Numbers.{leAt, number}
+use Rattle.wire.specs.{Numbers.{leAt, number}, Rows.{allOf}, Endpoints.{firstAddress, lastAddress, places}}
 use Rattle.wire.proofs.Laws.Numbers.{front}
-use Rattle.wire.specs.Rows.{allOf}
 use Rattle.wire.specs.Selectors as selectors
-use Rattle.wire.specs.Endpoints.{firstAddress, lastAddress, places}
 use Rattle.snapshot.specs.Keys.{keys, kindLength, recordLength, keyFor}
 use Rattle.snapshot.specs.Form.{statedLength, statedKind, throttleTail, zeros, recordTests, soundRecord, statedKey}
 use Rattle.snapshot.specs.Records.{stands, IsRecord}

@@ -1,14 +1,10 @@
 -- The key of what stands at the start of bytes, and the keys of which nothing stands there: these pass nothing. Assumes nothing.
 use Prim.Native.Nat.{ℕ, zero, suc, _≤_, _<_}
 use native.Mathlib.Omega.{arith}
-use mathlib.Core.Path.{_≡_, refl, ap, _∙_}
-use mathlib.Core.Bool.{Bool, true, false, cond}
-use mathlib.Core.List.{List}
+use mathlib.Core.{Path.{_≡_, refl, ap, _∙_}, Bool.{Bool, true, false, cond}, List.{List}}
 use lib.Dec.{leb}
 use borrow.Author.Tests.{leb-true, leb-false}
-use Rattle.snapshot.specs.Keys.{keys}
-use Rattle.snapshot.specs.Form.{soundRecord, statedKey}
-use Rattle.snapshot.specs.Records.{stands, keyAt, skip, from}
+use Rattle.snapshot.specs.{Keys.{keys}, Form.{soundRecord, statedKey}, Records.{stands, keyAt, skip, from}}
 use Rattle.snapshot.proofs.Laws.Sound.{sound-parts, parts-sound, sound-of, stands-sound, sound-stands}
 use Rattle.snapshot.proofs.Laws.Maps.{not-true, skip-not}
 

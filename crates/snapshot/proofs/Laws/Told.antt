@@ -2,20 +2,14 @@
 -- nothing.
 use Prim.Native.Nat.{ℕ, _+_, _*_, _-_, _≤_, _<_}
 use native.Mathlib.Omega.{arith}
-use mathlib.Core.Path.{_≡_, refl, sym, ap, ap₂, _∙_}
-use mathlib.Core.Bool.{Bool, true, false, cond, _&&_, and-true, and-false, and-assoc, true≢false}
+use mathlib.Core.{Path.{_≡_, refl, sym, ap, ap₂, _∙_}, Bool.{Bool, true, false, cond, _&&_, and-true, and-false, and-assoc, true≢false}}
 use mathlib.Core.List.{List, [], _∷_, _++_}
-use lib.ListN.{length, getD, take, drop}
-use lib.Seq.{take-add, drop-drop}
-use lib.Dec.{leb, eqb}
+use lib.{ListN.{length, getD, take, drop}, Seq.{take-add, drop-drop}, Dec.{leb, eqb}}
 use borrow.Author.Tests.{eqb-true, eqb-false, leb-true, ltb-true, le-leb, lt-ltb, eq-eqb, ne-eqb}
-use Rattle.wire.specs.Endpoints.{firstAddress, lastAddress, places}
-use Rattle.wire.specs.Numbers.{number, leAt}
-use Rattle.wire.specs.Rows.{allOf}
+use Rattle.wire.specs.{Endpoints.{firstAddress, lastAddress, places}, Numbers.{number, leAt}, Rows.{allOf}}
 use Rattle.wire.specs.Selectors as selectors
 use Rattle.snapshot.specs.Keys.{keys, recordLength, keyFor}
-use Rattle.snapshot.specs.Form.{zeros, recordTests, statedLength, statedKind, throttleTail, soundRecord, statedKey}
-use Rattle.snapshot.specs.Records.{keyAt}
+use Rattle.snapshot.specs.{Form.{zeros, recordTests, statedLength, statedKind, throttleTail, soundRecord, statedKey}, Records.{keyAt}}
 use Rattle.snapshot.specs.Steps.{keyBy}
 use Rattle.snapshot.proofs.Laws.Sound.{each, Sound, sound-parts, parts-sound, Kind, ev, face, metadata, hdr, throttle, kind-of, sound-address, sound-of}
 

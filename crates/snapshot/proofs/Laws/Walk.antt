@@ -1,17 +1,10 @@
 -- Going through a well-formed snapshot from record to record: what code that reads one with `key_at` and `record_length` goes by. Assumes nothing.
 use Prim.Native.Nat.{ℕ, suc, _+_, _≤_, _<_}
 use native.Mathlib.Omega.{arith}
-use mathlib.Core.Path.{_≡_, refl, sym, ap, _∙_}
-use mathlib.Core.Bool.{Bool, true, false, true≢false}
-use mathlib.Core.List.{List, []}
-use mathlib.Core.Option.{none, some}
-use lib.ListN.{length, take, drop, length-drop}
-use lib.Seq.{drop-drop}
-use lib.Dec.{leb}
+use mathlib.Core.{Path.{_≡_, refl, sym, ap, _∙_}, Bool.{Bool, true, false, true≢false}, List.{List, []}, Option.{none, some}}
+use lib.{ListN.{length, take, drop, length-drop}, Seq.{drop-drop}, Dec.{leb}}
 use borrow.Author.Tests.{leb-true, leb-false}
-use Rattle.snapshot.specs.Keys.{keys, recordLength}
-use Rattle.snapshot.specs.Form.{wellFormed}
-use Rattle.snapshot.specs.Records.{stands, keyAt, skip, from, recordAt, decode}
+use Rattle.snapshot.specs.{Keys.{keys, recordLength}, Form.{wellFormed}, Records.{stands, keyAt, skip, from, recordAt, decode}}
 use Rattle.snapshot.proofs.Laws.Sound.{stands-nil, stands-long}
 use Rattle.snapshot.proofs.Laws.Maps.{skip-at}
 use Rattle.snapshot.proofs.Laws.Form.{empty-nil, formed-from}

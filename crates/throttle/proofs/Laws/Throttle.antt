@@ -1,21 +1,13 @@
 -- Throttle: a payload reads back as its mode and percent, and what is accepted lies within the limits. Assumes nothing.
-use mathlib.Core.Path.{_≡_, refl}
-use mathlib.Core.List.{[], _∷_}
-use mathlib.Core.Bool.{Bool, true, false, true≢false, _||_}
+use mathlib.Core.{Path.{_≡_, refl}, List.{[], _∷_}, Bool.{Bool, true, false, true≢false, _||_}}
 use Prim.Native.Nat.{ℕ, _^_, _<_, _≤_}
-use lib.Dec.{ltb}
-use lib.ListN.{length}
+use lib.{Dec.{ltb}, ListN.{length}}
 use borrow.Author.Tests.{ltb-false}
-use Rattle.wire.specs.Numbers.{leAt, bytesOf}
-use Rattle.wire.specs.Rows.{_⇒_}
-use Rattle.wire.specs.Uvc.{invalidValue, outOfRange}
-use Rattle.wire.proofs.Laws.Rows.{quiet}
-use Rattle.wire.proofs.Laws.Bytes.{number-bytes}
-use Rattle.controls.specs.declared.ThrottleSetting.{ThrottleSetting}
+use Rattle.wire.specs.{Numbers.{leAt, bytesOf}, Rows.{_⇒_}, Uvc.{invalidValue, outOfRange}}
+use Rattle.wire.proofs.Laws.{Rows.{quiet}, Bytes.{number-bytes}}
+use Rattle.controls.specs.{declared.ThrottleSetting.{ThrottleSetting}, Controls.{itemOf}}
 use Rattle.controls.specs.declared.Setting.the-variants as S
-use Rattle.controls.specs.Controls.{itemOf}
-use Rattle.throttle.specs.declared.ThrottleLimits.{ThrottleLimits}
-use Rattle.throttle.specs.Throttle.{throttleRefusal, throttleItem, throttleBytes}
+use Rattle.throttle.specs.{declared.ThrottleLimits.{ThrottleLimits}, Throttle.{throttleRefusal, throttleItem, throttleBytes}}
 
 -- a throttle's mode and percent, whatever stands behind them
 module _ (s : ThrottleSetting) (tail : ThrottleLimits) where

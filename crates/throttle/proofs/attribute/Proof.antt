@@ -1,7 +1,6 @@
 -- `attribute` meets its contract. Assumes nothing.
 use mathlib.Core.Path.{ap, sym, _∙_}
-use borrow.Author.Tests.{ne-eqb}
-use borrow.Author.Needs.{needs}
+use borrow.Author.{Tests.{ne-eqb}, Needs.{needs}}
 use Rattle.wire.specs.Uvc.{getCur, getMin, getMax, getRes}
 use Rattle.throttle.specs.Throttle.{throttleAttribute, throttleCurrent}
 use Rattle.throttle.proofs.attribute.Statement.{statement}

@@ -1,10 +1,8 @@
 -- `bytes` meets its contract. Assumes nothing.
-use mathlib.Core.Path.{ap, _∙_}
-use mathlib.Core.List.{List}
+use mathlib.Core.{Path.{ap, _∙_}, List.{List}}
 use Prim.Native.Nat.{ℕ}
 use borrow.Author.Needs.{needs}
-use Rattle.wire.specs.Numbers.{bytesOf}
-use Rattle.wire.specs.Writes.{overlay}
+use Rattle.wire.specs.{Numbers.{bytesOf}, Writes.{overlay}}
 use Rattle.throttle.specs.Throttle.{throttleBytes}
 use Rattle.throttle.proofs.bytes.Statement.{statement}
 use Rattle.throttle.proofs.bytes.Tie as tie

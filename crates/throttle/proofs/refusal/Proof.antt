@@ -1,8 +1,6 @@
 -- `refusal` meets its contract. Assumes nothing.
-use mathlib.Core.Path.{_≡_}
-use mathlib.Core.Bool.{not, cond}
-use borrow.Author.Tests.{lt-ltb, le-ltb}
-use borrow.Author.Needs.{needs}
+use mathlib.Core.{Path.{_≡_}, Bool.{not, cond}}
+use borrow.Author.{Tests.{lt-ltb, le-ltb}, Needs.{needs}}
 use Rattle.wire.specs.Uvc.{invalidValue}
 use Rattle.throttle.specs.Throttle.{throttleRefusal}
 use Rattle.throttle.proofs.refusal.Statement.{statement}

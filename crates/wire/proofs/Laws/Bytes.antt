@@ -1,12 +1,8 @@
 -- Numbers in bytes and back, over the width k. Assumes nothing.
-use mathlib.Core.Path.{_≡_, refl, ap, ap₂, _∙_}
-use mathlib.Core.List.{List, [], _∷_, _++_}
-use mathlib.Core.Bool.{Bool, true, false}
+use mathlib.Core.{Path.{_≡_, refl, ap, ap₂, _∙_}, List.{List, [], _∷_, _++_}, Bool.{Bool, true, false}}
 use Prim.Native.Nat.{ℕ, zero, suc, _+_, _*_, _/_, _%_, _^_, _≤_, _<_}
-use native.Mathlib.Nat.{pow-suc, mod-eq-of-lt, div-eq-of-lt}
-use native.Mathlib.Omega.{arith}
-use lib.Dec.{ltb, lit<}
-use lib.ListN.{length, getD, take, drop, length-take, length-drop, List·getD-eq-default}
+use native.Mathlib.{Nat.{pow-suc, mod-eq-of-lt, div-eq-of-lt}, Omega.{arith}}
+use lib.{Dec.{ltb, lit<}, ListN.{length, getD, take, drop, length-take, length-drop, List·getD-eq-default}}
 use lib.Seq.{take-at, take-all, drop-at, take-length, getD-take}
 use mir.Syntax.{w8}
 use mir.Val.{Fits}

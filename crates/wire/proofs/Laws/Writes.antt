@@ -1,12 +1,8 @@
 -- Laws of bytes laid over a lent buffer. Assumes nothing.
-use mathlib.Core.Path.{_≡_, refl, ap, ap₂, sym, _∙_}
-use mathlib.Core.List.{List, [], _++_, append-nil}
-use mathlib.Core.Bool.{Bool, true, false}
+use mathlib.Core.{Path.{_≡_, refl, ap, ap₂, sym, _∙_}, List.{List, [], _++_, append-nil}, Bool.{Bool, true, false}}
 use Prim.Native.Nat.{ℕ, _+_, _-_, _≤_, _<_}
-use native.Mathlib.Omega.{arith}
-use native.Mathlib.Nat.{zero-add}
-use lib.Dec.{leb}
-use lib.ListN.{length, take, drop, length-append, length-take, length-drop, drop-of-length-le}
+use native.Mathlib.{Omega.{arith}, Nat.{zero-add}}
+use lib.{Dec.{leb}, ListN.{length, take, drop, length-append, length-take, length-drop, drop-of-length-le}}
 use lib.Seq.{take-all, take-length, take-at, take-append-le, take-append-add, take-append-seam, drop-append-add, drop-drop, paste}
 use borrow.Author.Tests.{leb-true, leb-false}
 use Rattle.wire.specs.Writes.{overlay}

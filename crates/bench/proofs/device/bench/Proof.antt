@@ -1,6 +1,5 @@
 -- `bench` is the bench camera. Assumes nothing.
-use mathlib.Core.Path.{ap, _∙_}
-use mathlib.Core.Bool.{true}
+use mathlib.Core.{Path.{ap, _∙_}, Bool.{true}}
 use borrow.Author.Needs.{needs}
 use Rattle.camera.specs.Record.{fresh}
 use Rattle.bench.proofs.device.bench.Statement.{statement}

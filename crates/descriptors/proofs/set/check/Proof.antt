@@ -1,12 +1,10 @@
 -- `check` meets its contract: past the header's test the set is short enough for the walk's number to tell an offset from a refusal. Assumes nothing.
 use Prim.Native.Nat.{_<_}
-use mathlib.Core.Path.{_≡_, sym, _∙_}
-use mathlib.Core.Bool.{true}
+use mathlib.Core.{Path.{_≡_, sym, _∙_}, Bool.{true}}
 use native.Mathlib.Omega.{arith}
 use lib.ListN.{length}
 use denote.Ref.{now}
-use borrow.Author.Tests.{not-true, not-false}
-use borrow.Author.Needs.{needs}
+use borrow.Author.{Tests.{not-true, not-false}, Needs.{needs}}
 use Rattle.descriptors.specs.Set.{goodHeader}
 use Rattle.descriptors.proofs.Laws.Whole.{header-room, bad-set, Told, check-sound, check-refused}
 use Rattle.descriptors.proofs.set.check.Statement.{statement}

@@ -5,8 +5,7 @@ use Prim.Native.Nat.{ℕ, _≤_, _<_, _+_, _-_, _*_}
 use mathlib.Core.Path.{_≡_, refl, sym, _∙_}
 use native.Mathlib.Omega.{arith}
 use borrow.Author.Needs.{needs}
-use borrow.Fn.Kinds.{In}
-use borrow.Fn.PlainCycle.{Measures, is, falls, and}
+use borrow.{Fn.Kinds.{In}, Fn.PlainCycle.{Measures, is, falls, and}}
 use Rattle.descriptors.specs.Walk.{stopFrom}
 use Rattle.descriptors.proofs.Laws.Rows.{told-refused, told-opaque, told-property, told-subset}
 use Rattle.descriptors.proofs.Laws.Sound.{known-as}

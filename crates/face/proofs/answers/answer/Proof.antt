@@ -1,6 +1,5 @@
 -- `answer` meets its contract. Assumes nothing.
-use mathlib.Core.Path.{ap₂, _∙_}
-use mathlib.Core.List.{List}
+use mathlib.Core.{Path.{ap₂, _∙_}, List.{List}}
 use Prim.Native.Nat.{ℕ, _+_, _*_}
 use borrow.Author.Needs.{needs}
 use Rattle.request.specs.Answers.{answerBy, packed}

@@ -1,7 +1,6 @@
 -- `flags_at` meets its contract. Assumes nothing.
 use mathlib.Core.Path.{sym, _∙_}
-use borrow.Author.Tests.{eq-eqb, ne-eqb}
-use borrow.Author.Needs.{needs}
+use borrow.Author.{Tests.{eq-eqb, ne-eqb}, Needs.{needs}}
 use Rattle.face.specs.Answers.{flagsAt}
 use Rattle.face.proofs.answers.flags_at.Statement.{statement}
 use Rattle.face.proofs.answers.flags_at.Tie as tie

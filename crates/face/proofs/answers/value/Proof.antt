@@ -1,6 +1,5 @@
 -- `value` meets its contract. Assumes nothing.
-use mathlib.Core.Path.{_≡_, refl, ap, sym, _∙_}
-use mathlib.Core.List.{_∷_}
+use mathlib.Core.{Path.{_≡_, refl, ap, sym, _∙_}, List.{_∷_}}
 use Prim.Native.Nat.{ℕ, _≤_, _-_, _+_, _*_}
 use native.Mathlib.Omega.{arith}
 use lib.ListN.{length}
@@ -8,8 +7,7 @@ use borrow.Author.Needs.{needs}
 use Rattle.wire.specs.Writes.{overlay}
 use Rattle.wire.proofs.Laws.Writes.{same-length}
 use Rattle.request.specs.Answers.{packed}
-use Rattle.face.specs.Limits.{addressAt}
-use Rattle.face.specs.Answers.{entryOf, flagsAt, entriesOf, faceValue}
+use Rattle.face.specs.{Limits.{addressAt}, Answers.{entryOf, flagsAt, entriesOf, faceValue}}
 use Rattle.request.proofs.Laws.Packed.{blank, pack-is}
 use Rattle.face.proofs.Laws.Answers.{length-entries, entries-next}
 use Rattle.face.proofs.answers.value.Statement.{statement}

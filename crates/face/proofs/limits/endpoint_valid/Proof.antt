@@ -1,6 +1,5 @@
 -- `endpoint_valid` meets its contract. Assumes nothing.
-use borrow.Author.Tests.{lt-ltb, le-ltb}
-use borrow.Author.Needs.{needs}
+use borrow.Author.{Tests.{lt-ltb, le-ltb}, Needs.{needs}}
 use Rattle.face.specs.Limits.{endpointValid}
 use Rattle.face.proofs.limits.endpoint_valid.Statement.{statement}
 use Rattle.face.proofs.limits.endpoint_valid.Tie as tie

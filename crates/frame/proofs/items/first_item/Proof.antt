@@ -1,7 +1,6 @@
 -- `first_item` meets its contract: each return's tests say which row answers. Assumes nothing.
 use Rattle.frame.proofs.Laws.Heads.{head-short, head-unknown, head-small, head-past, head-whole}
-use borrow.Author.Needs.{needs}
-use borrow.Author.Tests.{not-true, not-false}
+use borrow.Author.{Needs.{needs}, Tests.{not-true, not-false}}
 use native.Mathlib.Omega.{arith}
 use Rattle.frame.proofs.items.first_item.Statement.{statement}
 use Rattle.frame.proofs.items.first_item.Tie as tie

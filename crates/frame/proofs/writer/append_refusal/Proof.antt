@@ -1,9 +1,8 @@
 -- `append_refusal` meets its contract: each return's tests say which row answers. Assumes nothing.
 use Rattle.frame.proofs.Laws.Append.{id-unknown, end-long, room-short, all-fits}
-use borrow.Author.Tests.{not-true, not-false}
+use borrow.Author.{Tests.{not-true, not-false}, Needs.{needs}}
 use native.Mathlib.Omega.{arith}
 use mathlib.Core.Path.{sym, _∙_}
-use borrow.Author.Needs.{needs}
 use Rattle.frame.proofs.writer.append_refusal.Statement.{statement}
 use Rattle.frame.proofs.writer.append_refusal.Tie as tie
 

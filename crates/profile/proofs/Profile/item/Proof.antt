@@ -1,6 +1,5 @@
 -- `item` meets its contract. Assumes nothing.
-use borrow.Author.Tests.{eq-eqb, ne-eqb}
-use borrow.Author.Needs.{needs}
+use borrow.Author.{Tests.{eq-eqb, ne-eqb}, Needs.{needs}}
 use Rattle.profile.specs.Items.{profileItem}
 use Rattle.profile.proofs.Profile.item.Statement.{statement}
 use Rattle.profile.proofs.Profile.item.Tie as tie

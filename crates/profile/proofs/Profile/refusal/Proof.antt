@@ -1,7 +1,6 @@
 -- `refusal` meets its contract. Assumes nothing.
 use mathlib.Core.Path.{sym, _∙_}
-use borrow.Author.Tests.{not-true, not-false}
-use borrow.Author.Needs.{needs}
+use borrow.Author.{Tests.{not-true, not-false}, Needs.{needs}}
 use Rattle.profile.specs.Profile.{profileRefusal}
 use Rattle.profile.proofs.Profile.refusal.Statement.{statement}
 use Rattle.profile.proofs.Profile.refusal.Tie as tie

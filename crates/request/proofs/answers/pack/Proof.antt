@@ -1,10 +1,8 @@
 -- `pack` meets its contract. Assumes nothing.
-use mathlib.Core.Path.{ap₂}
-use mathlib.Core.List.{List}
+use mathlib.Core.{Path.{ap₂}, List.{List}}
 use Prim.Native.Nat.{ℕ}
 use borrow.Author.Needs.{needs}
-use Rattle.request.specs.declared.answers.Answer.{Answer}
-use Rattle.request.specs.Answers.{packed}
+use Rattle.request.specs.{declared.answers.Answer.{Answer}, Answers.{packed}}
 use Rattle.request.proofs.answers.pack.Statement.{statement}
 use Rattle.request.proofs.answers.pack.Tie as tie
 

@@ -1,7 +1,6 @@
 -- `has_control` meets its contract. Assumes nothing.
 use native.Mathlib.Omega.{arith}
-use borrow.Author.Tests.{le-leb, lt-leb}
-use borrow.Author.Needs.{needs}
+use borrow.Author.{Tests.{le-leb, lt-leb}, Needs.{needs}}
 use Rattle.request.proofs.tests.has_control.Statement.{statement}
 use Rattle.request.proofs.tests.has_control.Tie as tie
 

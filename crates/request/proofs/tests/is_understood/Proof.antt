@@ -1,8 +1,7 @@
 -- `is_understood` meets its contract. Assumes nothing.
 use mathlib.Core.Path.{_≡_, sym, _∙_}
 use lib.ListN.{getD}
-use borrow.Author.Tests.{eq-eqb, ne-eqb}
-use borrow.Author.Needs.{needs}
+use borrow.Author.{Tests.{eq-eqb, ne-eqb}, Needs.{needs}}
 use Rattle.request.proofs.tests.is_understood.Statement.{statement}
 use Rattle.request.proofs.tests.is_understood.Tie as tie
 

@@ -1,15 +1,10 @@
 -- `refusal` meets its contract. Assumes nothing.
-use mathlib.Core.Bool.{not, cond, true}
-use mathlib.Core.Path.{_≡_, ap, sym, _∙_}
+use mathlib.Core.{Bool.{not, cond, true}, Path.{_≡_, ap, sym, _∙_}}
 use native.Mathlib.Omega.{arith}
-use lib.Dec.{eqb}
-use lib.ListN.{length}
-use borrow.Author.Tests.{eq-eqb, ne-eqb}
-use borrow.Author.Needs.{needs}
-use Rattle.wire.specs.Uvc.{unknown}
-use Rattle.wire.specs.Rows.{firstOf}
-use Rattle.request.specs.Setup.{setupSelector}
-use Rattle.request.specs.Table.{hasControl, tableOf}
+use lib.{Dec.{eqb}, ListN.{length}}
+use borrow.Author.{Tests.{eq-eqb, ne-eqb}, Needs.{needs}}
+use Rattle.wire.specs.{Uvc.{unknown}, Rows.{firstOf}}
+use Rattle.request.specs.{Setup.{setupSelector}, Table.{hasControl, tableOf}}
 use Rattle.request.specs.Tests.{isAddressed, isUnderstood, isSized, requestTests}
 use Rattle.request.proofs.tests.refusal.Statement.{statement}
 use Rattle.request.proofs.tests.refusal.Tie as tie

@@ -5,8 +5,7 @@ use mir.Val.{SFits}
 use mir.Facts.{toZ-ofZ}
 use Rattle.exposure.specs.Exposure.{evRefusal}
 use Rattle.controls.specs.declared.Setting.the-variants as S
-use Rattle.settings.specs.Held.{evHeld}
-use Rattle.settings.specs.Kept.{valueRefusal, kept}
+use Rattle.settings.specs.{Held.{evHeld}, Kept.{valueRefusal, kept}}
 use Rattle.settings.proofs.Laws.Kept.{kept-settable}
 use borrow.Author.Needs.{needs}
 use Rattle.settings.proofs.kept.ev_kept.Statement.{statement}

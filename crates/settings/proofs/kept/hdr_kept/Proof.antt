@@ -1,8 +1,7 @@
 -- `hdr_kept` meets its contract. Assumes nothing.
 use mathlib.Core.Path.{refl, ap, sym, _∙_}
 use Rattle.controls.specs.declared.Setting.the-variants as S
-use Rattle.settings.specs.Held.{hdrHeld}
-use Rattle.settings.specs.Kept.{valueRefusal, kept}
+use Rattle.settings.specs.{Held.{hdrHeld}, Kept.{valueRefusal, kept}}
 use Rattle.settings.proofs.Laws.Kept.{kept-settable}
 use borrow.Author.Needs.{needs}
 use Rattle.settings.proofs.kept.hdr_kept.Statement.{statement}

@@ -1,7 +1,6 @@
 -- `metadata_kept` meets its contract. Assumes nothing.
 use mathlib.Core.Path.{ap, sym, _∙_}
-use Rattle.settings.specs.Held.{metadataHeld}
-use Rattle.settings.specs.Kept.{valueRefusal, kept}
+use Rattle.settings.specs.{Held.{metadataHeld}, Kept.{valueRefusal, kept}}
 use Rattle.settings.proofs.Laws.Kept.{kept-metadata}
 use borrow.Author.Needs.{needs}
 use Rattle.settings.proofs.kept.metadata_kept.Statement.{statement}

@@ -1,13 +1,10 @@
 -- `key_by` meets its contract. Assumes nothing.
 use Prim.Native.Nat.{_+_, _≤_}
-use mathlib.Core.Path.{_∙_}
-use mathlib.Core.Bool.{_&&_, and-false}
+use mathlib.Core.{Path.{_∙_}, Bool.{_&&_, and-false}}
 use native.Mathlib.Omega.{arith}
 use lib.Dec.{leb, eqb}
-use borrow.Author.Needs.{needs}
-use borrow.Author.Tests.{ne-eqb, leb-true}
-use Rattle.wire.specs.Endpoints.{firstAddress, lastAddress, places}
-use Rattle.wire.specs.Selectors.{ev, face, metadata, hdr, throttle}
+use borrow.Author.{Needs.{needs}, Tests.{ne-eqb, leb-true}}
+use Rattle.wire.specs.{Endpoints.{firstAddress, lastAddress, places}, Selectors.{ev, face, metadata, hdr, throttle}}
 use Rattle.snapshot.proofs.Laws.Sound.{and-left, and-right}
 use Rattle.snapshot.proofs.Laws.Told.{by-kind, by-address, no-address}
 use Rattle.snapshot.proofs.keys.key_by.Statement.{statement}

@@ -1,6 +1,5 @@
 -- `key_if` meets its contract. Assumes nothing.
-use borrow.Author.Needs.{needs}
-use borrow.Author.Tests.{eq-eqb, ne-eqb}
+use borrow.Author.{Needs.{needs}, Tests.{eq-eqb, ne-eqb}}
 use mathlib.Core.Path.{sym, _∙_}
 use Rattle.snapshot.proofs.keys.key_if.Statement.{statement}
 use Rattle.snapshot.proofs.keys.key_if.Tie as tie

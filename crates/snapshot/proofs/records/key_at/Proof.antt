@@ -1,14 +1,12 @@
 -- `key_at` meets its contract. Assumes nothing.
 use Prim.Native.Nat.{ℕ, _≤_}
-use mathlib.Core.Path.{_≡_, refl, sym, ap, _∙_}
-use mathlib.Core.List.{List}
+use mathlib.Core.{Path.{_≡_, refl, sym, ap, _∙_}, List.{List}}
 use native.Mathlib.Omega.{arith}
 use lib.ListN.{length, getD, drop}
 use borrow.Author.Needs.{needs}
 use Rattle.wire.specs.Numbers.{leAt}
 use Rattle.wire.proofs.Laws.Parts.{rest}
-use Rattle.snapshot.specs.Form.{zeros, statedLength, throttleTail}
-use Rattle.snapshot.specs.Steps.{keyBy}
+use Rattle.snapshot.specs.{Form.{zeros, statedLength, throttleTail}, Steps.{keyBy}}
 use Rattle.snapshot.proofs.Laws.Told.{told, short-none, cut-none, other-key, zero-key, tail-none}
 use Rattle.snapshot.proofs.records.key_at.Statement.{statement}
 use Rattle.snapshot.proofs.records.key_at.Tie as tie

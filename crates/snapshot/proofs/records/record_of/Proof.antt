@@ -1,14 +1,11 @@
 -- `record_of` meets its contract. Assumes nothing.
 use Prim.Native.Nat.{ℕ, _<_}
-use mathlib.Core.Path.{_≡_, sym, ap, subst, _∙_}
+use mathlib.Core.{Path.{_≡_, sym, ap, subst, _∙_}, List.{List}}
 use borrow.Author.Needs.{needs}
 use denote.Ref.{RefT, now}
-use mathlib.Core.List.{List}
 use lib.ListN.{take, drop}
 use Rattle.wire.specs.Parts.{PartOf}
-use Rattle.snapshot.specs.Keys.{keys}
-use Rattle.snapshot.specs.Records.{passed, decode, recordBytes, recordPlace}
-use Rattle.snapshot.specs.Steps.{EndsBelow}
+use Rattle.snapshot.specs.{Keys.{keys}, Records.{passed, decode, recordBytes, recordPlace}, Steps.{EndsBelow}}
 use Rattle.snapshot.proofs.Laws.Maps.{decode-good, none-above}
 use Rattle.snapshot.proofs.Laws.Cursor.{is-passed, not-passed, cursor-record, cursor-place, no-place}
 use Rattle.snapshot.proofs.records.record_of.Statement.{statement}

@@ -4,9 +4,7 @@ use mathlib.Core.Path.{_≡_}
 use native.Mathlib.Omega.{arith}
 use lib.ListN.{drop}
 use borrow.Author.Needs.{needs}
-use Rattle.snapshot.specs.Keys.{recordLength}
-use Rattle.snapshot.specs.Records.{keyAt}
-use Rattle.snapshot.specs.Steps.{EndsBelow}
+use Rattle.snapshot.specs.{Keys.{recordLength}, Records.{keyAt}, Steps.{EndsBelow}}
 use Rattle.snapshot.proofs.Laws.Cursor.{start, cursor-on, cursor-done}
 use Rattle.snapshot.proofs.records.start_of.Statement.{statement}
 use Rattle.snapshot.proofs.records.start_of.Tie as tie

@@ -1,7 +1,6 @@
 -- `number` meets its contract. Assumes nothing.
-use mathlib.Core.Path.{ap₂, _≡_, _∙_}
+use mathlib.Core.{Path.{ap₂, _≡_, _∙_}, List.{List}}
 use lib.ListN.{getD}
-use mathlib.Core.List.{List}
 use Prim.Native.Nat.{ℕ, _*_, _+_, _≤_, _-_}
 use native.Mathlib.Omega.{arith}
 use borrow.Author.Needs.{needs}

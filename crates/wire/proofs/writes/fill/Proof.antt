@@ -1,11 +1,9 @@
 -- `fill` meets its contract. Assumes nothing.
 use mathlib.Core.Path.{_≡_, refl, ap, _∙_}
 use Prim.Native.Nat.{_+_, _≤_, _-_}
-use native.Mathlib.Numerals.{add-one}
-use native.Mathlib.Omega.{arith}
+use native.Mathlib.{Numerals.{add-one}, Omega.{arith}}
 use borrow.Author.Needs.{needs}
-use lib.ListN.{length, getD, set, length-set}
-use lib.Seq.{paste, paste-zero, paste-suc}
+use lib.{ListN.{length, getD, set, length-set}, Seq.{paste, paste-zero, paste-suc}}
 use Rattle.wire.proofs.writes.fill.Statement.{statement}
 use Rattle.wire.proofs.writes.fill.Tie as tie
 

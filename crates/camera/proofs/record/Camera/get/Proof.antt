@@ -1,18 +1,12 @@
 -- `get` meets its contract. Assumes nothing.
-use mathlib.Core.Path.{_≡_, ap, ap₂, _∙_}
-use mathlib.Core.List.{List}
+use mathlib.Core.{Path.{_≡_, ap, ap₂, _∙_}, List.{List}}
 use Prim.Native.Nat.{ℕ, _≤_}
 use lib.ListN.{length, take}
-use Rattle.request.specs.declared.reply.Sent.{Sent}
-use Rattle.request.specs.Reply.{sentOf, replyOf}
+use Rattle.request.specs.{declared.reply.Sent.{Sent}, Reply.{sentOf, replyOf}, Tests.{asked, fullAnswer}, Answers.{longestAnswer}}
 use Rattle.request.proofs.Laws.Packed.{unpack, unpack-room, unpack-length}
-use Rattle.request.specs.Tests.{asked}
-use Rattle.request.specs.Tests.{fullAnswer}
-use Rattle.request.specs.Answers.{longestAnswer}
 use Rattle.answering.specs.Answering.{controlAnswer}
 use Rattle.answering.proofs.Laws.Answering.{answer-fits}
-use Rattle.camera.specs.Requests.{table}
-use Rattle.camera.specs.Steps.{getDone}
+use Rattle.camera.specs.{Requests.{table}, Steps.{getDone}}
 use borrow.Author.Needs.{needs}
 use Rattle.camera.proofs.record.Camera.get.Statement.{statement}
 use Rattle.camera.proofs.record.Camera.get.Tie as tie

@@ -1,10 +1,8 @@
 -- `load` meets its contract. Assumes nothing.
-use mathlib.Core.Path.{_≡_, sym, _∙_}
-use mathlib.Core.Bool.{true}
-use borrow.Author.Tests.{not-true, not-false}
+use mathlib.Core.{Path.{_≡_, sym, _∙_}, Bool.{true}}
+use borrow.Author.{Tests.{not-true, not-false}, Needs.{needs}}
 use Rattle.camera.specs.Record.{recordWellFormed}
 use Rattle.camera.proofs.Laws.Loading.{load-unformed, load-malformed, load-formed, load-records}
-use borrow.Author.Needs.{needs}
 use Rattle.camera.proofs.record.Camera.load.Statement.{statement}
 use Rattle.camera.proofs.record.Camera.load.Tie as tie
 

@@ -1,17 +1,11 @@
 -- `request` meets its contract. Assumes nothing.
-use mathlib.Core.Path.{_≡_, ap, ap₂, sym, _∙_}
-use mathlib.Core.Bool.{true}
+use mathlib.Core.{Path.{_≡_, ap, ap₂, sym, _∙_}, Bool.{true}}
 use Prim.Native.Nat.{ℕ}
-use borrow.Author.Tests.{not-true, not-false}
-use borrow.Author.Needs.{needs}
+use borrow.Author.{Tests.{not-true, not-false}, Needs.{needs}}
 use Rattle.wire.specs.Rows.{firstOf}
-use Rattle.request.specs.Setup.{setupSelector, setupCode}
-use Rattle.request.specs.Table.{tableOf}
-use Rattle.request.specs.Tests.{requestTests}
+use Rattle.request.specs.{Setup.{setupSelector, setupCode}, Table.{tableOf}, Tests.{requestTests}}
 use Rattle.profile.specs.Profile.{extensionUnit, profileControl}
-use Rattle.camera.specs.Record.{recordWellFormed}
-use Rattle.camera.specs.Requests.{stateRefusal, table, refused}
-use Rattle.camera.specs.Steps.{setDone}
+use Rattle.camera.specs.{Record.{recordWellFormed}, Requests.{stateRefusal, table, refused}, Steps.{setDone}}
 use Rattle.camera.proofs.Laws.Requests.{malformed, tests-fail, state-fails, a-set, a-get}
 use Rattle.camera.proofs.record.Camera.request.Statement.{statement}
 use Rattle.camera.proofs.record.Camera.request.Tie as tie

@@ -3,8 +3,7 @@ use mathlib.Core.Path.{sym, _∙_}
 use mir.Syntax.{w32}
 use mir.Val.{SFits}
 use mir.Facts.{toZ-ofZ}
-use borrow.Author.Tests.{not-true, not-false}
-use borrow.Author.Needs.{needs}
+use borrow.Author.{Tests.{not-true, not-false}, Needs.{needs}}
 use Rattle.camera.proofs.Laws.Record.{sensed-refused, sensed-done}
 use Rattle.camera.proofs.record.Camera.sensor.Statement.{statement}
 use Rattle.camera.proofs.record.Camera.sensor.Tie as tie

@@ -1,7 +1,6 @@
 -- `set_streaming` meets its contract. Assumes nothing.
 use mathlib.Core.Path.{sym, _∙_}
-use borrow.Author.Tests.{not-true, not-false}
-use borrow.Author.Needs.{needs}
+use borrow.Author.{Tests.{not-true, not-false}, Needs.{needs}}
 use Rattle.camera.proofs.Laws.Record.{streamed-refused, streamed-done}
 use Rattle.camera.proofs.record.Camera.set_streaming.Statement.{statement}
 use Rattle.camera.proofs.record.Camera.set_streaming.Tie as tie

@@ -1,10 +1,8 @@
 -- `write` meets its contract. Assumes nothing.
-use mathlib.Core.Path.{_≡_, sym, _∙_}
-use mathlib.Core.Bool.{true}
-use borrow.Author.Tests.{not-true, not-false}
+use mathlib.Core.{Path.{_≡_, sym, _∙_}, Bool.{true}}
+use borrow.Author.{Tests.{not-true, not-false}, Needs.{needs}}
 use Rattle.camera.specs.Record.{recordWellFormed}
 use Rattle.camera.proofs.Laws.Writing.{write-unformed, write-no-room, write-done}
-use borrow.Author.Needs.{needs}
 use Rattle.camera.proofs.record.Camera.write.Statement.{statement}
 use Rattle.camera.proofs.record.Camera.write.Tie as tie
 

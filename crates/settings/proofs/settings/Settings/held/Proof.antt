@@ -1,6 +1,5 @@
 -- `held` meets its contract. Assumes nothing.
-use borrow.Author.Tests.{eq-eqb, ne-eqb, le-leb, lt-leb}
-use borrow.Author.Needs.{needs}
+use borrow.Author.{Tests.{eq-eqb, ne-eqb, le-leb, lt-leb}, Needs.{needs}}
 use Rattle.settings.specs.Held.{settingsHeld}
 use Rattle.settings.proofs.settings.Settings.held.Statement.{statement}
 use Rattle.settings.proofs.settings.Settings.held.Tie as tie
