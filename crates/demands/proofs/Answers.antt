@@ -66,7 +66,8 @@ module _ (c : Camera) (w : recordWellFormed c ≡ true) where
   unfolding gives
   set-gives s payload reply i e = rw (set-answer c s payload (length reply) w i, eq-eqb _ 0 e)
 
-  pub load-gives : (s : List ℕ) → outcome c (load s) .code ≡ 0 → gives (c .profile) (c .streaming) (load s) ≡ loadGives (c .profile) (c .streaming) s
+  pub load-gives : (s : List ℕ) → outcome c (load s) .code ≡ 0
+      → gives (c .profile) (c .streaming) (load s) ≡ loadGives (c .profile) (c .streaming) s
   unfolding gives
   load-gives s e = rw (eq-eqb _ 0 (sym (load-answer c s w) ∙ e))
 
@@ -95,22 +96,27 @@ sensor-exact c w = record { code = rw w; held = twelfths; unset = λ e. rw (w, e
 
 -- GET_CUR is DEF while no setting is held of the selector's control.
 module _ (c : Camera) (l : length (c .settings .face) ≡ places) where
-  pub unset-current : (control : ℕ) → KnownControl control → ((k : ℕ) → selectorAt k ≡ control → held c k ≡ none) → cameraAnswer c control getCur ≡ cameraAnswer c control getDef
-  unfolding fullAnswer valueOf settingsHeld answerBy evAttribute evCurrent faceAnswer metadataAttribute hdrAttribute numberOr throttleAttribute throttleCurrent
+  pub unset-current : (control : ℕ) → KnownControl control → ((k : ℕ) → selectorAt k ≡ control → held c k ≡ none)
+      → cameraAnswer c control getCur ≡ cameraAnswer c control getDef
+  unfolding fullAnswer valueOf settingsHeld answerBy evAttribute evCurrent faceAnswer metadataAttribute hdrAttribute numberOr
+      throttleAttribute throttleCurrent
   unset-current _ selectors.ev h = go (c .settings .ev) (h 0 refl)
     where
-      go : (e : HeldEv) → evHeld e ≡ none → evBytes (evAttribute (c .profile .ev) e getCur) ≡ evBytes (evAttribute (c .profile .ev) e getDef)
+      go : (e : HeldEv) → evHeld e ≡ none
+          → evBytes (evAttribute (c .profile .ev) e getCur) ≡ evBytes (evAttribute (c .profile .ev) e getDef)
       go E.Unset z = refl
       go (E.Held s) z = absurd (none-never (S.Ev s) (sym z))
   unset-current _ selectors.face h = fresh-answer (c .profile .face) (c .settings .face) (face-none (c .settings) l h)
   unset-current _ selectors.metadata h = go (c .settings .metadata) (h metadataKey refl)
     where
-      go : (n : HeldNumber) → metadataHeld n ≡ none → bytesOf 4 (metadataAttribute (c .profile .metadata) n getCur) ≡ bytesOf 4 (metadataAttribute (c .profile .metadata) n getDef)
+      go : (n : HeldNumber) → metadataHeld n ≡ none
+          → bytesOf 4 (metadataAttribute (c .profile .metadata) n getCur) ≡ bytesOf 4 (metadataAttribute (c .profile .metadata) n getDef)
       go N.Unset z = refl
       go (N.Held n) z = absurd (none-never (S.Metadata n) (sym z))
   unset-current _ selectors.hdr h = go (c .settings .hdr) (h hdrKey refl)
     where
-      go : (n : HeldNumber) → hdrHeld n ≡ none → bytesOf 4 (hdrAttribute (c .profile .hdr) n getCur) ≡ bytesOf 4 (hdrAttribute (c .profile .hdr) n getDef)
+      go : (n : HeldNumber) → hdrHeld n ≡ none
+          → bytesOf 4 (hdrAttribute (c .profile .hdr) n getCur) ≡ bytesOf 4 (hdrAttribute (c .profile .hdr) n getDef)
       go N.Unset z = refl
       go (N.Held n) z = absurd (none-never (S.Hdr n) (sym z))
   unset-current _ selectors.throttle h = go (c .settings .throttle) (h throttleKey refl)
@@ -123,7 +129,8 @@ module _ (c : Camera) (l : length (c .settings .face) ≡ places) where
       go (T.Held s) z = absurd (none-never (S.Throttle s) (sym z))
 
 -- So it is before any SET, whatever the selector.
-pub fresh-current : (p : Profile) (streaming : Bool) (control : ℕ) → cameraAnswer (fresh p streaming) control getCur ≡ cameraAnswer (fresh p streaming) control getDef
+pub fresh-current : (p : Profile) (streaming : Bool) (control : ℕ)
+    → cameraAnswer (fresh p streaming) control getCur ≡ cameraAnswer (fresh p streaming) control getDef
 unfolding fullAnswer valueOf answerBy noSettings
 fresh-current p streaming control =
     go (eqb control selector.ev) (eqb control selector.face) (eqb control selector.metadata) (eqb control selector.hdr) refl refl refl refl
@@ -131,7 +138,8 @@ fresh-current p streaming control =
     known : (n : ℕ) → KnownControl n → cameraAnswer (fresh p streaming) n getCur ≡ cameraAnswer (fresh p streaming) n getDef
     known n k = unset-current (fresh p streaming) refl n k (λ k e. none-held k)
 
-    go : (a b m h : Bool) → eqb control selector.ev ≡ a → eqb control selector.face ≡ b → eqb control selector.metadata ≡ m → eqb control selector.hdr ≡ h
+    go : (a b m h : Bool) → eqb control selector.ev ≡ a → eqb control selector.face ≡ b → eqb control selector.metadata ≡ m
+        → eqb control selector.hdr ≡ h
         → cameraAnswer (fresh p streaming) control getCur ≡ cameraAnswer (fresh p streaming) control getDef
     go true b m h e f g i = rw e (known selector.ev selectors.ev)
     go false true m h e f g i = rw (e, f) (known selector.face selectors.face)
@@ -177,7 +185,12 @@ length-answer c _ selectors.throttle n payload = len-answers (table c) selector.
 pub face-length : (c : Camera) → recordWellFormed c ≡ true → has (c .profile) selector.face ≡ true → FaceLength c
 face-length c w h =
     let v = valid-face (c .profile) (formed-profile c w) h in
-    record { answer = len-answers (table c) selector.face; longest = len-longest (c .profile .face) v; reached = len-taken (c .profile .face) v }
+    record {
+      answer = len-answers (table c) selector.face;
+      longest = len-longest (c .profile .face) v;
+      reached = len-taken
+          (c .profile .face) v;
+    }
 
 -- A SET's verdict is 0 where 01's tests accept it with the record's profile and flag.
 pub set-verdict : (c : Camera) → recordWellFormed c ≡ true → (s payload : List ℕ) (room : ℕ) → isSetRequest s ≡ true
@@ -199,7 +212,8 @@ module _ (c : Camera) (o : Ok (c .profile) c) (payload : List ℕ) (r : profileR
   all-taken = after (c .profile) (c .settings .face) (o .places) payload (getD payload 0 0) each-taken
 
   -- what is then held of an address
-  held-then : (address : ℕ) → heldAt (d .settings .face) address ≡ heldAt (entriesPut (c .settings .face) payload (getD payload 0 0)) address
+  held-then : (address : ℕ)
+      → heldAt (d .settings .face) address ≡ heldAt (entriesPut (c .settings .face) payload (getD payload 0 0)) address
   held-then address = ap (λ f. heldAt f address) (face-put (c .profile) payload z (c .settings))
 
   held-named : (i : ℕ) → i < getD payload 0 0 → heldAt (d .settings .face) (entryAddress payload i) ≡ entryFlags payload i
@@ -209,8 +223,11 @@ module _ (c : Camera) (o : Ok (c .profile) c) (payload : List ℕ) (r : profileR
       → heldAt (d .settings .face) address ≡ heldAt (c .settings .face) address
   held-other address h free = held-then address ∙ all-taken .other address h free
 
-  flags-listed : (i j : ℕ) → i < getD payload 0 0 → addressAt limits j ≡ entryAddress payload i → flagsAt limits (d .settings .face) getCur j ≡ entryFlags payload i
-  flags-listed i j h q = current-held limits (d .settings .face) j (entryFlags payload i) (ap (heldAt (d .settings .face)) q ∙ held-named i h) (each-taken i h .some)
+  flags-listed : (i j : ℕ) → i < getD payload 0 0 → addressAt limits j ≡ entryAddress payload i
+      → flagsAt limits (d .settings .face) getCur j ≡ entryFlags payload i
+  flags-listed i j h q =
+      current-held limits (d .settings .face) j (entryFlags payload i) (ap (heldAt (d .settings .face)) q ∙ held-named i h)
+      (each-taken i h .some)
 
   face-back : Bytes payload → length payload ≡ setLength (c .profile) selector.face payload → FaceReadsBack c d payload
   unfolding setGives allGiven putAll
@@ -225,7 +242,9 @@ module _ (c : Camera) (o : Ok (c .profile) c) (payload : List ℕ) (r : profileR
         others = held-other;
         unnamed = λ j h no.
             let e = held-other (addressAt limits j) (place-listed limits v j (omega arith) .first) no in
-            current-entry d j h ∙ ap (entryOf (addressAt limits j)) (current-same limits (d .settings .face) j (c .settings .face) e) ∙ sym (current-entry c j h);
+            current-entry d j h
+            ∙ ap (entryOf (addressAt limits j)) (current-same limits (d .settings .face) j (c .settings .face) e)
+            ∙ sym (current-entry c j h);
         empty = λ e. rw e;
       }
 
@@ -234,7 +253,8 @@ set-next : (c : Camera) → Ok (c .profile) c → (s payload reply : List ℕ) �
 unfolding gives
 set-next c o s payload reply a = request-next c s payload reply (o .formed) ∙ rw a
 
-pub set-then-get : (c : Camera) → Ok (c .profile) c → (s payload reply : List ℕ) → Bytes payload → isSetRequest s ≡ true → outcome c (request s payload reply) .code ≡ 0
+pub set-then-get : (c : Camera) → Ok (c .profile) c → (s payload reply : List ℕ) → Bytes payload → isSetRequest s ≡ true
+    → outcome c (request s payload reply) .code ≡ 0
     → ReadsBack c (next c (request s payload reply)) (setupSelector s) payload
 set-then-get c o s payload reply b i e =
     let p = c .profile in
@@ -248,7 +268,9 @@ set-then-get c o s payload reply b i e =
     record {
       known = k;
       answer = λ m. ap (λ d. cameraAnswer d (setupSelector s) getCur) d ∙ answer-back c payload b (setupSelector s) k m (h .1) z n;
-      of-face = λ q. subst (λ d. FaceReadsBack c d payload) (sym (d ∙ ap (λ (m : ℕ). puts c (setGives p m payload)) q)) (face-back c o payload (rw q at r) (rw q at z) b (rw q at n));
+      of-face =
+          λ q. subst (λ d. FaceReadsBack c d payload) (sym (d ∙ ap (λ (m : ℕ). puts c (setGives p m payload)) q))
+          (face-back c o payload (rw q at r) (rw q at z) b (rw q at n));
     }
 
 -- every accepted GET sends its full answer so
@@ -259,7 +281,12 @@ get-sends c s payload reply i e =
     let z : requestDone c s payload .code ≡ 0 = rw i in
     let n = sym (outcome-code (requestedCode c s payload (length reply)) c (requestDone c s payload) z) ∙ e in
     let done : outcome c (request s payload reply) ≡ record { code = 0; count = sentCount (table c) s; camera = c } = rw (n, i) in
-    record { count = ap (λ o. o .count) done; buffer = requests.get-sends (table c) s payload reply i n .buffer; camera = ap (λ o. o .camera) done }
+    record {
+      count = ap (λ o. o .count) done;
+      buffer = requests.get-sends
+          (table c) s payload reply i n .buffer;
+      camera = ap (λ o. o .camera) done;
+    }
 
 get-no-set : (s : List ℕ) → isGetRequest s ≡ true → isSetRequest s ≡ false
 get-no-set s h =
@@ -284,13 +311,15 @@ unfolding requested requestDone requestTests
 get-accepted c w s reply g h =
     let i = get-no-set s (g .get) in
     let z : requestDone c s [] .code ≡ 0 = rw i in
-    let first : firstOf (requestTests (table c) s []) ≡ 0 = rw (eq-eqb (length s) 8 (g .eight), g .addresses, g .present, eq-eqb (setupValueLow s) 0 (g .low), i, g .get) in
+    let first : firstOf (requestTests (table c) s []) ≡ 0 =
+    rw (eq-eqb (length s) 8 (g .eight), g .addresses, g .present, eq-eqb (setupValueLow s) 0 (g .low), i, g .get) in
     outcome-code (requestedCode c s [] (length reply)) c (requestDone c s []) z
     ∙ at-get (table c) s [] (length reply) w first (get-state (c .streaming) (setupSelector s) s (g .get)) i
     ∙ rw (le-ltb (length reply) (sentCount (table c) s) h)
 
 -- GET_CUR of a control after any call is accepted, given room, and sends its full answer.
-get-after : (c : Camera) → Ok (c .profile) c → (call : Call) (g buffer : List ℕ) → Gets (c .profile) g → setupCode g ≡ getCur → (full : List ℕ)
+get-after : (c : Camera) → Ok (c .profile) c → (call : Call) (g buffer : List ℕ) → Gets (c .profile) g → setupCode g ≡ getCur
+    → (full : List ℕ)
     → cameraAnswer (next c call) (setupSelector g) getCur ≡ full → min (setupWLength g) (length full) ≤ length buffer
     → (outcome (next c call) (request g [] buffer) .code ≡ 0) × CameraSends (next c call) g [] buffer full
 get-after c o call g buffer x q full f h =
@@ -301,8 +330,10 @@ get-after c o call g buffer x q full f h =
     (z, subst (λ l. CameraSends d g [] buffer l) e (get-sends d g [] buffer (get-no-set g (x .get)) z))
 
 -- Call by call: after an accepted SET, GET_CUR of its control is accepted, given room, and sends the bytes that were set.
-pub round-trip : (c : Camera) → Ok (c .profile) c → (s payload reply : List ℕ) → Bytes payload → isSetRequest s ≡ true → outcome c (request s payload reply) .code ≡ 0
-    → (setupSelector s ≡ selector.face → ⊥) → (g buffer : List ℕ) → Gets (c .profile) g → setupCode g ≡ getCur → setupSelector g ≡ setupSelector s
+pub round-trip : (c : Camera) → Ok (c .profile) c → (s payload reply : List ℕ) → Bytes payload → isSetRequest s ≡ true
+    → outcome c (request s payload reply) .code ≡ 0
+    → (setupSelector s ≡ selector.face → ⊥) → (g buffer : List ℕ) → Gets (c .profile) g → setupCode g ≡ getCur
+    → setupSelector g ≡ setupSelector s
     → min (setupWLength g) (length (bytesBack (c .profile) (setupSelector s) payload)) ≤ length buffer
     → let d = next c (request s payload reply) in
     (outcome d (request g [] buffer) .code ≡ 0) × CameraSends d g [] buffer (bytesBack (c .profile) (setupSelector s) payload)
@@ -311,16 +342,20 @@ round-trip c o s payload reply b i e m g buffer x q f h =
     (ap (λ (n : ℕ). cameraAnswer (next c (request s payload reply)) n getCur) f ∙ set-then-get c o s payload reply b i e .answer m) h
 
 -- Of face authentication it sends the list of every endpoint, in which the eight bytes of each entry that was set stand at its endpoint's place.
-pub face-round-trip : (c : Camera) → Ok (c .profile) c → (s payload reply : List ℕ) → Bytes payload → isSetRequest s ≡ true → outcome c (request s payload reply) .code ≡ 0
+pub face-round-trip : (c : Camera) → Ok (c .profile) c → (s payload reply : List ℕ) → Bytes payload → isSetRequest s ≡ true
+    → outcome c (request s payload reply) .code ≡ 0
     → setupSelector s ≡ selector.face → (g buffer : List ℕ) → Gets (c .profile) g → setupCode g ≡ getCur → setupSelector g ≡ selector.face
     → min (setupWLength g) (1 + 8 * endpointsOf (c .profile .face)) ≤ length buffer
     → let d = next c (request s payload reply) in
-    (outcome d (request g [] buffer) .code ≡ 0) × CameraSends d g [] buffer (cameraAnswer d selector.face getCur) × FaceReadsBack c d payload
+    (outcome d (request g [] buffer) .code ≡ 0) × CameraSends d g [] buffer (cameraAnswer d selector.face getCur)
+    × FaceReadsBack c d payload
 face-round-trip c o s payload reply b i e m g buffer x q f h =
     let d = next c (request s payload reply) in
     let n : length (cameraAnswer d selector.face getCur) ≡ 1 + 8 * endpointsOf (c .profile .face) =
     current-length d ∙ ap (λ p. 1 + 8 * endpointsOf (p .face)) (step (c .profile) c o (request s payload reply) .ok .profile) in
-    let r = get-after c o (request s payload reply) g buffer x q (cameraAnswer d selector.face getCur) (ap (λ (n : ℕ). cameraAnswer d n getCur) f) (rw n h) in
+    let r =
+    get-after c o (request s payload reply) g buffer x q (cameraAnswer d selector.face getCur)
+    (ap (λ (n : ℕ). cameraAnswer d n getCur) f) (rw n h) in
     (r .0, r .1, set-then-get c o s payload reply b i e .of-face m)
 
 pub snapshot-read-back : (c : Camera) → recordWellFormed c ≡ true → Typed c → SnapshotReadsBack c

@@ -32,7 +32,8 @@ use Rattle.demands.proofs.Laws.Loads.{Accepted, load-settings, load-acc
 -- writing, where there is room
 pub writes : (c : Camera) (out : List ℕ) → recordWellFormed c ≡ true → length (snapshot c) ≤ length out → Written c (snapshot c) out
 unfolding written writtenOut writeCode
-writes c out w h = record { outcome = rw (w, le-ltb (length out) (length (snapshot c)) h); buffer = rw (w, le-ltb (length out) (length (snapshot c)) h) }
+writes c out w h =
+    record { outcome = rw (w, le-ltb (length out) (length (snapshot c)) h); buffer = rw (w, le-ltb (length out) (length (snapshot c)) h) }
 
 -- a camera's snapshot decodes to its settings' records
 module _ (c : Camera) (w : recordWellFormed c ≡ true) where
@@ -60,7 +61,8 @@ merges-to a b s w v e =
 module _ (p : Profile) (v : profileValid p ≡ true) where
   given-records : (f : Bool) (cs : List Call) → EachRecord recordOf (given p f cs)
   given-records f [] = tt
-  given-records f (c ∷ cs) = records-append recordOf (gives p f c) _ (rows p (gives p f c) (gives-good p v f c)) (given-records (leaves f c) cs)
+  given-records f (c ∷ cs) =
+      records-append recordOf (gives p f c) _ (rows p (gives p f c) (gives-good p v f c)) (given-records (leaves f c) cs)
 
   snapshot-after : (f : Bool) (cs : List Call) → snapshot (run (fresh p f) cs) ≡ snapshotAfter p f cs
   unfolding snapshot
@@ -76,21 +78,25 @@ module _ (p : Profile) (v : profileValid p ≡ true) where
   pub whole : (f : Bool) (xs ys : List Call) → Whole p f xs ys
   whole f xs ys =
       let s = snapshot-after f (xs ++ ys) in
-      let formed : (g : Bool) (cs : List Call) → recordWellFormed (run (fresh p g) cs) ≡ true = λ g cs. run-ok p (fresh p g) (fresh-ok p v g) cs .formed in
+      let formed : (g : Bool) (cs : List Call) → recordWellFormed (run (fresh p g) cs) ≡ true =
+      λ g cs. run-ok p (fresh p g) (fresh-ok p v g) cs .formed in
       let w = formed f (xs ++ ys) in
       let first = run (fresh p f) xs in
       let second = run (fresh p (first .streaming)) ys in
       let m : snapshot (run (fresh p f) (xs ++ ys)) ≡ merged (snapshot first) (snapshot second) =
       s ∙ cut f xs ys
-      ∙ sym (ap₂ merged (snapshot-after f xs) (ap (λ g. snapshot (run (fresh p g) ys)) (flag-after p v f xs) ∙ snapshot-after (flagAfter f xs) ys)) in
+      ∙ sym (ap₂ merged (snapshot-after f xs)
+      (ap (λ g. snapshot (run (fresh p g) ys)) (flag-after p v f xs) ∙ snapshot-after (flagAfter f xs) ys)) in
       record {
         is-held = held-after p v f (xs ++ ys);
         is-streaming = flag-after p v f (xs ++ ys);
         is-formed = w;
         is-snapshot = s;
-        is-written = λ out h. subst (λ l. Written (run (fresh p f) (xs ++ ys)) l out) s (writes (run (fresh p f) (xs ++ ys)) out w (rw s h));
+        is-written =
+            λ out h. subst (λ l. Written (run (fresh p f) (xs ++ ys)) l out) s (writes (run (fresh p f) (xs ++ ys)) out w (rw s h));
         parts-merge = m;
-        program-merges-parts = merges-to _ _ _ (snapshot-formed first (formed f xs)) (snapshot-formed second (formed (first .streaming) ys)) m;
+        program-merges-parts =
+            merges-to _ _ _ (snapshot-formed first (formed f xs)) (snapshot-formed second (formed (first .streaming) ys)) m;
       }
 
 -- what an accepted load says of the camera and of the snapshot
@@ -124,10 +130,13 @@ module _ (c : Camera) (w : recordWellFormed c ≡ true) (h : length (c .settings
 
   load-held : (k : ℕ) → held (loaded c s .camera) k ≡ over (held c k) (lastOf (loadGives (c .profile) (c .streaming) s) k)
   unfolding gives
-  load-held k = step (c .profile) c (record-ok c w h) (load s) .held-after k ∙ rw (eq-eqb (firstOf (loadTests (c .profile) (c .streaming) s)) 0 (l .tests))
+  load-held k =
+      step (c .profile) c (record-ok c w h) (load s) .held-after k
+      ∙ rw (eq-eqb (firstOf (loadTests (c .profile) (c .streaming) s)) 0 (l .tests))
 
 -- whichever two snapshots a camera accepts: their merge leaves the same camera as the two in turn
-pub load-merged : (c : Camera) → length (c .settings .face) ≡ places → (a b : List ℕ) → loaded c a .code ≡ 0 → loaded c b .code ≡ 0 → LoadsMerged c a b
+pub load-merged : (c : Camera) → length (c .settings .face) ≡ places → (a b : List ℕ) → loaded c a .code ≡ 0 → loaded c b .code ≡ 0
+    → LoadsMerged c a b
 load-merged c h a b ea eb =
     let la = load-says c a ea in
     let lb = load-says c b eb in
@@ -152,12 +161,14 @@ load-merged c h a b ea eb =
             load-held c w h (merged a b) lm k
             ∙ ap (over (held c k)) (merged-settings p f a b y k)
             ∙ sym (over-assoc (held c k) (lastOf (loadGives p f a) k) (lastOf (loadGives p f b) k))
-            ∙ sym (load-held d (o .formed) (o .places) b lt k ∙ ap₂ over (load-held c w h a la k) (ap₂ (λ q g. lastOf (loadGives q g b) k) (o .profile) st));
+            ∙ sym (load-held d (o .formed) (o .places) b lt k ∙ ap₂ over (load-held c w h a la k)
+            (ap₂ (λ q g. lastOf (loadGives q g b) k) (o .profile) st));
       };
     }
 
 -- the second accepted after the first: the camera in between has the profile and the flag of the one before, by which acceptance goes
-pub load-in-turn : (c : Camera) → length (c .settings .face) ≡ places → (a b : List ℕ) → loaded c a .code ≡ 0 → loaded (loaded c a .camera) b .code ≡ 0
+pub load-in-turn : (c : Camera) → length (c .settings .face) ≡ places → (a b : List ℕ) → loaded c a .code ≡ 0
+    → loaded (loaded c a .camera) b .code ≡ 0
     → AcceptedInTurn c a b
 load-in-turn c h a b ea eb =
     let la = load-says c a ea in
@@ -170,9 +181,12 @@ load-in-turn c h a b ea eb =
 
 -- the record of what a well-formed camera holds of a key
 module _ (c : Camera) (w : recordWellFormed c ≡ true) (t : Typed c) where
-  pub written-item : (k : ℕ) (o : Option Setting) → held c k ≡ o → Option·map (recordItem (c .profile) true k) (Option·map recordOf o) ≡ Option·map Given o
+  pub written-item : (k : ℕ) (o : Option Setting) → held c k ≡ o
+      → Option·map (recordItem (c .profile) true k) (Option·map recordOf o) ≡ Option·map Given o
   written-item k none e = refl
-  written-item k (some s) e = let g = held-good (c .profile) (c .settings) w k s e in ap some (record-of-taken (c .profile) k s (held-fitting c w t k s e) (g .0) (g .1))
+  written-item k (some s) e =
+      let g = held-good (c .profile) (c .settings) w k s e in
+      ap some (record-of-taken (c .profile) k s (held-fitting c w t k s e) (g .0) (g .1))
 
   written-code : (k : ℕ) → codeBy (c .profile) true k (Option·map recordOf (held c k)) ≡ 0
   unfolding Option·elim itemCode
@@ -191,10 +205,12 @@ module _ (c : Camera) (w : recordWellFormed c ≡ true) (t : Typed c) where
       go (some s) e = rw (held-good (c .profile) (c .settings) w k s e .0, eq-eqb k k refl)
 
 -- the bytes that writing hands over are the snapshot
-handed-snapshot : (c : Camera) (out : List ℕ) → recordWellFormed c ≡ true → length (snapshot c) ≤ length out → handedSnapshot c out ≡ snapshot c
+handed-snapshot : (c : Camera) (out : List ℕ) → recordWellFormed c ≡ true → length (snapshot c) ≤ length out
+    → handedSnapshot c out ≡ snapshot c
 handed-snapshot c out w h =
     let r = writes c out w h in
-    ap₂ take (ap (λ o. o .count) (r .outcome)) (r .buffer) ∙ take-at (snapshot c) (drop (length (snapshot c)) out) (length (snapshot c)) refl
+    ap₂ take (ap (λ o. o .count) (r .outcome)) (r .buffer)
+    ∙ take-at (snapshot c) (drop (length (snapshot c)) out) (length (snapshot c)) refl
 
 -- a fresh streaming camera accepts every snapshot that a camera of its profile wrote, and then holds the settings that camera held
 module _ (c : Camera) (w : recordWellFormed c ≡ true) (t : Typed c) where
@@ -211,7 +227,8 @@ module _ (c : Camera) (w : recordWellFormed c ≡ true) (t : Typed c) where
   restores k =
       let o = fresh-ok p (formed-profile c w) true in
       load-held (fresh p true) (o .formed) (o .places) (snapshot c) loads k
-      ∙ ap₂ over (none-held k) (load-settings p true (snapshot c) k ∙ ap (λ m. lastOf (givenBy p true k (m k)) k) (snapshot-decodes c w) ∙ written-given c w t k)
+      ∙ ap₂ over (none-held k)
+      (load-settings p true (snapshot c) k ∙ ap (λ m. lastOf (givenBy p true k (m k)) k) (snapshot-decodes c w) ∙ written-given c w t k)
       ∙ over-none (held c k)
 
   pub load-written : Restores c

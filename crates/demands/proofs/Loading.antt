@@ -49,7 +49,8 @@ module _ (p : Profile) (v : profileValid p ≡ true) (f : Bool) (m : ℕ → Opt
   given-entries zero k = refl
   given-entries (suc n) k = go (m k) (g k) (given-entries n (suc k))
     where
-      go : (o : Option (List ℕ)) → GoodAt k o → given p f (recordSets p (entries n (suc k) m)) ≡ allGiven n (suc k) (λ j. givenBy p f j (m j))
+      go : (o : Option (List ℕ)) → GoodAt k o
+          → given p f (recordSets p (entries n (suc k) m)) ≡ allGiven n (suc k) (λ j. givenBy p f j (m j))
           → given p f (recordSets p (entryAt k o ++ entries n (suc k) m)) ≡ givenBy p f k o ++ allGiven n (suc k) (λ j. givenBy p f j (m j))
       go none q e = e
       go (some r) q e = ap₂ _++_ (record-as-set p v f k r q .settings []) e
@@ -72,14 +73,16 @@ module _ (p : Profile) (f : Bool) where
   none-fault (x ∷ l) a = let q : eqb (setCode p f (x .0) (x .1)) 0 ≡ true = a .0 in rw q (none-fault l (a .1))
 
 -- SETs one after the other put in what they give
-run-sets : (p : Profile) (c : Camera) → Ok p c → (l : List KeyedRecord) → run c (recordSets p l) ≡ puts c (given p (c .streaming) (recordSets p l))
+run-sets : (p : Profile) (c : Camera) → Ok p c → (l : List KeyedRecord)
+    → run c (recordSets p l) ≡ puts c (given p (c .streaming) (recordSets p l))
 unfolding putAll
 run-sets p c o [] = refl
 run-sets p c o (e ∷ l) =
     let call = request (recordSet p (e .0) (e .1)) (drop 4 (e .1)) [] in
     let s = step p c o call in
     let d : next c call ≡ puts c (gives p (c .streaming) call) =
-    request-next c (recordSet p (e .0) (e .1)) (drop 4 (e .1)) [] (o .formed) ∙ ap (λ q. puts c (gives q (c .streaming) call)) (o .profile) in
+    request-next c (recordSet p (e .0) (e .1)) (drop 4 (e .1)) [] (o .formed)
+    ∙ ap (λ q. puts c (gives q (c .streaming) call)) (o .profile) in
     run-sets p (next c call) (s .ok) l
     ∙ ap₂ (λ b f. puts b (given p f (recordSets p l))) d (s .streaming-after)
     ∙ ap (withSettings c) (sym (puts-append (c .settings) (gives p (c .streaming) call) (given p (c .streaming) (recordSets p l))))
@@ -95,13 +98,15 @@ module _ (c : Camera) (o : Ok (c .profile) c) (s : List ℕ) (w : wellFormed s �
       ∙ rw w (answers-number (loadRefusal p f s))
       ∙ sym (ap (firstFault p f) (records-entries s w) ∙ fault-entries p (formed-profile c (o .formed)) f (decode s) (decode-good s) keys 0)
 
-  load-given : loaded c s .code ≡ 0 → gives (c .profile) (c .streaming) (load s) ≡ given (c .profile) (c .streaming) (recordSets (c .profile) (recordsOf s))
+  load-given : loaded c s .code ≡ 0
+      → gives (c .profile) (c .streaming) (load s) ≡ given (c .profile) (c .streaming) (recordSets (c .profile) (recordsOf s))
   unfolding gives loadGives
   load-given e =
       let p = c .profile in
       let f = c .streaming in
       rw (eq-eqb (firstOf (loadTests p f s)) 0 (sym (load-answer c s (o .formed)) ∙ e))
-      (sym (ap (λ l. given p f (recordSets p l)) (records-entries s w) ∙ given-entries p (formed-profile c (o .formed)) f (decode s) (decode-good s) keys 0))
+      (sym (ap (λ l. given p f (recordSets p l)) (records-entries s w) ∙ given-entries p (formed-profile c (o .formed)) f (decode s)
+      (decode-good s) keys 0))
 
   pub load-counts : CountsAsSets c s
   load-counts = record {

@@ -15,10 +15,12 @@ use Rattle.camera.specs.Calls.{recordCode, streamed, sensed, Call, request, str
 use Rattle.demands.specs.Refusals.{Unchanged}
 
 -- a call by its number: where that is not 0, it is refused
-by-number : (code : ℕ) (c : Camera) (done : Outcome) → done .code ≡ 0 → (outcomeBy code c done .code ≡ 0 → ⊥) → (code ≡ 0 → ⊥) × (outcomeBy code c done ≡ refused code c)
+by-number : (code : ℕ) (c : Camera) (done : Outcome) → done .code ≡ 0 → (outcomeBy code c done .code ≡ 0 → ⊥)
+    → (code ≡ 0 → ⊥) × (outcomeBy code c done ≡ refused code c)
 by-number code c done z n = go (eqb code 0) refl n
   where
-    go : (b : Bool) → eqb code 0 ≡ b → (cond b done (refused code c) .code ≡ 0 → ⊥) → (code ≡ 0 → ⊥) × (cond b done (refused code c) ≡ refused code c)
+    go : (b : Bool) → eqb code 0 ≡ b → (cond b done (refused code c) .code ≡ 0 → ⊥)
+        → (code ≡ 0 → ⊥) × (cond b done (refused code c) ≡ refused code c)
     go true e m = absurd (m z)
     go false e m = (m, refl)
 
@@ -35,7 +37,12 @@ pub refusals : (c : Camera) (call : Call) → (outcome c call .code ≡ 0 → �
 unfolding requested loaded written writtenOut streamed sensed
 refusals c (request s payload reply) n =
     let r = by-number (requestedCode c s payload (length reply)) c (requestDone c s payload) (done-code c s payload) n in
-    record { count = ap (λ o. o .count) (r .1); camera = ap (λ o. o .camera) (r .1); buffer = requests.refusals (table c) s payload reply (r .0) .buffer }
+    record {
+      count = ap (λ o. o .count) (r .1);
+      camera = ap (λ o. o .camera) (r .1);
+      buffer = requests.refusals (table c) s payload reply
+          (r .0) .buffer;
+    }
 refusals c (stream on) n =
     let r = by-number (recordCode c) c _ refl n in
     record { count = ap (λ o. o .count) (r .1); camera = ap (λ o. o .camera) (r .1); buffer = refl }
@@ -44,7 +51,12 @@ refusals c (load s) n =
     record { count = ap (λ o. o .count) (r .1); camera = ap (λ o. o .camera) (r .1); buffer = refl }
 refusals c (write out) n =
     let r = by-number (writeCode c (length out)) c _ refl n in
-    record { count = ap (λ o. o .count) (r .1); camera = ap (λ o. o .camera) (r .1); buffer = rw (ne-eqb (writeCode c (length out)) 0 (r .0)) }
+    record {
+      count = ap (λ o. o .count) (r .1);
+      camera = ap (λ o. o .camera)
+          (r .1);
+      buffer = rw (ne-eqb (writeCode c (length out)) 0 (r .0));
+    }
 refusals c sense n = record { count = refl; camera = refl; buffer = refl }
 
 -- and the sensor is handed 0

@@ -54,11 +54,13 @@ entryBytes s i = take 8 (drop (1 + 8 * i) s)
 pub record CurrentIsHeld (c : Camera) : Type 0 where
   pub of-ev : (s : EvSetting) → held c (settingKey (S.Ev s)) ≡ some (S.Ev s) → cameraAnswer c selector.ev getCur ≡ evBytes s
   pub of-face : (j flags : ℕ) → j < endpointsOf (c .profile .face) → let address = addressAt (c .profile .face) j in
-      held c (settingKey (S.Face address flags)) ≡ some (S.Face address flags) → entryBytes (cameraAnswer c selector.face getCur) j ≡ entryOf address flags
+      held c (settingKey (S.Face address flags)) ≡ some (S.Face address flags) → entryBytes (cameraAnswer c selector.face getCur) j
+      ≡ entryOf address flags
   pub of-unset-face : (j : ℕ) → j < endpointsOf (c .profile .face) → has (c .profile) selector.face ≡ true
       → held c (keyFor selector.face (addressAt (c .profile .face) j)) ≡ none
       → entryBytes (cameraAnswer c selector.face getCur) j ≡ entryBytes (cameraAnswer c selector.face getDef) j
-  pub of-metadata : (n : ℕ) → held c (settingKey (S.Metadata n)) ≡ some (S.Metadata n) → cameraAnswer c selector.metadata getCur ≡ bytesOf 4 n
+  pub of-metadata : (n : ℕ) → held c (settingKey (S.Metadata n)) ≡ some (S.Metadata n)
+      → cameraAnswer c selector.metadata getCur ≡ bytesOf 4 n
   pub of-hdr : (n : ℕ) → held c (settingKey (S.Hdr n)) ≡ some (S.Hdr n) → cameraAnswer c selector.hdr getCur ≡ bytesOf 4 n
   pub of-throttle : (s : ThrottleSetting) → held c (settingKey (S.Throttle s)) ≡ some (S.Throttle s)
       → cameraAnswer c selector.throttle getCur ≡ throttleBytes s (c .profile .throttle)
@@ -73,7 +75,8 @@ pub record SameAnswers (c d : Camera) : Type 0 where
 pub record FaceLength (c : Camera) : Type 0 where
   pub answer : cameraAnswer c selector.face getLen ≡ bytesOf 2 (1 + 8 * endpointsOf (c .profile .face))
   pub longest : (payload : List ℕ) → setLength (c .profile) selector.face payload ≤ 1 + 8 * endpointsOf (c .profile .face)
-  pub reached : (rest : List ℕ) → setLength (c .profile) selector.face (c .profile .face .count ∷ rest) ≡ 1 + 8 * endpointsOf (c .profile .face)
+  pub reached : (rest : List ℕ)
+      → setLength (c .profile) selector.face (c .profile .face .count ∷ rest) ≡ 1 + 8 * endpointsOf (c .profile .face)
 
 -- the full answer to GET_CUR once a payload is set: its bytes, but for a throttle's last twelve, which are the profile's limits
 abbrev pub bytesBack : Profile → ℕ → List ℕ → List ℕ
@@ -87,16 +90,19 @@ pub record FaceReadsBack (c d : Camera) (payload : List ℕ) : Type 0 where
   -- the setting held of each entry's address is the entry's
   pub entries : (i : ℕ) → i < getD payload 0 0 → heldAt (d .settings .face) (entryAddress payload i) ≡ entryFlags payload i
   -- an endpoint has that address
-  pub place : (i : ℕ) → i < getD payload 0 0 → (j : ℕ) × ((j < endpointsOf (c .profile .face)) × (addressAt (c .profile .face) j ≡ entryAddress payload i))
+  pub place : (i : ℕ) → i < getD payload 0 0
+      → (j : ℕ) × ((j < endpointsOf (c .profile .face)) × (addressAt (c .profile .face) j ≡ entryAddress payload i))
   -- and GET_CUR lists it with the entry's flags: the eight bytes that were set
   pub listed : (i j : ℕ) → i < getD payload 0 0 → addressAt (c .profile .face) j ≡ entryAddress payload i
       → flagsAt (c .profile .face) (d .settings .face) getCur j ≡ entryFlags payload i
-  pub bytes : (i j : ℕ) → i < getD payload 0 0 → j < endpointsOf (c .profile .face) → addressAt (c .profile .face) j ≡ entryAddress payload i
+  pub bytes : (i j : ℕ) → i < getD payload 0 0 → j < endpointsOf (c .profile .face)
+      → addressAt (c .profile .face) j ≡ entryAddress payload i
       → entryBytes (cameraAnswer d selector.face getCur) j ≡ entryBytes payload i
   -- an address that no entry names keeps its setting, and its endpoint's entry in GET_CUR's answer is as it was
   pub others : (address : ℕ) → firstAddress ≤ address → ((i : ℕ) → i < getD payload 0 0 → entryAddress payload i ≡ address → ⊥)
       → heldAt (d .settings .face) address ≡ heldAt (c .settings .face) address
-  pub unnamed : (j : ℕ) → j < endpointsOf (c .profile .face) → ((i : ℕ) → i < getD payload 0 0 → entryAddress payload i ≡ addressAt (c .profile .face) j → ⊥)
+  pub unnamed : (j : ℕ) → j < endpointsOf (c .profile .face)
+      → ((i : ℕ) → i < getD payload 0 0 → entryAddress payload i ≡ addressAt (c .profile .face) j → ⊥)
       → entryBytes (cameraAnswer d selector.face getCur) j ≡ entryBytes (cameraAnswer c selector.face getCur) j
   -- no entries set nothing
   pub empty : getD payload 0 0 ≡ 0 → d ≡ c
@@ -112,7 +118,8 @@ pub record ReadsBack (c d : Camera) (control : ℕ) (payload : List ℕ) : Type 
 -- record are as they were.
 pub record CameraSends (c : Camera) (s payload reply full : List ℕ) : Type 0 where
   pub count : outcome c (request s payload reply) .count ≡ min (setupWLength s) (length full)
-  pub buffer : left c (request s payload reply) ≡ take (min (setupWLength s) (length full)) full ++ drop (min (setupWLength s) (length full)) reply
+  pub buffer : left c (request s payload reply) ≡ take (min (setupWLength s) (length full)) full
+      ++ drop (min (setupWLength s) (length full)) reply
   pub camera : next c (request s payload reply) ≡ c
 
 -- A GET's setup for a control of the profile; with no payload and room it is accepted.

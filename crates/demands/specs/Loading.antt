@@ -36,7 +36,8 @@ recordSets p (e ∷ l) = request (recordSet p (e .0) (e .1)) (drop 4 (e .1)) [] 
 -- the first of their numbers that isn't 0
 abbrev pub firstFault : Profile → Bool → List KeyedRecord → ℕ
 firstFault p streaming [] = 0
-firstFault p streaming (e ∷ l) = cond (eqb (setCode p streaming (e .0) (e .1)) 0) (firstFault p streaming l) (setCode p streaming (e .0) (e .1))
+firstFault p streaming (e ∷ l) =
+    cond (eqb (setCode p streaming (e .0) (e .1)) 0) (firstFault p streaming l) (setCode p streaming (e .0) (e .1))
 
 -- a camera with profile p and this flag accepts the SET of each record
 abbrev pub EachAccepted : Profile → Bool → List KeyedRecord → Type 0
@@ -51,7 +52,8 @@ pub record CountsAsSets (c : Camera) (s : List ℕ) : Type 0 where
   pub accepted-each : loaded c s .code ≡ 0 → EachAccepted (c .profile) (c .streaming) (recordsOf s)
   pub each-accepted : EachAccepted (c .profile) (c .streaming) (recordsOf s) → loaded c s .code ≡ 0
   -- and then gives the settings that they give, and leaves the record that they leave
-  pub settings : loaded c s .code ≡ 0 → gives (c .profile) (c .streaming) (load s) ≡ given (c .profile) (c .streaming) (recordSets (c .profile) (recordsOf s))
+  pub settings : loaded c s .code ≡ 0
+      → gives (c .profile) (c .streaming) (load s) ≡ given (c .profile) (c .streaming) (recordSets (c .profile) (recordsOf s))
   pub camera : loaded c s .code ≡ 0 → loaded c s .camera ≡ run c (recordSets (c .profile) (recordsOf s))
 
 -- the SET of the record of a setting s of the key k gives that setting to a camera that streams

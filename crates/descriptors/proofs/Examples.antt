@@ -33,17 +33,21 @@ stray =
     2 ∷ 0 ∷ 1 ∷ 0 ∷ 12 ∷ 0 ∷ 5 ∷ 0 ∷ 5 ∷ 0 ∷ 0 ∷ []
 
 printed-is : readSet printed ≡ refused badField 10
-unfolding printed number leAt allowed goodFields propertyRefusal subsetRefusal descriptorRefusal descriptorAt contents contentsOf goodHeader readSet
+unfolding printed number leAt allowed goodFields propertyRefusal subsetRefusal descriptorRefusal descriptorAt contents contentsOf
+    goodHeader readSet
 printed-is = refl
 
 mended-is : readSet mended ≡ sound (record { at = 10; interface = Nowhere } ∷ [])
-unfolding mended number leAt allowed goodFields propertyRefusal subsetRefusal descriptorRefusal descriptorAt contents contentsOf goodHeader readSet
+unfolding mended number leAt allowed goodFields propertyRefusal subsetRefusal descriptorRefusal descriptorAt contents contentsOf
+    goodHeader readSet
 mended-is = refl
 
 nested-is : readSet nested ≡ sound (record { at = 10; interface = Nowhere } ∷ record { at = 42; interface = First 5 } ∷ [])
-unfolding nested number leAt allowed goodFields propertyRefusal subsetRefusal descriptorRefusal descriptorAt contents contentsOf goodHeader readSet
+unfolding nested number leAt allowed goodFields propertyRefusal subsetRefusal descriptorRefusal descriptorAt contents contentsOf
+    goodHeader readSet
 nested-is = refl
 
 stray-is : readSet stray ≡ refused pastParent 26
-unfolding stray number leAt allowed goodFields propertyRefusal subsetRefusal descriptorRefusal descriptorAt contents contentsOf goodHeader readSet
+unfolding stray number leAt allowed goodFields propertyRefusal subsetRefusal descriptorRefusal descriptorAt contents contentsOf goodHeader
+    readSet
 stray-is = refl

@@ -153,7 +153,8 @@ module _ (s : List ℕ) where
   reach [] q qs = refl
   reach (p ∷ ps) q qs = reach ps q qs
 
-  pub each-property : isSound (readSet s) ≡ true → (ps : List PropertyPlace) (q : PropertyPlace) (qs : List PropertyPlace) → propertiesOf s ≡ ps ++ q ∷ qs
+  pub each-property : isSound (readSet s) ≡ true → (ps : List PropertyPlace) (q : PropertyPlace) (qs : List PropertyPlace)
+      → propertiesOf s ≡ ps ++ q ∷ qs
       → propertyOf s (length ps) ≡ foundAt s q
   each-property e ps q qs f = of-list (length ps) e ∙ ap (nth s (length ps)) f ∙ reach ps q qs
 
@@ -195,7 +196,8 @@ module _ (s : List ℕ) (p : Parent) (at end : ℕ) (d : Stands s p at end) wher
       go Configuration e = refl
       go (Function i) e = absurd (let n = f i .1 (first-interface i .0 (of-function p i e)) in let z : _≡_ {A = ℕ} 0 1 = cc in omega arith)
 
-pub listed-properties : (s : List ℕ) → isSound (readSet s) ≡ true → (q : PropertyPlace) → List·Memᴰ q (propertiesOf s) ↔ StandingProperty s q
+pub listed-properties : (s : List ℕ) → isSound (readSet s) ≡ true → (q : PropertyPlace)
+    → List·Memᴰ q (propertiesOf s) ↔ StandingProperty s q
 listed-properties s e q = (one-way, other-way)
   where
     good : goodHeader s ≡ true

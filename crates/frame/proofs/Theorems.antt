@@ -93,7 +93,8 @@ appended-reads-back block buf is i e begins small a =
     (reads-back block _ is i e (sym (short-enough _ (omega arith)) ∙ new))
 
 -- Demand 2, the other way round: a sound block is its items written one behind the other, and such a block reads back as those items.
-pub block-written-again : (block : List ℕ) (is : List MetadataItem) → Bytes block → blockItems block ≡ sound is → (block ≡ layout is) × Writable is
+pub block-written-again : (block : List ℕ) (is : List MetadataItem) → Bytes block → blockItems block ≡ sound is
+    → (block ≡ layout is) × Writable is
 block-written-again block is b e = written-again block is (sound-block block is e .1) b
 
 pub items-read-back : (is : List MetadataItem) → Writable is → length (layout is) ≤ longestBlock → blockItems (layout is) ≡ sound is

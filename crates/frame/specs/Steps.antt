@@ -20,7 +20,8 @@ passItem k at n found id len = cond (eqb n k) (record { code = 0; id = id; paylo
 -- the walk goes on at `at` over these items, n of them passed
 unfoldable pub walkedOver : (k at n : ℕ) → Found → List MetadataItem → Survey
 walkedOver k at n found [] = record { counted = record { code = 0; items = n }; found = found }
-walkedOver k at n found (i ∷ is) = walkedOver k (at + (8 + length (i .payload))) (suc n) (passItem k at n found (i .id) (length (i .payload))) is
+walkedOver k at n found (i ∷ is) =
+    walkedOver k (at + (8 + length (i .payload))) (suc n) (passItem k at n found (i .id) (length (i .payload))) is
 
 unfoldable pub onward : (k at n : ℕ) → Found → BlockReading → Survey
 onward k at n found (refused code) = stoppedAt code

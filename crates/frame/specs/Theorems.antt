@@ -38,7 +38,8 @@ pub record AppendReadsBack (block : List ℕ) (is : List MetadataItem) (i : Meta
   pub items : blockItems new ≡ sound (is ++ i ∷ [])
   pub one-more : blockCount new ≡ record { code = 0; items = length is + 1 }
   pub earlier : (k : ℕ) → k < length is → (blockItem new k ≡ blockItem block k) × (blockPayload new k ≡ blockPayload block k)
-  pub last : blockItem new (length is) ≡ record { code = 0; id = i .id; payload = record { at = length block + 8; len = length (i .payload) } }
+  pub last : blockItem new (length is)
+      ≡ record { code = 0; id = i .id; payload = record { at = length block + 8; len = length (i .payload) } }
   pub last-payload : blockPayload new (length is) ≡ i .payload
 
 -- the call that appends item i behind the block that a buffer begins with, and the buffer up to the end that it reports

@@ -8,7 +8,8 @@ use Rattle.merging.specs.Merging.{merged, Apart, mergeCode, mergeLen, me
 
 -- Demand 1, a refused call changes no byte of any lent buffer, and (01, "Any refusal") reports a count of 0.
 abbrev pub MergeRefusals : Type 0
-MergeRefusals = (first second out : List ℕ) → (mergeCode first second out ≡ 0 → ⊥) → (mergeLen first second out ≡ 0) × (mergeOut first second out ≡ out)
+MergeRefusals =
+    (first second out : List ℕ) → (mergeCode first second out ≡ 0 → ⊥) → (mergeLen first second out ≡ 0) × (mergeOut first second out ≡ out)
 
 -- Merging gives, in ascending order, one record for each key that is in either snapshot, the second's where both have it; it is well
 -- formed.
@@ -52,7 +53,8 @@ abbrev pub ProgramAssociative : Type 0
 ProgramAssociative =
     (a b c p q out : List ℕ) → wellFormed a ≡ true → wellFormed b ≡ true → wellFormed c ≡ true
     → length (merged a b) ≤ length p → length (merged b c) ≤ length q → length (merged (merged a b) c) ≤ length out
-    → (mergeCode a b p ≡ 0) × ((mergeCode b c q ≡ 0) × ((mergeCode (handedMerge a b p) c out ≡ 0) × Alike (handedMerge a b p) c a (handedMerge b c q) out))
+    → (mergeCode a b p ≡ 0)
+    × ((mergeCode b c q ≡ 0) × ((mergeCode (handedMerge a b p) c out ≡ 0) × Alike (handedMerge a b p) c a (handedMerge b c q) out))
 
 -- Demand 3 for the program, the empty snapshot is neutral on both sides, given room.
 abbrev pub ProgramNeutral : Type 0

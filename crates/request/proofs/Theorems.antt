@@ -16,8 +16,19 @@ module _ (t : Table) (setup payload : List ℕ) (room : ℕ) where
 
   rows-coded : Coded rows
   unfolding requestRows requestTests valueTests
-  rows-coded =
-      (λ h e. omega arith, (λ h e. omega arith, (λ h e. omega arith, (λ h e. omega arith, (λ h e. omega arith, (λ h e. omega arith, (own-coded _, (own-coded _, (λ h e. omega arith, tt)))))))))
+  rows-coded = (
+    λ h e. omega arith,
+    (
+      λ h e. omega arith,
+      (
+        λ h e. omega arith,
+        (
+          λ h e. omega arith,
+          (λ h e. omega arith, (λ h e. omega arith, (own-coded _, (own-coded _, (λ h e. omega arith, tt))))),
+        ),
+      ),
+    ),
+  )
 
   -- no test fails where the number is 0
   pub request-quiet : requestCode t setup payload room ≡ 0 → Quiet rows

@@ -25,7 +25,8 @@ pub record RequestRefused (t : Table) (setup payload reply : List ℕ) : Type 0 
   pub buffer : replied t setup payload reply ≡ reply
 
 abbrev pub RequestRefusals : Type 0
-RequestRefusals = (t : Table) (setup payload reply : List ℕ) → (requestCode t setup payload (length reply) ≡ 0 → ⊥) → RequestRefused t setup payload reply
+RequestRefusals =
+    (t : Table) (setup payload reply : List ℕ) → (requestCode t setup payload (length reply) ≡ 0 → ⊥) → RequestRefused t setup payload reply
 
 -- An accepted GET writes the first min(wLength, full length) bytes of its answer, reports that count and touches nothing else.
 pub record Sends (t : Table) (setup payload reply : List ℕ) : Type 0 where

@@ -33,4 +33,6 @@ KeyOrder =
 
 -- 01's lengths: a snapshot has at most 250 bytes, and at most 159 with at most 8 endpoints, as many as a profile may have.
 abbrev pub Longest : Type 0
-Longest = (m : ℕ → Option (List ℕ)) → Good m → (length (encode m) ≤ longestSnapshot) × (recordCount places 1 m ≤ endpointLimit → length (encode m) ≤ 159)
+Longest =
+    (m : ℕ → Option (List ℕ)) → Good m
+    → (length (encode m) ≤ longestSnapshot) × (recordCount places 1 m ≤ endpointLimit → length (encode m) ≤ 159)

@@ -23,7 +23,11 @@ module _ (p : Profile) (s : Settings) (selector code : ℕ) where
   value-fits = go (eqb selector ev) (eqb selector face) (eqb selector metadata) (eqb selector hdr)
     where
       go : (a b d e : Bool)
-          → length (cond a (evBytes (evAttribute (p .ev) (s .ev) code)) (cond b (faceValue (p .face) (s .face) code) (cond d (bytesOf 4 (metadataAttribute (p .metadata) (s .metadata) code)) (cond e (bytesOf 4 (hdrAttribute (p .hdr) (s .hdr) code)) (throttleBytes (throttleAttribute (p .throttle) (s .throttle) code) (p .throttle)))))) ≤ longestAnswer
+          → length (cond a (evBytes (evAttribute (p .ev) (s .ev) code))
+          (cond b (faceValue (p .face) (s .face) code)
+          (cond d (bytesOf 4 (metadataAttribute (p .metadata) (s .metadata) code))
+          (cond e (bytesOf 4 (hdrAttribute (p .hdr) (s .hdr) code))
+          (throttleBytes (throttleAttribute (p .throttle) (s .throttle) code) (p .throttle)))))) ≤ longestAnswer
       go true b d e = lit≤ tt
       go false true d e = value-length (p .face) (s .face) code
       go false false true e = lit≤ tt

@@ -43,7 +43,13 @@ answer-requires-5 c κs = search needs
 returns-5 : tie.Need-returns-5
 unfolding controlAnswer valueOf throttleAnswer
 returns-5 c =
-    rw (ne-eqb _ _ (c .before .before .before .before .if1 .left), ne-eqb _ _ (c .before .before .before .if2 .left), ne-eqb _ _ (c .before .before .if3 .left), ne-eqb _ _ (c .before .if4 .left)) (c .answer5 .ensures)
+    rw (
+      ne-eqb _ _ (c .before .before .before .before .if1 .left),
+      ne-eqb _ _ (c .before .before .before .if2 .left),
+      ne-eqb _ _
+          (c .before .before .if3 .left),
+      ne-eqb _ _ (c .before .if4 .left),
+    ) (c .answer5 .ensures)
 
 pub answer-spec : {M : Type 1} → statement M
 answer-spec =

@@ -83,7 +83,9 @@ module _ (c : Camera) (s : List ℕ) where
   unfolding putAll allGiven
   nothing-loaded w e = rw e (record {
     here = first-at s w;
-    is = sym (ap (putAll (c .settings)) (given-between givenAt 0 (keyAt (drop 0 s)) (omega arith) (λ j l u. absent-given j (none-before s w j u))));
+    is =
+        sym (ap (putAll (c .settings))
+        (given-between givenAt 0 (keyAt (drop 0 s)) (omega arith) (λ j l u. absent-given j (none-before s w j u))));
     taken = λ j l. absent-code j (none-before s w j l);
   })
 
@@ -113,7 +115,8 @@ module _ (c : Camera) (s : List ℕ) where
         let e = code-here ∙ sym (stops codeAt keys k (w .taken) l (λ z. bad (code-here ∙ z))) in
         rw (← e, ne-eqb code 0 bad)
 
-    pub load-next : code ≡ 0 → {next : Settings} → next ≡ putAll h (givenOf i) → {j : ℕ} → j ≡ keyAt (drop (at + n) s) → Loads next (at + n) j
+    pub load-next : code ≡ 0 → {next : Settings} → next ≡ putAll h (givenOf i) → {j : ℕ} → j ≡ keyAt (drop (at + n) s)
+        → Loads next (at + n) j
     load-next z is-put {j} e =
         let m : at + n ≡ at + recordLength k = ap (λ (x : ℕ). at + x) is-size in
         let q : j ≡ keyAt (drop (at + recordLength k) s) = e ∙ ap (λ (x : ℕ). keyAt (drop x s)) m in
@@ -124,7 +127,9 @@ module _ (c : Camera) (s : List ℕ) where
           is = is-put
               ∙ ap₂ putAll (w .is) given-here
               ∙ sym (puts-next (c .settings) k givenAt)
-              ∙ ap (putAll (c .settings)) (sym (given-between givenAt (k + 1) (keyAt (drop (at + recordLength k) s)) (omega (arith, q, above)) (λ i a b. absent-given i (gap i a (omega (arith, q))))));
+              ∙ ap (putAll (c .settings))
+              (sym (given-between givenAt (k + 1) (keyAt (drop (at + recordLength k) s)) (omega (arith, q, above))
+              (λ i a b. absent-given i (gap i a (omega (arith, q))))));
           taken = λ i b. go i (leb (k + 1) i) refl (λ a. gap i a (omega (arith, q)));
         })
       where

@@ -28,7 +28,9 @@ module _ (p : Profile) (streaming : Bool) (selector : ℕ) where
   by-profile = go (has p selector) (isSettable p selector) state
     where
       go : (h t : Bool) (n : ℕ)
-          → firstOf ((not h ⇒ invalidControl) ∷ (not t ⇒ invalidRequest) ∷ answers n ∷ []) ≡ cond (eqb (firstOf ((not h ⇒ invalidControl) ∷ (not t ⇒ invalidRequest) ∷ [])) 0) n (firstOf ((not h ⇒ invalidControl) ∷ (not t ⇒ invalidRequest) ∷ []))
+          → firstOf ((not h ⇒ invalidControl) ∷ (not t ⇒ invalidRequest) ∷ answers n ∷ [])
+          ≡ cond (eqb (firstOf ((not h ⇒ invalidControl) ∷ (not t ⇒ invalidRequest) ∷ [])) 0) n
+          (firstOf ((not h ⇒ invalidControl) ∷ (not t ⇒ invalidRequest) ∷ []))
       go true true n = answers-number n
       go true false n = refl
       go false t n = refl
@@ -37,7 +39,8 @@ module _ (p : Profile) (streaming : Bool) (selector : ℕ) where
   unfolding own
   control-refused e n = e ∙ sym (by-profile ∙ rw (ne-eqb own 0 (λ z. n (e ∙ z))))
 
-  pub control-state : {code : ℕ} → code ≡ profileRefusal p selector → code ≡ 0 → stateRefusal streaming selector setCur ≡ controlRefusal p streaming selector
+  pub control-state : {code : ℕ} → code ≡ profileRefusal p selector → code ≡ 0
+      → stateRefusal streaming selector setCur ≡ controlRefusal p streaming selector
   unfolding own state
   control-state e z = sym (by-profile ∙ rw (eq-eqb own 0 (sym e ∙ z)))
 
@@ -51,7 +54,12 @@ set-done c selector payload {t} is = rw is (go (eqb code 0) refl)
     code = setRefusal (c .profile) selector payload
 
     go : (b : Bool) → eqb code 0 ≡ b
-        → _≡_ {A = Outcome} (record { code = code; count = 0; camera = withSettings c (cond b (puts c (setGives (c .profile) selector payload) .settings) (c .settings)) })
+        → _≡_ {A = Outcome} (record {
+          code = code;
+          count = 0;
+          camera = withSettings c
+              (cond b (puts c (setGives (c .profile) selector payload) .settings) (c .settings));
+        })
         (cond b (record { code = 0; count = 0; camera = puts c (setGives (c .profile) selector payload) }) (refused code c))
     go true e = rw (eqb-true code 0 e)
     go false e = refl
@@ -72,11 +80,13 @@ module _ (c : Camera) (s payload reply : List ℕ) where
   malformed w = refusal-answers malformedRecord (at-unformed (table c) s payload (length reply) w) (λ e. omega arith)
 
   module _ (w : recordWellFormed c ≡ true) where
-    pub tests-fail : (firstOf (requestTests (table c) s payload) ≡ 0 → ⊥) → Answers c s payload reply (refused (firstOf (requestTests (table c) s payload)) c) reply
+    pub tests-fail : (firstOf (requestTests (table c) s payload) ≡ 0 → ⊥)
+        → Answers c s payload reply (refused (firstOf (requestTests (table c) s payload)) c) reply
     tests-fail n = refusal-answers _ (at-tests (table c) s payload (length reply) w n) n
 
     module _ (t : firstOf (requestTests (table c) s payload) ≡ 0) where
-      pub state-fails : (stateRefusal (c .streaming) (setupSelector s) (setupCode s) ≡ 0 → ⊥) → Answers c s payload reply (refused (stateRefusal (c .streaming) (setupSelector s) (setupCode s)) c) reply
+      pub state-fails : (stateRefusal (c .streaming) (setupSelector s) (setupCode s) ≡ 0 → ⊥)
+          → Answers c s payload reply (refused (stateRefusal (c .streaming) (setupSelector s) (setupCode s)) c) reply
       state-fails n = refusal-answers _ (at-state (table c) s payload (length reply) w t n) n
 
       module _ (y : stateRefusal (c .streaming) (setupSelector s) (setupCode s) ≡ 0) where
@@ -86,7 +96,8 @@ module _ (c : Camera) (s payload reply : List ℕ) where
             let n = at-set (table c) s payload (length reply) w t y e in
             (rw (n, e), set-replied (table c) s payload reply e)
 
-        pub a-get : isSetRequest s ≡ false → Answers c s payload reply (getDone c s (length reply)) (replyOf (asked (table c) s) (setupWLength s) reply)
+        pub a-get : isSetRequest s ≡ false
+            → Answers c s payload reply (getDone c s (length reply)) (replyOf (asked (table c) s) (setupWLength s) reply)
         unfolding requested getDone requestDone
         a-get e =
             let r = get-sent (table c) s payload reply e (at-get (table c) s payload (length reply) w t y e) in
@@ -94,7 +105,13 @@ module _ (c : Camera) (s payload reply : List ℕ) where
           where
             go : (b : Bool)
                 → _≡_ {A = Outcome}
-                (record { code = cond {A = Sent} b (record { code = 0; count = sentCount (table c) s }) (record { code = number; count = 0 }) .code; count = cond {A = Sent} b (record { code = 0; count = sentCount (table c) s }) (record { code = number; count = 0 }) .count; camera = c })
+                (record {
+                  code = cond {A = Sent} b (record { code = 0; count = sentCount (table c) s })
+                      (record { code = number; count = 0 }) .code;
+                  count = cond {A = Sent} b
+                      (record { code = 0; count = sentCount (table c) s }) (record { code = number; count = 0 }) .count;
+                  camera = c;
+                })
                 (cond b (record { code = 0; count = sentCount (table c) s; camera = c }) (refused number c))
             go true = refl
             go false = refl

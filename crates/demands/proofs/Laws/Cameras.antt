@@ -36,7 +36,8 @@ record-of k (S.Ev s) e p = subst (λ j. IsRecord j (recordOf (S.Ev s))) e (recor
 record-of k (S.Face address flags) e p =
     let f : firstAddress - 1 + (address - (firstAddress - 1)) ≡ address = omega arith in
     subst (λ j. IsRecord j (recordOf (S.Face address flags))) e
-    (subst (λ a. IsRecord (address - (firstAddress - 1)) (13 ∷ 0 ∷ selector.face ∷ 0 ∷ 1 ∷ entryOf a flags)) f (record-face (address - (firstAddress - 1)) _ _ _ _ _ _ _ (omega arith) (omega arith)))
+    (subst (λ a. IsRecord (address - (firstAddress - 1)) (13 ∷ 0 ∷ selector.face ∷ 0 ∷ 1 ∷ entryOf a flags)) f
+    (record-face (address - (firstAddress - 1)) _ _ _ _ _ _ _ (omega arith) (omega arith)))
 record-of k (S.Metadata n) e p = subst (λ j. IsRecord j (recordOf (S.Metadata n))) e (record-metadata _ _ _ _)
 record-of k (S.Hdr n) e p = subst (λ j. IsRecord j (recordOf (S.Hdr n))) e (record-hdr _ _ _ _)
 record-of k (S.Throttle s) e p = subst (λ j. IsRecord j (recordOf (S.Throttle s))) e (record-throttle _ _ _ _ _ _ _ _)
@@ -54,7 +55,8 @@ held-records c w k = go (held c k) refl
     go (some s) e = let g = held-good (c .profile) (c .settings) w k s e in record-of k s (g .0) (g .1 .proper)
 
 -- the record's payload, read as a SET, comes to its setting by the value tests of that setting
-record-of-item : (p : Profile) (k : ℕ) (s : Setting) → Fitting s → profileItem p (settingSelector s) (drop 4 (recordOf s)) 0 ≡ itemOf (valueRefusal p s) s
+record-of-item : (p : Profile) (k : ℕ) (s : Setting) → Fitting s
+    → profileItem p (settingSelector s) (drop 4 (recordOf s)) 0 ≡ itemOf (valueRefusal p s) s
 unfolding profileItem valueRefusal settingRefusal recordOf bytesOf
 record-of-item p k (S.Ev s) f = ev-read s (f .0) (f .1) (p .ev)
 record-of-item p k (S.Face address flags) f = one-entry (p .face) address flags f
@@ -71,8 +73,13 @@ key-selector k (S.Hdr n) e p = rw (← e)
 key-selector k (S.Throttle s) e p = rw (← e)
 
 -- so a setting's record is taken by a camera that streams, and gives the setting back
-pub record-of-taken : (p : Profile) (k : ℕ) (s : Setting) → Fitting s → settingKey s ≡ k → Good p s → recordItem p true k (recordOf s) ≡ Given s
+pub record-of-taken : (p : Profile) (k : ℕ) (s : Setting) → Fitting s → settingKey s ≡ k → Good p s
+    → recordItem p true k (recordOf s) ≡ Given s
 unfolding recordItem itemOf
 record-of-taken p k s f e g =
-    rw (key-selector k s e (g .proper), eq-eqb (controlRefusal p true (settingSelector s)) 0 (streaming-control p (settingSelector s) (g .control)))
+    rw (
+      key-selector k s e (g .proper),
+      eq-eqb (controlRefusal p true (settingSelector s)) 0
+          (streaming-control p (settingSelector s) (g .control)),
+    )
     (record-of-item p k s f ∙ rw (eq-eqb (valueRefusal p s) 0 (g .value)))

@@ -40,16 +40,20 @@ module _ (c : Camera) where
   unfolding settingsHeld fullAnswer valueOf answerBy hdrAttribute numberOr
   hdr-current n e = rw (hdr-same (c .settings .hdr) (N.Held n) e)
 
-  pub throttle-current : (s : ThrottleSetting) → held c (settingKey (S.Throttle s)) ≡ some (S.Throttle s) → cameraAnswer c selector.throttle getCur ≡ throttleBytes s (c .profile .throttle)
+  pub throttle-current : (s : ThrottleSetting) → held c (settingKey (S.Throttle s)) ≡ some (S.Throttle s)
+      → cameraAnswer c selector.throttle getCur ≡ throttleBytes s (c .profile .throttle)
   unfolding settingsHeld fullAnswer valueOf answerBy throttleAttribute throttleCurrent
   throttle-current s e = rw (throttle-same (c .settings .throttle) (T.Held s) e)
 
   -- metadata that is held is writable
   module _ (w : recordWellFormed c ≡ true) where
-    pub metadata-current : (n : ℕ) → held c (settingKey (S.Metadata n)) ≡ some (S.Metadata n) → cameraAnswer c selector.metadata getCur ≡ bytesOf 4 n
+    pub metadata-current : (n : ℕ) → held c (settingKey (S.Metadata n)) ≡ some (S.Metadata n)
+        → cameraAnswer c selector.metadata getCur ≡ bytesOf 4 n
     unfolding settingsHeld fullAnswer valueOf answerBy metadataAttribute numberOr
     metadata-current n e =
-        let writable : c .profile .metadata .writable ≡ true = control-settable (c .profile) selector.metadata (held-good (c .profile) (c .settings) w metadataKey (S.Metadata n) e .1 .control) in
+        let writable : c .profile .metadata .writable ≡ true =
+        control-settable (c .profile) selector.metadata
+        (held-good (c .profile) (c .settings) w metadataKey (S.Metadata n) e .1 .control) in
         rw (writable, metadata-same (c .settings .metadata) (N.Held n) e)
 
 -- the entry of the endpoint at place j, by its address's setting
@@ -66,14 +70,16 @@ module _ (c : Camera) (j : ℕ) (h : j < endpointsOf (c .profile .face)) where
       let f : key - 1 ≡ address - firstAddress = omega arith in
       held-face (c .settings) key (omega arith) (omega arith) ∙ ap₂ (λ (m n : ℕ). faceHeld m (getD (c .settings .face) n 0)) e f
 
-  pub face-current : (flags : ℕ) → held c key ≡ some (S.Face address flags) → entryBytes (cameraAnswer c selector.face getCur) j ≡ entryOf address flags
+  pub face-current : (flags : ℕ) → held c key ≡ some (S.Face address flags)
+      → entryBytes (cameraAnswer c selector.face getCur) j ≡ entryOf address flags
   face-current flags e =
       let p = held-named (c .settings) key (S.Face address flags) e .1 in
       let s : some (S.Face address flags) ≡ faceHeld address flags = rw (ne-eqb flags 0 (omega arith)) in
       let q = face-same address (heldAt (c .settings .face) address) flags (sym (place-held (p .0) (p .1)) ∙ e ∙ s) in
       current-entry c j h ∙ ap (entryOf address) (current-held (c .profile .face) (c .settings .face) j flags q (p .2))
 
-  pub face-default : recordWellFormed c ≡ true → has (c .profile) selector.face ≡ true → held c key ≡ none → entryBytes (cameraAnswer c selector.face getCur) j ≡ entryBytes (cameraAnswer c selector.face getDef) j
+  pub face-default : recordWellFormed c ≡ true → has (c .profile) selector.face ≡ true → held c key ≡ none
+      → entryBytes (cameraAnswer c selector.face getCur) j ≡ entryBytes (cameraAnswer c selector.face getDef) j
   face-default w g e =
       let p = place-listed (c .profile .face) (valid-face (c .profile) (formed-profile c w) g) j (omega arith) in
       let q = face-unset address (heldAt (c .settings .face) address) (sym (place-held (p .first) (p .last)) ∙ e) in

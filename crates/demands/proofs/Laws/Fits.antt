@@ -41,8 +41,13 @@ module _ (p : Profile) (v : profileValid p ≡ true) where
   good-fitting : (s : Setting) → Good p s → settingFlags s < 2 ^ 8 → p .metadata .maximum < 2 ^ 32 → Fitting s
   unfolding valueRefusal
   good-fitting (S.Ev s) g f m =
-      let a = accepts (p .ev) (s .flags) (s .value) (g .value) in
-      (f, record { sfits = lt-trans (range-small (p .ev) (valid-ev p v (control-there p selector.ev (g .control))) (a .0) (s .value) (a .1 .1)) (lit< tt) })
+      let a = accepts (p .ev) (s .flags) (s .value) (g .value) in (
+        f,
+        record {
+          sfits = lt-trans
+              (range-small (p .ev) (valid-ev p v (control-there p selector.ev (g .control))) (a .0) (s .value) (a .1 .1)) (lit< tt);
+        },
+      )
   good-fitting (S.Face address flags) g f m = f
   good-fitting (S.Metadata n) g f m = omega (arith, metadata-within (p .metadata) n (g .value))
   good-fitting (S.Hdr n) g f m = omega (arith, hdr-within (p .hdr) n (g .value))
@@ -52,4 +57,5 @@ module _ (p : Profile) (v : profileValid p ≡ true) where
       (omega arith, omega arith)
 
 pub held-fitting : (c : Camera) → recordWellFormed c ≡ true → Typed c → (k : ℕ) (s : Setting) → held c k ≡ some s → Fitting s
-held-fitting c w t k s e = good-fitting (c .profile) (formed-profile c w) s (held-good (c .profile) (c .settings) w k s e .1) (t .flags k s e) (t .maximum)
+held-fitting c w t k s e =
+    good-fitting (c .profile) (formed-profile c w) s (held-good (c .profile) (c .settings) w k s e .1) (t .flags k s e) (t .maximum)

@@ -35,20 +35,35 @@ module _ (h : Settings) (k : ℕ) where
 
   pub held-none : keys ≤ k → settingsHeld h k ≡ none
   unfolding settingsHeld
-  held-none l = rw (ne-eqb k 0 (omega arith), lt-leb k places (omega arith), ne-eqb k metadataKey (omega arith), ne-eqb k hdrKey (omega arith), ne-eqb k throttleKey (omega arith))
+  held-none l =
+      rw (
+        ne-eqb k 0 (omega arith),
+        lt-leb k places (omega arith),
+        ne-eqb k metadataKey (omega arith),
+        ne-eqb k hdrKey
+            (omega arith),
+        ne-eqb k throttleKey (omega arith),
+      )
 
 -- settings that agree on the control of key k hold the same of it
 held-same : (c d : Settings) (k : ℕ) → (k ≡ 0 → c .ev ≡ d .ev) → (1 ≤ k → k ≤ places → getD (c .face) (k - 1) 0 ≡ getD (d .face) (k - 1) 0)
-    → (k ≡ metadataKey → c .metadata ≡ d .metadata) → (k ≡ hdrKey → c .hdr ≡ d .hdr) → (k ≡ throttleKey → c .throttle ≡ d .throttle) → settingsHeld c k ≡ settingsHeld d k
+    → (k ≡ metadataKey → c .metadata ≡ d .metadata) → (k ≡ hdrKey → c .hdr ≡ d .hdr) → (k ≡ throttleKey → c .throttle ≡ d .throttle)
+    → settingsHeld c k ≡ settingsHeld d k
 unfolding settingsHeld
-held-same c d k ev face metadata hdr throttle = go (eqb k 0) (leb k places) (eqb k metadataKey) (eqb k hdrKey) (eqb k throttleKey) refl refl refl refl refl
+held-same c d k ev face metadata hdr throttle =
+    go (eqb k 0) (leb k places) (eqb k metadataKey) (eqb k hdrKey) (eqb k throttleKey) refl refl refl refl refl
   where
     by : Bool → Bool → Bool → Bool → Bool → Settings → Option Setting
-    by a b m h t s = cond a (evHeld (s .ev)) (cond b (faceHeld (firstAddress + (k - 1)) (getD (s .face) (k - 1) 0)) (cond m (metadataHeld (s .metadata)) (cond h (hdrHeld (s .hdr)) (cond t (throttleHeld (s .throttle)) none))))
+    by a b m h t s =
+        cond a (evHeld (s .ev))
+        (cond b (faceHeld (firstAddress + (k - 1)) (getD (s .face) (k - 1) 0))
+        (cond m (metadataHeld (s .metadata)) (cond h (hdrHeld (s .hdr)) (cond t (throttleHeld (s .throttle)) none))))
 
-    go : (a b m h t : Bool) → eqb k 0 ≡ a → leb k places ≡ b → eqb k metadataKey ≡ m → eqb k hdrKey ≡ h → eqb k throttleKey ≡ t → by a b m h t c ≡ by a b m h t d
+    go : (a b m h t : Bool) → eqb k 0 ≡ a → leb k places ≡ b → eqb k metadataKey ≡ m → eqb k hdrKey ≡ h → eqb k throttleKey ≡ t
+        → by a b m h t c ≡ by a b m h t d
     go true b m h t p q r s u = ap evHeld (ev (eqb-true k 0 p))
-    go false true m h t p q r s u = ap (faceHeld (firstAddress + (k - 1))) (face (let n = eqb-false k 0 p in omega arith) (leb-true k places q))
+    go false true m h t p q r s u =
+        ap (faceHeld (firstAddress + (k - 1))) (face (let n = eqb-false k 0 p in omega arith) (leb-true k places q))
     go false false true h t p q r s u = ap metadataHeld (metadata (eqb-true k metadataKey r))
     go false false false true t p q r s u = ap hdrHeld (hdr (eqb-true k hdrKey s))
     go false false false false true p q r s u = ap throttleHeld (throttle (eqb-true k throttleKey u))
@@ -62,14 +77,16 @@ put-held h (S.Face address flags) p l =
     let k = settingKey (S.Face address flags) in
     let e : firstAddress + (k - 1) ≡ address = omega arith in
     held-face (put h (S.Face address flags)) k (omega arith) (omega arith)
-    ∙ ap₂ faceHeld e (put-at (h .face) address flags (k - 1) (omega arith) ∙ ap (λ b. cond b flags (getD (h .face) (k - 1) 0)) (eq-eqb address (firstAddress + (k - 1)) (sym e)))
+    ∙ ap₂ faceHeld e (put-at (h .face) address flags (k - 1) (omega arith) ∙ ap (λ b. cond b flags (getD (h .face) (k - 1) 0))
+    (eq-eqb address (firstAddress + (k - 1)) (sym e)))
     ∙ rw (ne-eqb flags 0 (omega arith))
 put-held h (S.Metadata n) p l = refl
 put-held h (S.Hdr n) p l = refl
 put-held h (S.Throttle s) p l = refl
 
 -- and nothing else changes
-put-other : (h : Settings) (s : Setting) → Proper s → length (h .face) ≡ places → (k : ℕ) → (settingKey s ≡ k → ⊥) → settingsHeld (put h s) k ≡ settingsHeld h k
+put-other : (h : Settings) (s : Setting) → Proper s → length (h .face) ≡ places → (k : ℕ) → (settingKey s ≡ k → ⊥)
+    → settingsHeld (put h s) k ≡ settingsHeld h k
 unfolding put
 put-other h (S.Ev s) p l k n = held-same _ _ k (λ e. absurd (n (sym e))) (λ a b. refl) (λ e. refl) (λ e. refl) (λ e. refl)
 put-other h (S.Face address flags) p l k n =
@@ -80,7 +97,8 @@ put-other h (S.Metadata m) p l k n = held-same _ _ k (λ e. refl) (λ a b. refl)
 put-other h (S.Hdr m) p l k n = held-same _ _ k (λ e. refl) (λ a b. refl) (λ e. refl) (λ e. absurd (n (sym e))) (λ e. refl)
 put-other h (S.Throttle s) p l k n = held-same _ _ k (λ e. refl) (λ a b. refl) (λ e. refl) (λ e. refl) (λ e. absurd (n (sym e)))
 
-held-put : (h : Settings) (s : Setting) → Proper s → length (h .face) ≡ places → (k : ℕ) → settingsHeld (put h s) k ≡ over (settingsHeld h k) (cond (eqb (settingKey s) k) (some s) none)
+held-put : (h : Settings) (s : Setting) → Proper s → length (h .face) ≡ places → (k : ℕ)
+    → settingsHeld (put h s) k ≡ over (settingsHeld h k) (cond (eqb (settingKey s) k) (some s) none)
 held-put h s p l k = go (eqb (settingKey s) k) refl
   where
     go : (b : Bool) → eqb (settingKey s) k ≡ b → settingsHeld (put h s) k ≡ over (settingsHeld h k) (cond b (some s) none)
@@ -100,7 +118,8 @@ abbrev pub Each : (Setting → Type 0) → List (ℕ × Setting) → Type 0
 Each P [] = Unit {0}
 Each P (x ∷ l) = (x .0 ≡ settingKey (x .1)) × P (x .1) × Each P l
 
-pub puts-held : (h : Settings) (l : List (ℕ × Setting)) → Each Proper l → length (h .face) ≡ places → (k : ℕ) → settingsHeld (putAll h l) k ≡ over (settingsHeld h k) (lastOf l k)
+pub puts-held : (h : Settings) (l : List (ℕ × Setting)) → Each Proper l → length (h .face) ≡ places → (k : ℕ)
+    → settingsHeld (putAll h l) k ≡ over (settingsHeld h k) (lastOf l k)
 unfolding putAll
 puts-held h [] p f k = refl
 puts-held h (x ∷ l) p f k =
@@ -120,10 +139,13 @@ unfolding settingsHeld noSettings
 none-held k = go (eqb k 0) (leb k places) (eqb k metadataKey) (eqb k hdrKey) (eqb k throttleKey) refl refl
   where
     go : (a b m h t : Bool) → eqb k 0 ≡ a → leb k places ≡ b
-        → cond a (evHeld E.Unset) (cond b (faceHeld (firstAddress + (k - 1)) (getD (replicate {A = ℕ} places 0) (k - 1) 0)) (cond m (metadataHeld N.Unset) (cond h (hdrHeld N.Unset) (cond t (throttleHeld T.Unset) none)))) ≡ none
+        → cond a (evHeld E.Unset)
+        (cond b (faceHeld (firstAddress + (k - 1)) (getD (replicate {A = ℕ} places 0) (k - 1) 0))
+        (cond m (metadataHeld N.Unset) (cond h (hdrHeld N.Unset) (cond t (throttleHeld T.Unset) none)))) ≡ none
     go true b m h t p q = refl
     go false true m h t p q =
-        let z : getD (replicate {A = ℕ} places 0) (k - 1) 0 ≡ 0 = getD-replicate places (k - 1) 0 0 (let n = eqb-false k 0 p in let u = leb-true k places q in omega arith) in
+        let z : getD (replicate {A = ℕ} places 0) (k - 1) 0 ≡ 0 =
+        getD-replicate places (k - 1) 0 0 (let n = eqb-false k 0 p in let u = leb-true k places q in omega arith) in
         rw z
     go false false true h t p q = refl
     go false false false true t p q = refl
@@ -148,7 +170,8 @@ held-named c k s e = go (eqb k 0) (leb k places) (eqb k metadataKey) (eqb k hdrK
     of-ev E.Unset q = absurd (none-never s q)
     of-ev (E.Held x) q = some-is (Named 0) (S.Ev x) s q (refl, tt)
 
-    of-number : (n : ℕ) (control : ℕ → Setting) → ((m : ℕ) → Named n (control m)) → (h : HeldNumber) → numberHeld control h ≡ some s → Named n s
+    of-number : (n : ℕ) (control : ℕ → Setting) → ((m : ℕ) → Named n (control m)) → (h : HeldNumber) → numberHeld control h ≡ some s
+        → Named n s
     of-number n control p N.Unset q = absurd (none-never s q)
     of-number n control p (N.Held m) q = some-is (Named n) (control m) s q (p m)
 
@@ -156,15 +179,21 @@ held-named c k s e = go (eqb k 0) (leb k places) (eqb k metadataKey) (eqb k hdrK
     of-throttle T.Unset q = absurd (none-never s q)
     of-throttle (T.Held x) q = some-is (Named throttleKey) (S.Throttle x) s q (refl, tt)
 
-    of-face : (flags : ℕ) (b : Bool) → eqb flags 0 ≡ b → 1 ≤ k → k ≤ places → cond b none (some (S.Face (firstAddress + (k - 1)) flags)) ≡ some s → Named k s
+    of-face : (flags : ℕ) (b : Bool) → eqb flags 0 ≡ b → 1 ≤ k → k ≤ places
+        → cond b none (some (S.Face (firstAddress + (k - 1)) flags)) ≡ some s → Named k s
     of-face flags true z l h q = absurd (none-never s q)
-    of-face flags false z l h q = let n = eqb-false flags 0 z in some-is (Named k) (S.Face (firstAddress + (k - 1)) flags) s q (omega arith, (omega arith, omega arith, omega arith))
+    of-face flags false z l h q =
+        let n = eqb-false flags 0 z in
+        some-is (Named k) (S.Face (firstAddress + (k - 1)) flags) s q (omega arith, (omega arith, omega arith, omega arith))
 
     go : (a b m h t : Bool) → eqb k 0 ≡ a → leb k places ≡ b → eqb k metadataKey ≡ m → eqb k hdrKey ≡ h → eqb k throttleKey ≡ t
-        → cond a (evHeld (c .ev)) (cond b (faceHeld (firstAddress + (k - 1)) (getD (c .face) (k - 1) 0)) (cond m (metadataHeld (c .metadata)) (cond h (hdrHeld (c .hdr)) (cond t (throttleHeld (c .throttle)) none)))) ≡ some s
+        → cond a (evHeld (c .ev))
+        (cond b (faceHeld (firstAddress + (k - 1)) (getD (c .face) (k - 1) 0))
+        (cond m (metadataHeld (c .metadata)) (cond h (hdrHeld (c .hdr)) (cond t (throttleHeld (c .throttle)) none)))) ≡ some s
         → Named k s
     go true b m h t p q r u v x = rw (eqb-true k 0 p) (of-ev (c .ev) x)
-    go false true m h t p q r u v x = of-face (getD (c .face) (k - 1) 0) _ refl (let n = eqb-false k 0 p in omega arith) (leb-true k places q) x
+    go false true m h t p q r u v x =
+        of-face (getD (c .face) (k - 1) 0) _ refl (let n = eqb-false k 0 p in omega arith) (leb-true k places q) x
     go false false true h t p q r u v x = rw (eqb-true k metadataKey r) (of-number metadataKey S.Metadata (λ m. (refl, tt)) (c .metadata) x)
     go false false false true t p q r u v x = rw (eqb-true k hdrKey u) (of-number hdrKey S.Hdr (λ m. (refl, tt)) (c .hdr) x)
     go false false false false true p q r u v x = rw (eqb-true k throttleKey v) (of-throttle (c .throttle) x)

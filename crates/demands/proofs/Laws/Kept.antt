@@ -79,7 +79,9 @@ module _ (p : Profile) (payload : List ℕ) (i : ℕ) (e : entryRefusal (p .face
   offers = offersOf (p .face) (entryAddress payload i)
 
   abbrev rows : List Row
-  rows = (eqb offers 0 ⇒ outOfRange) ∷ (seenBefore payload i ⇒ invalidValue) ∷ (not (isChoice (oneFlag offers (entryFlags payload i))) ⇒ invalidValue) ∷ []
+  rows =
+      (eqb offers 0 ⇒ outOfRange) ∷ (seenBefore payload i ⇒ invalidValue) ∷
+      (not (isChoice (oneFlag offers (entryFlags payload i))) ⇒ invalidValue) ∷ []
 
   entry-tests : Quiet rows
   unfolding entryRefusal
@@ -96,12 +98,14 @@ module _ (p : Profile) (payload : List ℕ) (i : ℕ) (e : entryRefusal (p .face
 
 -- what an item gives is good, where the control's own tests hold
 module _ (p : Profile) (v : profileValid p ≡ true) (payload : List ℕ) (i : ℕ) (s : Setting) where
-  one-good : (code : ℕ) (t : Setting) → profileRefusal p (settingSelector t) ≡ 0 → (code ≡ 0 → valueRefusal p t ≡ 0) → (code ≡ 0 → Proper t) → itemOf code t ≡ Given s → Good p s
+  one-good : (code : ℕ) (t : Setting) → profileRefusal p (settingSelector t) ≡ 0 → (code ≡ 0 → valueRefusal p t ≡ 0)
+      → (code ≡ 0 → Proper t) → itemOf code t ≡ Given s → Good p s
   one-good code t c a b e =
       let g = given-is code t s e in
       subst (Good p) (g .1) (record { control = c; value = a (g .0); proper = b (g .0) })
 
-  pub item-good : (selector : ℕ) → KnownControl selector → profileRefusal p selector ≡ 0 → profileItem p selector payload i ≡ Given s → Good p s
+  pub item-good : (selector : ℕ) → KnownControl selector → profileRefusal p selector ≡ 0 → profileItem p selector payload i ≡ Given s
+      → Good p s
   unfolding profileItem evItem faceItem metadataItem hdrItem throttleItem valueRefusal
   item-good _ ev c e = one-good _ (S.Ev (record { flags = evFlags payload; value = evValue payload })) c (λ z. z) (λ z. tt) e
   item-good _ face c e =
@@ -121,7 +125,8 @@ each-append P [] b p q = q
 each-append P (x ∷ a) b p q = (p .0, p .1, each-append P a b (p .2) q)
 
 -- and so are all that several give
-pub all-good : (p : Profile) (n k : ℕ) (given : ℕ → List (ℕ × Setting)) → ((j : ℕ) → Each (Good p) (given j)) → Each (Good p) (allGiven n k given)
+pub all-good : (p : Profile) (n k : ℕ) (given : ℕ → List (ℕ × Setting)) → ((j : ℕ) → Each (Good p) (given j))
+    → Each (Good p) (allGiven n k given)
 unfolding allGiven
 all-good p zero k given h = tt
 all-good p (suc n) k given h = each-append (Good p) (given k) (allGiven n (suc k) given) (h k) (all-good p n (suc k) given h)
@@ -167,7 +172,8 @@ module _ (p : Profile) (h : Settings) (w : settingsWellFormed p h ≡ true) wher
   pub puts-formed : (l : List (ℕ × Setting)) → length (h .face) ≡ places → Each (Good p) l → settingsWellFormed p (putAll h l) ≡ true
   puts-formed l f g =
       kept-formed p (putAll h l) formed-valid
-      (λ k. rw (puts-held h l (each-proper p l g) f k) (over-kept p (settingsHeld h k) (lastOf l k) (formed-kept p h w k) (last-kept p l g k)))
+      (λ k. rw (puts-held h l (each-proper p l g) f k)
+      (over-kept p (settingsHeld h k) (lastOf l k) (formed-kept p h w k) (last-kept p l g k)))
 
   -- and what is held of a key is good
   pub held-good : (k : ℕ) (s : Setting) → settingsHeld h k ≡ some s → (settingKey s ≡ k) × Good p s

@@ -34,12 +34,14 @@ module _ (given : ℕ → List (ℕ × Setting)) (keyed : Keyed given) where
   last-below : (n k j : ℕ) → j < k → lastOf (allGiven n k given) j ≡ none
   unfolding allGiven
   last-below zero k j h = refl
-  last-below (suc n) k j h = last-append (given k) (allGiven n (suc k) given) j ∙ ap₂ over (keyed k j (omega arith)) (last-below n (suc k) j (omega arith))
+  last-below (suc n) k j h =
+      last-append (given k) (allGiven n (suc k) given) j ∙ ap₂ over (keyed k j (omega arith)) (last-below n (suc k) j (omega arith))
 
   last-all : (n k j : ℕ) → k ≤ j → j < n + k → lastOf (allGiven n k given) j ≡ lastOf (given j) j
   unfolding allGiven
   last-all zero k j h l = absurd (omega arith)
-  last-all (suc n) k j h l = last-append (given k) (allGiven n (suc k) given) j ∙ go (eqb k j) refl (λ p. last-all n (suc k) j p (omega arith))
+  last-all (suc n) k j h l =
+      last-append (given k) (allGiven n (suc k) given) j ∙ go (eqb k j) refl (λ p. last-all n (suc k) j p (omega arith))
     where
       go : (b : Bool) → eqb k j ≡ b → (suc k ≤ j → lastOf (allGiven n (suc k) given) j ≡ lastOf (given j) j)
           → over (lastOf (given k) j) (lastOf (allGiven n (suc k) given) j) ≡ lastOf (given j) j
@@ -53,14 +55,16 @@ module _ (given : ℕ → List (ℕ × Setting)) (keyed : Keyed given) where
   last-above : (n k j : ℕ) → n + k ≤ j → lastOf (allGiven n k given) j ≡ none
   unfolding allGiven
   last-above zero k j h = refl
-  last-above (suc n) k j h = last-append (given k) (allGiven n (suc k) given) j ∙ ap₂ over (keyed k j (omega arith)) (last-above n (suc k) j (omega arith))
+  last-above (suc n) k j h =
+      last-append (given k) (allGiven n (suc k) given) j ∙ ap₂ over (keyed k j (omega arith)) (last-above n (suc k) j (omega arith))
 
 -- an item whose number is 0 gives the setting
 pub taken : (code : ℕ) (s : Setting) → itemCode (itemOf code s) ≡ 0 → itemOf code s ≡ Given s
 taken code s e = item-given code s (sym (item-code code s) ∙ e)
 
 -- the setting that a control's payload gives stands under the key of its kind and address
-item-key : (p : Profile) (r : List ℕ) (s : Setting) (selector : ℕ) → KnownControl selector → profileItem p selector (drop 4 r) 0 ≡ Given s → settingKey s ≡ keyFor selector (getD r 5 0)
+item-key : (p : Profile) (r : List ℕ) (s : Setting) (selector : ℕ) → KnownControl selector → profileItem p selector (drop 4 r) 0 ≡ Given s
+    → settingKey s ≡ keyFor selector (getD r 5 0)
 unfolding profileItem evItem faceItem metadataItem hdrItem throttleItem
 item-key p r s _ ev e = ap settingKey (sym (given-is _ _ s e .1))
 item-key p r s _ face e = ap settingKey (sym (given-is _ _ s e .1)) ∙ ap (λ (a : ℕ). a - (firstAddress - 1)) (getD-drop 4 r 1 0)
@@ -69,7 +73,8 @@ item-key p r s _ hdr e = ap settingKey (sym (given-is _ _ s e .1))
 item-key p r s _ throttle e = ap settingKey (sym (given-is _ _ s e .1))
 
 -- so the setting that a record gives stands under the record's key
-record-keyed : (p : Profile) (k : ℕ) (r : List ℕ) (s : Setting) → IsRecord k r → profileItem p (selectorAt k) (drop 4 r) 0 ≡ Given s → settingKey s ≡ k
+record-keyed : (p : Profile) (k : ℕ) (r : List ℕ) (s : Setting) → IsRecord k r → profileItem p (selectorAt k) (drop 4 r) 0 ≡ Given s
+    → settingKey s ≡ k
 unfolding statedKey
 record-keyed p k r s q e =
     item-key p r s (selectorAt k) (key-control k) e
@@ -77,7 +82,8 @@ record-keyed p k r s q e =
     ∙ stands-sound k r (q .is) .1
 
 -- a control's item is by its tests' number
-item-taken : (p : Profile) (selector : ℕ) (payload : List ℕ) (i : ℕ) → KnownControl selector → itemCode (profileItem p selector payload i) ≡ 0 → isGiven (profileItem p selector payload i) ≡ true
+item-taken : (p : Profile) (selector : ℕ) (payload : List ℕ) (i : ℕ) → KnownControl selector
+    → itemCode (profileItem p selector payload i) ≡ 0 → isGiven (profileItem p selector payload i) ≡ true
 unfolding profileItem evItem faceItem metadataItem hdrItem throttleItem isGiven
 item-taken p _ payload i ev e = ap isGiven (taken _ _ e)
 item-taken p _ payload i face e = ap isGiven (taken _ _ e)
@@ -102,7 +108,8 @@ module _ (p : Profile) (streaming : Bool) where
   unfolding recordItem isGiven
   record-key k r g t e = go (eqb (controlRefusal p streaming (selectorAt k)) 0) e
     where
-      go : (b : Bool) → cond b (profileItem p (selectorAt k) (drop 4 r) 0) (Refused (controlRefusal p streaming (selectorAt k))) ≡ Given t → settingKey t ≡ k
+      go : (b : Bool) → cond b (profileItem p (selectorAt k) (drop 4 r) 0) (Refused (controlRefusal p streaming (selectorAt k))) ≡ Given t
+          → settingKey t ≡ k
       go true i = record-keyed p k r t g i
       go false i = absurd (true≢false (sym (ap isGiven i)))
 
@@ -127,7 +134,8 @@ module _ (p : Profile) (streaming : Bool) where
   unfolding loadGives Option·elim
   load-settings s k = go (leb keys k) refl
     where
-      go : (b : Bool) → leb keys k ≡ b → lastOf (allGiven keys 0 (λ j. givenBy p streaming j (decode s j))) k ≡ lastOf (givenBy p streaming k (decode s k)) k
+      go : (b : Bool) → leb keys k ≡ b
+          → lastOf (allGiven keys 0 (λ j. givenBy p streaming j (decode s j))) k ≡ lastOf (givenBy p streaming k (decode s k)) k
       go true e =
           let h = leb-true keys k e in
           last-above _ (load-keyed s) keys 0 k (omega arith) ∙ sym (ap (λ o. lastOf (givenBy p streaming k o) k) (load-end s k h))
@@ -154,7 +162,8 @@ module _ (p : Profile) (streaming : Bool) where
   accepted-load s a = rw (a .formed, passes (λ j. codeBy p streaming j (decode s j)) keys (λ j h. a .each j))
 
   -- of two records that are taken, the merge has one
-  over-taken : (k : ℕ) (x y : Option (List ℕ)) → codeBy p streaming k x ≡ 0 → codeBy p streaming k y ≡ 0 → codeBy p streaming k (over x y) ≡ 0
+  over-taken : (k : ℕ) (x y : Option (List ℕ)) → codeBy p streaming k x ≡ 0 → codeBy p streaming k y ≡ 0
+      → codeBy p streaming k (over x y) ≡ 0
   over-taken k x none a b = a
   over-taken k x (some r) a b = b
 
@@ -164,7 +173,8 @@ module _ (p : Profile) (streaming : Bool) where
   over-setting k x none g b = refl
   over-setting k x (some r) g b = go (recordItem p streaming k r) (record-key k r g) (record-taken k r b)
     where
-      go : (i : Item) → ((t : Setting) → i ≡ Given t → settingKey t ≡ k) → isGiven i ≡ true → lastOf (givenOf i) k ≡ over (lastOf (givenBy p streaming k x) k) (lastOf (givenOf i) k)
+      go : (i : Item) → ((t : Setting) → i ≡ Given t → settingKey t ≡ k) → isGiven i ≡ true
+          → lastOf (givenOf i) k ≡ over (lastOf (givenBy p streaming k x) k) (lastOf (givenOf i) k)
       go (Refused code) h e = absurd (true≢false (sym e))
       go (Given t) h e = rw (h t refl, eq-eqb k k refl)
 
@@ -177,7 +187,8 @@ module _ (p : Profile) (streaming : Bool) where
 
   -- which gives what the two give in turn
   pub merged-settings : (a b : List ℕ) → Accepted b
-      → (k : ℕ) → lastOf (loadGives p streaming (merged a b)) k ≡ over (lastOf (loadGives p streaming a) k) (lastOf (loadGives p streaming b) k)
+      → (k : ℕ)
+      → lastOf (loadGives p streaming (merged a b)) k ≡ over (lastOf (loadGives p streaming a) k) (lastOf (loadGives p streaming b) k)
   merged-settings a b y k =
       load-settings (merged a b) k
       ∙ ap (λ m. lastOf (givenBy p streaming k (m k)) k) (decode-merged a b)

@@ -72,7 +72,9 @@ tally-listed : (l : FaceLimits) (n m k : ℕ) → tally m k (listed l n) ≤ n
 unfolding listed
 tally-listed l zero m k = let e = tally-none m k (λ j. false) (λ j h. refl) in omega arith
 tally-listed l (suc n) m k =
-    let one = tally-one m k (λ j. eqb (addressAt l n) (addressOf j)) (λ i j p q. let a = eqb-true (addressAt l n) (addressOf i) p in let b = eqb-true (addressAt l n) (addressOf j) q in omega arith) in
+    let one =
+    tally-one m k (λ j. eqb (addressAt l n) (addressOf j))
+    (λ i j p q. let a = eqb-true (addressAt l n) (addressOf i) p in let b = eqb-true (addressAt l n) (addressOf j) q in omega arith) in
     let both = tally-or m k (listed l n) (λ j. eqb (addressAt l n) (addressOf j)) in
     omega (arith, tally-listed l n m k)
 
@@ -114,16 +116,19 @@ module _ (c : Camera) (w : recordWellFormed c ≡ true) where
   unfolding offersOf valueRefusal
   held-listed k s l h e = go (eqb (getD (c .settings .face) (k - 1) 0) 0) refl (sym (held-face (c .settings) k l h) ∙ e)
     where
-      go : (b : Bool) → eqb (getD (c .settings .face) (k - 1) 0) 0 ≡ b → cond b none (some (S.Face (firstAddress + (k - 1)) (getD (c .settings .face) (k - 1) 0))) ≡ some s
+      go : (b : Bool) → eqb (getD (c .settings .face) (k - 1) 0) 0 ≡ b
+          → cond b none (some (S.Face (firstAddress + (k - 1)) (getD (c .settings .face) (k - 1) 0))) ≡ some s
           → listed limits (endpointsOf limits) k ≡ true
       go true p q = absurd (none-never s q)
       go false p q =
           let address = firstAddress + (k - 1) in
           let flags = getD (c .settings .face) (k - 1) 0 in
           let f : S.Face address flags ≡ s = cc in
-          let v : valueRefusal (c .profile) (S.Face address flags) ≡ 0 = ap (valueRefusal (c .profile)) f ∙ held-good (c .profile) (c .settings) w k s e .1 .value in
+          let v : valueRefusal (c .profile) (S.Face address flags) ≡ 0 =
+          ap (valueRefusal (c .profile)) f ∙ held-good (c .profile) (c .settings) w k s e .1 .value in
           let a : address ≡ addressOf k = omega arith in
-          ap (λ (n : ℕ). listed limits n k) (sym (add-zero (endpointsOf limits))) ∙ found limits k (endpointsOf limits) 0 (rw a at (value-offered limits address flags v))
+          ap (λ (n : ℕ). listed limits n k) (sym (add-zero (endpointsOf limits)))
+          ∙ found limits k (endpointsOf limits) 0 (rw a at (value-offered limits address flags v))
 
   abbrev rows : ℕ → Option (List ℕ)
   rows k = Option·map recordOf (held c k)
@@ -134,7 +139,8 @@ module _ (c : Camera) (w : recordWellFormed c ≡ true) where
   held-tally (suc n) k l h = go (held c k) refl (held-tally n (suc k) (omega arith) (omega arith))
     where
       go : (o : Option Setting) → held c k ≡ o → recordCount n (suc k) rows ≤ tally n (suc k) (listed limits (endpointsOf limits))
-          → countOne (Option·map recordOf o) (recordCount n (suc k) rows) ≤ cond (listed limits (endpointsOf limits) k) 1 0 + tally n (suc k) (listed limits (endpointsOf limits))
+          → countOne (Option·map recordOf o) (recordCount n (suc k) rows)
+          ≤ cond (listed limits (endpointsOf limits) k) 1 0 + tally n (suc k) (listed limits (endpointsOf limits))
       go none e ih = omega arith
       go (some s) e ih = rw (held-listed k s l (omega arith) e) (omega arith)
 

@@ -52,31 +52,39 @@ module _ (c : Camera) (payload : List ℕ) (b : Bytes payload) where
   abbrev currentOf : ℕ → Settings → List ℕ
   currentOf control h = cameraAnswer (withSettings c h) control getCur
 
-  pub answer-back : (control : ℕ) → KnownControl control → (control ≡ selectors.face → ⊥) → isSettable (c .profile) control ≡ true → setRefusal (c .profile) control payload ≡ 0
+  pub answer-back : (control : ℕ) → KnownControl control → (control ≡ selectors.face → ⊥) → isSettable (c .profile) control ≡ true
+      → setRefusal (c .profile) control payload ≡ 0
       → length payload ≡ setLength (c .profile) control payload
       → currentOf control (putAll (c .settings) (setGives (c .profile) control payload)) ≡ bytesBack (c .profile) control payload
-  unfolding setRefusal setGives profileItem evItem metadataItem hdrItem throttleItem fullAnswer valueOf put answerBy evAttribute evCurrent metadataAttribute hdrAttribute numberOr throttleAttribute throttleCurrent throttleBytes
+  unfolding setRefusal setGives profileItem evItem metadataItem hdrItem throttleItem fullAnswer valueOf put answerBy evAttribute evCurrent
+      metadataAttribute hdrAttribute numberOr throttleAttribute throttleCurrent throttleBytes
   answer-back _ ev m w z n =
-      ap (currentOf selectors.ev) (one-put (c .settings) (profileItem (c .profile) selectors.ev payload) _ (S.Ev (record { flags = evFlags payload; value = evValue payload })) refl z)
+      ap (currentOf selectors.ev)
+      (one-put (c .settings) (profileItem (c .profile) selectors.ev payload) _
+      (S.Ev (record { flags = evFlags payload; value = evValue payload })) refl z)
       ∙ ev-bytes payload n b
   answer-back _ face m w z n = absurd (m refl)
   answer-back _ metadata m w z n =
-      ap (currentOf selectors.metadata) (one-put (c .settings) (profileItem (c .profile) selectors.metadata payload) _ (S.Metadata (leAt 4 payload 0)) refl z)
+      ap (currentOf selectors.metadata)
+      (one-put (c .settings) (profileItem (c .profile) selectors.metadata payload) _ (S.Metadata (leAt 4 payload 0)) refl z)
       ∙ rw w (word-bytes payload n b)
   answer-back _ hdr m w z n =
-      ap (currentOf selectors.hdr) (one-put (c .settings) (profileItem (c .profile) selectors.hdr payload) _ (S.Hdr (leAt 4 payload 0)) refl z)
+      ap (currentOf selectors.hdr)
+      (one-put (c .settings) (profileItem (c .profile) selectors.hdr payload) _ (S.Hdr (leAt 4 payload 0)) refl z)
       ∙ word-bytes payload n b
   answer-back _ throttle m w z n =
       let l = c .profile .throttle in
       ap (currentOf selectors.throttle)
-      (one-put (c .settings) (profileItem (c .profile) selectors.throttle payload) _ (S.Throttle (record { mode = leAt 4 payload 0; percent = leAt 4 payload 4 })) refl z)
+      (one-put (c .settings) (profileItem (c .profile) selectors.throttle payload) _
+      (S.Throttle (record { mode = leAt 4 payload 0; percent = leAt 4 payload 4 })) refl z)
       ∙ ap (λ f. f ++ bytesOf 4 (l .minimum) ++ bytesOf 4 (l .maximum) ++ bytesOf 4 (l .step)) (front (omega arith))
 
 -- an entry that is not seen before has an address of its own
 unseen : (payload : List ℕ) (i n : ℕ) → seenIn payload i n ≡ false → (j : ℕ) → j < n → entryAddress payload j ≡ entryAddress payload i → ⊥
 unfolding seenIn
 unseen payload i zero e j h q = absurd (omega arith)
-unseen payload i (suc n) e j h q = go (seenIn payload i n) (eqb (entryAddress payload n) (entryAddress payload i)) refl refl e (λ z l. unseen payload i n z j l q)
+unseen payload i (suc n) e j h q =
+    go (seenIn payload i n) (eqb (entryAddress payload n) (entryAddress payload i)) refl refl e (λ z l. unseen payload i n z j l q)
   where
     go : (a b : Bool) → seenIn payload i n ≡ a → eqb (entryAddress payload n) (entryAddress payload i) ≡ b → a || b ≡ false
         → (seenIn payload i n ≡ false → j < n → ⊥) → ⊥
@@ -120,7 +128,8 @@ module _ (face : List ℕ) (address flags : ℕ) (low : firstAddress ≤ address
 
   put-other : (a : ℕ) → firstAddress ≤ a → (address ≡ a → ⊥) → heldAt (putFace face address flags) a ≡ heldAt face a
   unfolding putFace
-  put-other a h n = rw (le-leb firstAddress address low) (getD-set-other face (address - firstAddress) (a - firstAddress) flags 0 (λ e. n (omega arith)))
+  put-other a h n =
+      rw (le-leb firstAddress address low) (getD-set-other face (address - firstAddress) (a - firstAddress) flags 0 (λ e. n (omega arith)))
 
 -- entries taken one after the other: each is held at its address, and every other address keeps its setting
 module _ (p : Profile) (before : List ℕ) (l : length before ≡ places) (payload : List ℕ) where
@@ -130,7 +139,8 @@ module _ (p : Profile) (before : List ℕ) (l : length before ≡ places) (paylo
   pub record After (n : ℕ) : Type 0 where
     pub room : length (faceAfter n) ≡ places
     pub named : (i : ℕ) → i < n → heldAt (faceAfter n) (entryAddress payload i) ≡ entryFlags payload i
-    pub other : (address : ℕ) → firstAddress ≤ address → ((i : ℕ) → i < n → entryAddress payload i ≡ address → ⊥) → heldAt (faceAfter n) address ≡ heldAt before address
+    pub other : (address : ℕ) → firstAddress ≤ address → ((i : ℕ) → i < n → entryAddress payload i ≡ address → ⊥)
+        → heldAt (faceAfter n) address ≡ heldAt before address
 
   pub after : (n : ℕ) → ((i : ℕ) → i < n → Taken p payload i) → After n
   unfolding entriesPut
@@ -151,11 +161,13 @@ module _ (p : Profile) (before : List ℕ) (l : length before ≡ places) (paylo
           rw j (put-same (faceAfter n) _ _ (x .first) (omega (arith, b .room, x .last)))
       go b x i h false q =
           let j = eqb-false i n q in
-          put-other (faceAfter n) _ _ (x .first) (entryAddress payload i) (t i h .first) (λ k. unseen payload n n (x .new) i (omega arith) (sym k))
+          put-other (faceAfter n) _ _ (x .first) (entryAddress payload i) (t i h .first)
+          (λ k. unseen payload n n (x .new) i (omega arith) (sym k))
           ∙ b .named i (omega arith)
 
 -- of a payload: its address and its flags
-pub payload-entry : (payload : List ℕ) (i : ℕ) → Bytes payload → 9 + 8 * i ≤ length payload → entryBytes payload i ≡ entryOf (entryAddress payload i) (entryFlags payload i)
+pub payload-entry : (payload : List ℕ) (i : ℕ) → Bytes payload → 9 + 8 * i ≤ length payload
+    → entryBytes payload i ≡ entryOf (entryAddress payload i) (entryFlags payload i)
 payload-entry payload i b h =
     let e : suc (1 + 8 * i) ≡ 2 + 8 * i = omega arith in
     ap (take 8) (drop-cons payload (1 + 8 * i) 0 (omega arith) ∙ ap (λ (n : ℕ). entryAddress payload i ∷ drop n payload) e)
@@ -163,16 +175,19 @@ payload-entry payload i b h =
 
 -- of an answer: its place's
 module _ (l : FaceLimits) (settingsHeld : List ℕ) (code : ℕ) where
-  place-entry : (n j : ℕ) → j < n → take 8 (drop (8 * j) (entriesOf l settingsHeld code n)) ≡ entryOf (addressAt l j) (flagsAt l settingsHeld code j)
+  place-entry : (n j : ℕ) → j < n
+      → take 8 (drop (8 * j) (entriesOf l settingsHeld code n)) ≡ entryOf (addressAt l j) (flagsAt l settingsHeld code j)
   unfolding entriesOf bytesOf
   place-entry zero j h = absurd (omega arith)
   place-entry (suc n) j h = go (eqb j n) refl (place-entry n j)
     where
-      go : (b : Bool) → eqb j n ≡ b → (j < n → take 8 (drop (8 * j) (entriesOf l settingsHeld code n)) ≡ entryOf (addressAt l j) (flagsAt l settingsHeld code j))
+      go : (b : Bool) → eqb j n ≡ b
+          → (j < n → take 8 (drop (8 * j) (entriesOf l settingsHeld code n)) ≡ entryOf (addressAt l j) (flagsAt l settingsHeld code j))
           → take 8 (drop (8 * j) (entriesOf l settingsHeld code (suc n))) ≡ entryOf (addressAt l j) (flagsAt l settingsHeld code j)
       go true e ih =
           let q : j ≡ n = eqb-true j n e in
-          rw q (ap (take 8) (drop-at (entriesOf l settingsHeld code n) (entryOf (addressAt l n) (flagsAt l settingsHeld code n)) (8 * n) (length-entries l settingsHeld code n)))
+          rw q (ap (take 8) (drop-at (entriesOf l settingsHeld code n) (entryOf (addressAt l n) (flagsAt l settingsHeld code n)) (8 * n)
+          (length-entries l settingsHeld code n)))
       go false e ih =
           let q = eqb-false j n e in
           let m = length-entries l settingsHeld code n in
@@ -180,7 +195,8 @@ module _ (l : FaceLimits) (settingsHeld : List ℕ) (code : ℕ) where
           ∙ take-append-le 8 (drop (8 * j) (entriesOf l settingsHeld code n)) _ (simp length-drop (omega arith))
           ∙ ih (omega arith)
 
-  answer-entry : (m n j : ℕ) → j < n → entryBytes (m ∷ entriesOf l settingsHeld code n) j ≡ entryOf (addressAt l j) (flagsAt l settingsHeld code j)
+  answer-entry : (m n j : ℕ) → j < n
+      → entryBytes (m ∷ entriesOf l settingsHeld code n) j ≡ entryOf (addressAt l j) (flagsAt l settingsHeld code j)
   answer-entry m n j h = ap (take 8) (sym (drop-drop (8 * j) 1 (m ∷ entriesOf l settingsHeld code n))) ∙ place-entry n j h
 
 -- an address that offers flags is an endpoint's
@@ -190,7 +206,8 @@ place-of l address zero i h = absurd (h refl)
 place-of l address (suc n) i h = go (eqb (addressAt l i) address) refl h (place-of l address n (suc i))
   where
     go : (b : Bool) → eqb (addressAt l i) address ≡ b → (cond b (offersAt l i) (offersFrom l address n (suc i)) ≡ 0 → ⊥)
-        → ((offersFrom l address n (suc i) ≡ 0 → ⊥) → (j : ℕ) × ((j < suc i + n) × (addressAt l j ≡ address))) → (j : ℕ) × ((j < i + suc n) × (addressAt l j ≡ address))
+        → ((offersFrom l address n (suc i) ≡ 0 → ⊥) → (j : ℕ) × ((j < suc i + n) × (addressAt l j ≡ address)))
+        → (j : ℕ) × ((j < i + suc n) × (addressAt l j ≡ address))
     go true e q ih = (i, (omega arith, eqb-true (addressAt l i) address e))
     go false e q ih = let r = ih q in (r .0, (let b = r .1 .0 in omega arith, r .1 .1))
 
@@ -213,11 +230,13 @@ module _ (c : Camera) where
   abbrev limits : FaceLimits
   limits = c .profile .face
 
-  pub current-entry : (j : ℕ) → j < endpointsOf limits → entryBytes (cameraAnswer c selectors.face getCur) j ≡ entryOf (addressAt limits j) (flagsAt limits (c .settings .face) getCur j)
+  pub current-entry : (j : ℕ) → j < endpointsOf limits
+      → entryBytes (cameraAnswer c selectors.face getCur) j ≡ entryOf (addressAt limits j) (flagsAt limits (c .settings .face) getCur j)
   unfolding fullAnswer valueOf answerBy faceValue
   current-entry j h = answer-entry limits (c .settings .face) getCur (endpointsOf limits) (endpointsOf limits) j h
 
-  pub default-entry : (j : ℕ) → j < endpointsOf limits → entryBytes (cameraAnswer c selectors.face getDef) j ≡ entryOf (addressAt limits j) (flagsAt limits (c .settings .face) getDef j)
+  pub default-entry : (j : ℕ) → j < endpointsOf limits
+      → entryBytes (cameraAnswer c selectors.face getDef) j ≡ entryOf (addressAt limits j) (flagsAt limits (c .settings .face) getDef j)
   unfolding fullAnswer valueOf answerBy faceValue
   default-entry j h = answer-entry limits (c .settings .face) getDef (endpointsOf limits) (endpointsOf limits) j h
 
@@ -235,7 +254,8 @@ module _ (l : FaceLimits) (settingsHeld : List ℕ) (j : ℕ) where
   unfolding flagsAt
   current-unset e = rw e
 
-  pub current-same : (before : List ℕ) → heldAt settingsHeld (addressAt l j) ≡ heldAt before (addressAt l j) → flagsAt l settingsHeld getCur j ≡ flagsAt l before getCur j
+  pub current-same : (before : List ℕ) → heldAt settingsHeld (addressAt l j) ≡ heldAt before (addressAt l j)
+      → flagsAt l settingsHeld getCur j ≡ flagsAt l before getCur j
   unfolding flagsAt
   current-same before e = rw e
 
@@ -247,7 +267,8 @@ face-unset address flags e = go (eqb flags 0) refl e
     go true q z = eqb-true flags 0 q
     go false q z = absurd (none-never (S.Face address flags) (sym z))
 
-pub face-none : (h : Settings) → length (h .face) ≡ places → ((k : ℕ) → selectorAt k ≡ selectors.face → settingsHeld h k ≡ none) → (address : ℕ) → heldAt (h .face) address ≡ 0
+pub face-none : (h : Settings) → length (h .face) ≡ places → ((k : ℕ) → selectorAt k ≡ selectors.face → settingsHeld h k ≡ none)
+    → (address : ℕ) → heldAt (h .face) address ≡ 0
 face-none g l h address = go (ltb (address - firstAddress) places) refl
   where
     go : (b : Bool) → ltb (address - firstAddress) places ≡ b → heldAt (g .face) address ≡ 0
@@ -255,6 +276,8 @@ face-none g l h address = go (ltb (address - firstAddress) places) refl
         let i = address - firstAddress in
         let b = ltb-true i places q in
         let e : 1 + i - 1 ≡ i = omega arith in
-        let z = sym (held-face g (1 + i) (omega arith) (omega arith)) ∙ h (1 + i) (rw (ne-eqb (1 + i) 0 (omega arith), le-leb (1 + i) places (omega arith))) in
+        let z =
+        sym (held-face g (1 + i) (omega arith) (omega arith))
+        ∙ h (1 + i) (rw (ne-eqb (1 + i) 0 (omega arith), le-leb (1 + i) places (omega arith))) in
         ap (λ (j : ℕ). getD (g .face) j 0) (sym e) ∙ face-unset _ _ z
     go false q = let b = ltb-false (address - firstAddress) places q in List·getD-eq-default (g .face) 0 (omega arith)

@@ -23,7 +23,8 @@ ev-same E.Unset (E.Held t) e = absurd (none-never (S.Ev t) e)
 ev-same (E.Held s) E.Unset e = absurd (none-never (S.Ev s) (sym e))
 ev-same (E.Held s) (E.Held t) e = cc
 
-number-same : (control : ℕ → Setting) → ((m n : ℕ) → control m ≡ control n → m ≡ n) → (a b : HeldNumber) → numberHeld control a ≡ numberHeld control b → a ≡ b
+number-same : (control : ℕ → Setting) → ((m n : ℕ) → control m ≡ control n → m ≡ n) → (a b : HeldNumber)
+    → numberHeld control a ≡ numberHeld control b → a ≡ b
 number-same control f N.Unset N.Unset e = refl
 number-same control f N.Unset (N.Held n) e = absurd (none-never (control n) e)
 number-same control f (N.Held m) N.Unset e = absurd (none-never (control m) (sym e))
@@ -52,13 +53,15 @@ face-same address m n e = go (eqb m 0) (eqb n 0) refl refl e
     go false false p q z = cc
 
 -- so settings that hold the same of every key are the same
-module _ (g h : Settings) (same : (k : ℕ) → settingsHeld g k ≡ settingsHeld h k) (l : length (g .face) ≡ places) (m : length (h .face) ≡ places) where
+module _ (g h : Settings) (same : (k : ℕ) → settingsHeld g k ≡ settingsHeld h k) (l : length (g .face) ≡ places)
+    (m : length (h .face) ≡ places) where
   place-same : (i : ℕ) → i < places → getD (g .face) i 0 ≡ getD (h .face) i 0
   place-same i b =
       let k = 1 + i in
       let e : k - 1 ≡ i = omega arith in
       let f : getD (g .face) (k - 1) 0 ≡ getD (h .face) (k - 1) 0 =
-      face-same (firstAddress + (k - 1)) _ _ (sym (held-face g k (omega arith) (omega arith)) ∙ same k ∙ held-face h k (omega arith) (omega arith)) in
+      face-same (firstAddress + (k - 1)) _ _
+      (sym (held-face g k (omega arith) (omega arith)) ∙ same k ∙ held-face h k (omega arith) (omega arith)) in
       rw e at f
 
   pub settings-same : g ≡ h

@@ -90,7 +90,8 @@ module _ (k : ℕ) (r : List ℕ) (g : IsRecord k r) where
   set-gives p = rw one-item (append-nil (givenOf (profileItem p (selectorAt k) (drop 4 r) 0)))
 
   -- test 6: the payload has the control's length. Of face authentication, one entry is no more than a valid profile's endpoints.
-  set-length-payload : (p : Profile) → profileValid p ≡ true → has p (selectorAt k) ≡ true → setLength p (selectorAt k) (drop 4 r) ≡ length (drop 4 r)
+  set-length-payload : (p : Profile) → profileValid p ≡ true → has p (selectorAt k) ≡ true
+      → setLength p (selectorAt k) (drop 4 r) ≡ length (drop 4 r)
   set-length-payload p v h = go kind
     where
       go : Kind (selectorAt k) → setLength p (selectorAt k) (drop 4 r) ≡ length (drop 4 r)
@@ -121,7 +122,9 @@ module _ (k : ℕ) (r : List ℕ) (g : IsRecord k r) where
     state = stateRefusal streaming (selectorAt k) setCur
 
     abbrev rows : ℕ → List Row
-    rows n = (not (has p (selectorAt k)) ⇒ invalidControl) ∷ (not (isSettable p (selectorAt k)) ⇒ invalidRequest) ∷ answers state ∷ answers n ∷ []
+    rows n =
+        (not (has p (selectorAt k)) ⇒ invalidControl) ∷ (not (isSettable p (selectorAt k)) ⇒ invalidRequest) ∷ answers state ∷ answers n ∷
+        []
 
     value : ℕ
     value = itemCode (profileItem p (selectorAt k) (drop 4 r) 0)
@@ -132,7 +135,16 @@ module _ (k : ℕ) (r : List ℕ) (g : IsRecord k r) where
     set-tests true h =
         let z = set-length-payload p v h in
         let w = length-said p in
-        rw (eq-eqb (p .unit) (p .unit) refl, eq-eqb (p .interface) (p .interface) refl, h, w, z, eq-eqb (length (drop 4 r)) (length (drop 4 r)) refl, set-refusal p)
+        rw (
+          eq-eqb (p .unit) (p .unit) refl,
+          eq-eqb (p .interface) (p .interface) refl,
+          h,
+          w,
+          z,
+          eq-eqb (length (drop 4 r))
+              (length (drop 4 r)) refl,
+          set-refusal p,
+        )
     set-tests false h = rw (eq-eqb (p .unit) (p .unit) refl, eq-eqb (p .interface) (p .interface) refl, h)
 
     record-code : itemCode (recordItem p streaming k r) ≡ firstOf (rows value)
@@ -142,11 +154,15 @@ module _ (k : ℕ) (r : List ℕ) (g : IsRecord k r) where
         code : Bool → Bool → ℕ → List Row → ℕ
         code a b n rest = firstOf ((not a ⇒ invalidControl) ∷ (not b ⇒ invalidRequest) ∷ answers n ∷ rest)
 
-        last : (n : ℕ) (b : Bool) → eqb n 0 ≡ b → itemCode (cond (eqb (cond (not b) n 0) 0) (profileItem p (selectorAt k) (drop 4 r) 0) (Refused (cond (not b) n 0))) ≡ cond (not b) n (firstOf (answers value ∷ []))
+        last : (n : ℕ) (b : Bool) → eqb n 0 ≡ b
+            → itemCode (cond (eqb (cond (not b) n 0) 0) (profileItem p (selectorAt k) (drop 4 r) 0) (Refused (cond (not b) n 0)))
+            ≡ cond (not b) n (firstOf (answers value ∷ []))
         last n true e = sym (answers-number value)
         last n false e = rw e
 
-        go : (a b : Bool) (n : ℕ) → itemCode (cond (eqb (code a b n []) 0) (profileItem p (selectorAt k) (drop 4 r) 0) (Refused (code a b n []))) ≡ code a b n (answers value ∷ [])
+        go : (a b : Bool) (n : ℕ)
+            → itemCode (cond (eqb (code a b n []) 0) (profileItem p (selectorAt k) (drop 4 r) 0) (Refused (code a b n [])))
+            ≡ code a b n (answers value ∷ [])
         go true true n = last n (eqb n 0) refl
         go true false n = refl
         go false b n = refl
@@ -167,7 +183,8 @@ module _ (k : ℕ) (r : List ℕ) (g : IsRecord k r) where
         go true q z = refl
         go false q z = absurd (eqb-false code 0 q z)
 
-    set-settings : (b : Bool) → eqb (itemCode (recordItem p streaming k r)) 0 ≡ b → cond b (setGives p (selectorAt k) (drop 4 r)) [] ≡ givenOf (recordItem p streaming k r)
+    set-settings : (b : Bool) → eqb (itemCode (recordItem p streaming k r)) 0 ≡ b
+        → cond b (setGives p (selectorAt k) (drop 4 r)) [] ≡ givenOf (recordItem p streaming k r)
     set-settings true e = set-gives p ∙ ap givenOf (sym (record-item (eqb-true _ 0 e)))
     set-settings false e = sym (refused-nothing (recordItem p streaming k r) e)
 

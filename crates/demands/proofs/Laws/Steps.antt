@@ -55,14 +55,16 @@ set-answer c s payload room w e =
     let done : Outcome = record { code = 0; count = 0; camera = puts c (setGives (c .profile) (setupSelector s) payload) } in
     rw e (ap (λ (n : ℕ). eqb n 0) (sym (outcome-code (requestedCode c s payload room) c done refl ∙ set-code c s payload room w e)))
 
-pub load-answer : (c : Camera) (s : List ℕ) → recordWellFormed c ≡ true → loaded c s .code ≡ firstOf (loadTests (c .profile) (c .streaming) s)
+pub load-answer : (c : Camera) (s : List ℕ) → recordWellFormed c ≡ true
+    → loaded c s .code ≡ firstOf (loadTests (c .profile) (c .streaming) s)
 unfolding loaded loadCode
 load-answer c s w =
     let code = firstOf (loadTests (c .profile) (c .streaming) s) in
     rw w (outcome-code code c (record { code = 0; count = 0; camera = puts c (loadGives (c .profile) (c .streaming) s) }) refl)
 
 -- a refused call gives no setting
-pub refused-none : (c : Camera) → recordWellFormed c ≡ true → (call : Call) → (outcome c call .code ≡ 0 → ⊥) → gives (c .profile) (c .streaming) call ≡ []
+pub refused-none : (c : Camera) → recordWellFormed c ≡ true → (call : Call) → (outcome c call .code ≡ 0 → ⊥)
+    → gives (c .profile) (c .streaming) call ≡ []
 unfolding gives setAccepted
 refused-none c w (request s payload reply) n = go (isSetRequest s) refl
   where
@@ -91,19 +93,24 @@ request-next c s payload reply w = go (isSetRequest s) refl
     get true done bad p q = p
     get false done bad p q = q
 
-    go : (b : Bool) → isSetRequest s ≡ b → requested c s payload (length reply) .camera ≡ puts c (gives (c .profile) (c .streaming) (request s payload reply))
+    go : (b : Bool) → isSetRequest s ≡ b
+        → requested c s payload (length reply) .camera ≡ puts c (gives (c .profile) (c .streaming) (request s payload reply))
     go true e =
         let n = set-code c s payload (length reply) w e in
         let code = firstOf (testsOf (c .profile) (c .streaming) s payload) in
         rw (e, n) (taken code (eqb code 0))
-    go false e = rw e (get (eqb (requestedCode c s payload (length reply)) 0) (record { code = 0; count = sentCount (table c) s; camera = c }) (refused (requestedCode c s payload (length reply)) c) refl refl)
+    go false e =
+        rw e (get (eqb (requestedCode c s payload (length reply)) 0) (record { code = 0; count = sentCount (table c) s; camera = c })
+        (refused (requestedCode c s payload (length reply)) c) refl refl)
 
-pub load-next : (c : Camera) (s : List ℕ) → recordWellFormed c ≡ true → loaded c s .camera ≡ puts c (gives (c .profile) (c .streaming) (load s))
+pub load-next : (c : Camera) (s : List ℕ) → recordWellFormed c ≡ true
+    → loaded c s .camera ≡ puts c (gives (c .profile) (c .streaming) (load s))
 unfolding loaded loadCode gives putAll
 load-next c s w = rw w (go (eqb (firstOf (loadTests (c .profile) (c .streaming) s)) 0))
   where
     go : (b : Bool)
-        → cond b (record { code = 0; count = 0; camera = puts c (loadGives (c .profile) (c .streaming) s) }) (refused (firstOf (loadTests (c .profile) (c .streaming) s)) c) .camera
+        → cond b (record { code = 0; count = 0; camera = puts c (loadGives (c .profile) (c .streaming) s) })
+        (refused (firstOf (loadTests (c .profile) (c .streaming) s)) c) .camera
         ≡ puts c (cond b (loadGives (c .profile) (c .streaming) s) [])
     go true = refl
     go false = refl
@@ -112,7 +119,8 @@ write-next : (c : Camera) (out : List ℕ) → written c (length out) .camera �
 unfolding written
 write-next c out = go (eqb (writeCode c (length out)) 0)
   where
-    go : (b : Bool) → cond b (record { code = 0; count = length (snapshot c); camera = c }) (refused (writeCode c (length out)) c) .camera ≡ c
+    go : (b : Bool)
+        → cond b (record { code = 0; count = length (snapshot c); camera = c }) (refused (writeCode c (length out)) c) .camera ≡ c
     go true = refl
     go false = refl
 
@@ -169,7 +177,8 @@ isGiven (Given s) = true
 pub key-control : (k : ℕ) → KnownControl (selectorAt k)
 key-control k = go (eqb k 0) (leb k places) (eqb k metadataKey) (eqb k hdrKey)
   where
-    go : (a b c d : Bool) → KnownControl (cond a selectors.ev (cond b selectors.face (cond c selectors.metadata (cond d selectors.hdr selectors.throttle))))
+    go : (a b c d : Bool)
+        → KnownControl (cond a selectors.ev (cond b selectors.face (cond c selectors.metadata (cond d selectors.hdr selectors.throttle))))
     go true b c d = ev
     go false true c d = face
     go false false true d = metadata
@@ -186,7 +195,8 @@ module _ (p : Profile) (v : profileValid p ≡ true) where
       code = controlRefusal p streaming (selectorAt k)
 
       go : (b : Bool) → eqb code 0 ≡ b → cond b (profileItem p (selectorAt k) (drop 4 r) 0) (Refused code) ≡ Given s → Good p s
-      go true q i = item-good p v (drop 4 r) 0 s (selectorAt k) (key-control k) (control-streaming p (selectorAt k) streaming (eqb-true code 0 q)) i
+      go true q i =
+          item-good p v (drop 4 r) 0 s (selectorAt k) (key-control k) (control-streaming p (selectorAt k) streaming (eqb-true code 0 q)) i
       go false q i = absurd (true≢false (sym (ap isGiven i)))
 
   load-good : (streaming : Bool) (s : List ℕ) → Each (Good p) (loadGives p streaming s)
@@ -197,7 +207,8 @@ module _ (p : Profile) (v : profileValid p ≡ true) where
       go k none = tt
       go k (some r) = given-good p (recordItem p streaming k r) (record-good streaming k r)
 
-  set-good : (streaming : Bool) (s payload : List ℕ) → acceptsSet p streaming s payload ≡ true → Each (Good p) (setGives p (setupSelector s) payload)
+  set-good : (streaming : Bool) (s payload : List ℕ) → acceptsSet p streaming s payload ≡ true
+      → Each (Good p) (setGives p (setupSelector s) payload)
   unfolding setGives
   set-good streaming s payload a =
       let c = set-control p streaming s payload a in
@@ -249,7 +260,8 @@ puts-step : (p : Profile) (c : Camera) (o : Ok p c) (call : Call) → next c cal
     → c .streaming ≡ leaves (c .streaming) call → Step p c call
 puts-step p c o call e f = record {
   ok = subst (Ok p) (sym e) (puts-ok p c o call);
-  held-after = λ k. ap (λ d. held d k) e ∙ given-held p c o call k ∙ ap (λ q. over (held c k) (lastOf (gives q (c .streaming) call) k)) (o .profile);
+  held-after =
+      λ k. ap (λ d. held d k) e ∙ given-held p c o call k ∙ ap (λ q. over (held c k) (lastOf (gives q (c .streaming) call) k)) (o .profile);
   streaming-after = ap (λ d. d .streaming) e ∙ f;
 }
 

@@ -17,7 +17,8 @@ use Rattle.demands.proofs.Laws.Held.{none-never, some-is}
 abbrev Small : Setting → Type 0
 Small s = settingFlags s < 2 ^ 8
 
-pub held-typed : (h : Settings) → ((s : Setting) → evHeld (h .ev) ≡ some s → settingFlags s < 2 ^ 8) → ((i : ℕ) → getD (h .face) i 0 < 2 ^ 8)
+pub held-typed : (h : Settings) → ((s : Setting) → evHeld (h .ev) ≡ some s → settingFlags s < 2 ^ 8)
+    → ((i : ℕ) → getD (h .face) i 0 < 2 ^ 8)
     → (k : ℕ) (s : Setting) → settingsHeld h k ≡ some s → settingFlags s < 2 ^ 8
 unfolding settingsHeld
 held-typed h ev face k s e = go (eqb k 0) (leb k places) (eqb k metadataKey) (eqb k hdrKey) (eqb k throttleKey) e
@@ -35,7 +36,9 @@ held-typed h ev face k s e = go (eqb k 0) (leb k places) (eqb k metadataKey) (eq
     of-throttle (T.Held t) q = some-is Small (S.Throttle t) s q (lit< tt)
 
     go : (a b m d t : Bool)
-        → cond a (evHeld (h .ev)) (cond b (faceHeld (firstAddress + (k - 1)) (getD (h .face) (k - 1) 0)) (cond m (metadataHeld (h .metadata)) (cond d (hdrHeld (h .hdr)) (cond t (throttleHeld (h .throttle)) none)))) ≡ some s
+        → cond a (evHeld (h .ev))
+        (cond b (faceHeld (firstAddress + (k - 1)) (getD (h .face) (k - 1) 0))
+        (cond m (metadataHeld (h .metadata)) (cond d (hdrHeld (h .hdr)) (cond t (throttleHeld (h .throttle)) none)))) ≡ some s
         → Small s
     go true b m d t q = ev s q
     go false true m d t q = of-face (getD (h .face) (k - 1) 0) (eqb (getD (h .face) (k - 1) 0) 0) (firstAddress + (k - 1)) (face (k - 1)) q

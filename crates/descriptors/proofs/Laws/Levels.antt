@@ -15,15 +15,18 @@ spans-end zero s p at end h = refl
 spans-end (suc n) s p at end h = simp (le-ltb _ _ h)
 
 spans-step : (n : ℕ) (s : List ℕ) (p : Parent) (at end : ℕ) → at < end → descriptorRefusal s p at end ≡ 0
-    → spans (suc n) s p at end ≡ span at (descriptorSize (descriptorAt s p at end)) ∷ spans n s p (at + descriptorSize (descriptorAt s p at end)) end
+    → spans (suc n) s p at end
+    ≡ span at (descriptorSize (descriptorAt s p at end)) ∷ spans n s p (at + descriptorSize (descriptorAt s p at end)) end
 unfolding spans
 spans-step n s p at end l e = simp (lt-ltb _ _ l, eq-eqb _ _ e)
 
-follows : (n : ℕ) (s : List ℕ) (p : Parent) (at end : ℕ) → at ≤ end → end - at ≤ n → end ≤ length s → isSound (contentsOf s p at end) ≡ true → Follows at end (spans n s p at end)
+follows : (n : ℕ) (s : List ℕ) (p : Parent) (at end : ℕ) → at ≤ end → end - at ≤ n → end ≤ length s
+    → isSound (contentsOf s p at end) ≡ true → Follows at end (spans n s p at end)
 follows zero s p at end h k w e = rw (spans-end zero s p at end (omega arith)) (omega arith)
 follows (suc n) s p at end h k w e = go (ltb at end) refl (λ next a b c. follows n s p next end b (omega arith) w c)
   where
-    go : (b : Bool) → ltb at end ≡ b → ((next : ℕ) → at < next → next ≤ end → isSound (contentsOf s p next end) ≡ true → Follows next end (spans n s p next end))
+    go : (b : Bool) → ltb at end ≡ b
+        → ((next : ℕ) → at < next → next ≤ end → isSound (contentsOf s p next end) ≡ true → Follows next end (spans n s p next end))
         → Follows at end (spans (suc n) s p at end)
     go true f more =
         let l = ltb-true at end f in
@@ -34,6 +37,7 @@ follows (suc n) s p at end h k w e = go (ltb at end) refl (λ next a b c. follow
         let l = ltb-false at end f in
         rw (spans-end (suc n) s p at end l) (omega arith)
 
-pub level-follows : (s : List ℕ) (p : Parent) (at end : ℕ) → at ≤ end → end ≤ length s → isSound (contentsOf s p at end) ≡ true → Follows at end (spansOf s p at end)
+pub level-follows : (s : List ℕ) (p : Parent) (at end : ℕ) → at ≤ end → end ≤ length s → isSound (contentsOf s p at end) ≡ true
+    → Follows at end (spansOf s p at end)
 unfolding spansOf
 level-follows s p at end h w e = follows (length s) s p at end h (omega arith) w e

@@ -45,16 +45,19 @@ pub record PropertyIn (s : List ℕ) (p : Parent) (from end : ℕ) (x : Property
   pub interface : x .interface ≡ interfaceOf parent
 
 abbrev Finds : List ℕ → PropertyPlace → Parent → ℕ → ℕ → Type 0
-Finds s x p from end = end ≤ length s → isSound (contentsOf s p from end) ≡ true → List·Memᴰ x (listed (contentsOf s p from end)) → PropertyIn s p from end x
+Finds s x p from end =
+    end ≤ length s → isSound (contentsOf s p from end) ≡ true → List·Memᴰ x (listed (contentsOf s p from end)) → PropertyIn s p from end x
 
-step : (s : List ℕ) (x : PropertyPlace) (p : Parent) (from end : ℕ) → ((q : Parent) (a e : ℕ) → e - a < end - from → Finds s x q a e) → Finds s x p from end
+step : (s : List ℕ) (x : PropertyPlace) (p : Parent) (from end : ℕ) → ((q : Parent) (a e : ℕ) → e - a < end - from → Finds s x q a e)
+    → Finds s x p from end
 unfolding listed
 step s x p from end more w e m = go (ltb from end) refl
   where
     d : Descriptor
     d = descriptorAt s p from end
 
-    first : (y : Descriptor) → d ≡ y → from < end → isSound (descriptor (contentsOf s) p from y) ≡ true → List·Memᴰ x (listed (descriptor (contentsOf s) p from y))
+    first : (y : Descriptor) → d ≡ y → from < end → isSound (descriptor (contentsOf s) p from y) ≡ true
+        → List·Memᴰ x (listed (descriptor (contentsOf s) p from y))
         → PropertyIn s p from end x
     first (Refused c) f l g i = absurd (false≢true g)
     first (Opaque size) f l g i = absurd (List·Memᴰ·not-nil i)
@@ -65,7 +68,15 @@ step s x p from end more w e m = go (ltb from end) refl
     first (Subset size r) f l g i =
         let k = known-as s p from end _ f in
         let j = more r (from + 8) (from + size) (omega arith) (omega arith) g i in
-        record { parent = j .parent; stop = j .stop; holds = deeper size r l f (j .holds); more = j .more; property = j .property; interface = j .interface }
+        record {
+          parent = j .parent;
+          stop = j .stop;
+          holds = deeper size r l f
+              (j .holds);
+          more = j .more;
+          property = j .property;
+          interface = j .interface;
+        }
 
     parts : from < end → List·Memᴰ x (alone s p from end) ⊎ List·Memᴰ x (rest s p from end) → PropertyIn s p from end x
     parts l (inl i) = first d refl l (sound-parts s p from end l w e .0) i
@@ -73,7 +84,15 @@ step s x p from end more w e m = go (ltb from end) refl
         let a = sound-accepts s p from end l w e in
         let f = size-fits s p from end a in
         let j = more p (from + descriptorSize d) end (omega arith) w (sound-parts s p from end l w e .1) i in
-        record { parent = j .parent; stop = j .stop; holds = later l a (j .holds); more = j .more; property = j .property; interface = j .interface }
+        record {
+          parent = j .parent;
+          stop = j .stop;
+          holds = later l a
+              (j .holds);
+          more = j .more;
+          property = j .property;
+          interface = j .interface;
+        }
 
     go : (b : Bool) → ltb from end ≡ b → PropertyIn s p from end x
     go true f = let l = ltb-true from end f in parts l (List·Memᴰ·append-cases _ (rw (listed-parts s p from end l w e) at m))
@@ -83,8 +102,10 @@ pub listed-stands : (s : List ℕ) (x : PropertyPlace) (p : Parent) (from end : 
 listed-stands s x = on-bytes (Finds s x) (step s x)
 
 -- what is listed of a stretch is listed of every stretch that holds it
-held-listed : (s : List ℕ) (x : PropertyPlace) (q : Parent) (at stop : ℕ) (p : Parent) (from end : ℕ) → Holds s q at stop p from end → end ≤ length s
-    → isSound (contentsOf s p from end) ≡ true → List·Memᴰ x (listed (contentsOf s q at stop)) → List·Memᴰ x (listed (contentsOf s p from end))
+held-listed : (s : List ℕ) (x : PropertyPlace) (q : Parent) (at stop : ℕ) (p : Parent) (from end : ℕ) → Holds s q at stop p from end
+    → end ≤ length s
+    → isSound (contentsOf s p from end) ≡ true → List·Memᴰ x (listed (contentsOf s q at stop))
+    → List·Memᴰ x (listed (contentsOf s p from end))
 held-listed s x q at stop p from end here w e m = m
 held-listed s x q at stop p from end (later l f t) w e m =
     rw (listed-parts s p from end l w e)
@@ -100,22 +121,27 @@ no-subset Set e = omega arith
 no-subset Configuration e = omega arith
 no-subset (Function i) e = e
 
-property-listed : (s : List ℕ) (x : PropertyPlace) (p : Parent) (end : ℕ) → x .at < end → end ≤ length s → isSound (contentsOf s p (x .at) end) ≡ true
+property-listed : (s : List ℕ) (x : PropertyPlace) (p : Parent) (end : ℕ) → x .at < end → end ≤ length s
+    → isSound (contentsOf s p (x .at) end) ≡ true
     → typeAt s (x .at) ≡ 4 → x .interface ≡ interfaceOf p → List·Memᴰ x (listed (contentsOf s p (x .at) end))
 unfolding listed
 property-listed s x p end l w e t i =
-    rw (listed-parts s p (x .at) end l w e) (Memᴰ·append-left (rest s p (x .at) end) (go (descriptorAt s p (x .at) end) refl (sound-parts s p (x .at) end l w e .0)))
+    rw (listed-parts s p (x .at) end l w e)
+    (Memᴰ·append-left (rest s p (x .at) end) (go (descriptorAt s p (x .at) end) refl (sound-parts s p (x .at) end l w e .0)))
   where
-    go : (d : Descriptor) → descriptorAt s p (x .at) end ≡ d → isSound (descriptor (contentsOf s) p (x .at) d) ≡ true → List·Memᴰ x (listed (descriptor (contentsOf s) p (x .at) d))
+    go : (d : Descriptor) → descriptorAt s p (x .at) end ≡ d → isSound (descriptor (contentsOf s) p (x .at) d) ≡ true
+        → List·Memᴰ x (listed (descriptor (contentsOf s) p (x .at) d))
     go (Refused c) f g = absurd (false≢true g)
     go (Opaque size) f g = absurd (known-as s p (x .at) end _ f .5 t)
     go (Property size) f g = rw (← i) (List·Memᴰ·head refl)
     go (Subset size q) f g = absurd (no-subset p (rw t at (known-as s p (x .at) end _ f .4)))
 
 -- every property that stands in a sound stretch is listed
-pub stands-listed : (s : List ℕ) (x : PropertyPlace) (p : Parent) (from end : ℕ) → from ≤ end → end ≤ length s → isSound (contentsOf s p from end) ≡ true → PropertyIn s p from end x
+pub stands-listed : (s : List ℕ) (x : PropertyPlace) (p : Parent) (from end : ℕ) → from ≤ end → end ≤ length s
+    → isSound (contentsOf s p from end) ≡ true → PropertyIn s p from end x
     → List·Memᴰ x (listed (contentsOf s p from end))
 stands-listed s x p from end h w e i =
     let b = bounds s (i .parent) (x .at) (i .stop) p from end (i .holds) h in
     let there = held-sound s (i .parent) (x .at) (i .stop) p from end (i .holds) w e in
-    held-listed s x (i .parent) (x .at) (i .stop) p from end (i .holds) w e (property-listed s x (i .parent) (i .stop) (i .more) (omega arith) there (i .property) (i .interface))
+    held-listed s x (i .parent) (x .at) (i .stop) p from end (i .holds) w e
+    (property-listed s x (i .parent) (i .stop) (i .more) (omega arith) there (i .property) (i .interface))

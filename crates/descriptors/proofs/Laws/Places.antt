@@ -13,13 +13,15 @@ use Rattle.descriptors.proofs.Laws.Reached.{Holds, here, later, deeper,
 
 -- where the first descriptor of a stretch is a subset, what its inside holds comes before what is behind it
 module _ (s : List ℕ) (p : Parent) (from end : ℕ) (l : from < end) where
-  pub past-first : (q : Parent) (at stop : ℕ) → descriptorRefusal s p from end ≡ 0 → Holds s q at stop p (from + descriptorSize (descriptorAt s p from end)) end
+  pub past-first : (q : Parent) (at stop : ℕ) → descriptorRefusal s p from end ≡ 0
+      → Holds s q at stop p (from + descriptorSize (descriptorAt s p from end)) end
       → from + descriptorSize (descriptorAt s p from end) ≤ at
   past-first q at stop e t =
       let f = size-fits s p from end e in
       bounds s q at stop p _ end t (omega arith) .0
 
-  pub in-first : (q : Parent) (at stop size : ℕ) (r : Parent) → descriptorAt s p from end ≡ Subset size r → Holds s q at stop r (from + 8) (from + size)
+  pub in-first : (q : Parent) (at stop size : ℕ) (r : Parent) → descriptorAt s p from end ≡ Subset size r
+      → Holds s q at stop r (from + 8) (from + size)
       → (from + 8 ≤ at) × (at ≤ stop) × (stop ≤ from + descriptorSize (descriptorAt s p from end))
   in-first q at stop size r e t =
       let k = known-as s p from end _ e in
@@ -27,19 +29,25 @@ module _ (s : List ℕ) (p : Parent) (from end : ℕ) (l : from < end) where
       let z : descriptorSize (descriptorAt s p from end) ≡ size = ap descriptorSize e in
       (omega arith, omega arith, omega arith)
 
-  same-subset : {size n : ℕ} {r u : Parent} → descriptorAt s p from end ≡ Subset size r → descriptorAt s p from end ≡ Subset n u → (size ≡ n) × (r ≡ u)
+  same-subset : {size n : ℕ} {r u : Parent} → descriptorAt s p from end ≡ Subset size r → descriptorAt s p from end ≡ Subset n u
+      → (size ≡ n) × (r ≡ u)
   same-subset e f = (cc, cc)
 
-pub same-place : (s : List ℕ) (q q′ : Parent) (at stop at′ stop′ : ℕ) (p : Parent) (from end : ℕ) → Holds s q at stop p from end → Holds s q′ at′ stop′ p from end
+pub same-place : (s : List ℕ) (q q′ : Parent) (at stop at′ stop′ : ℕ) (p : Parent) (from end : ℕ) → Holds s q at stop p from end
+    → Holds s q′ at′ stop′ p from end
     → at ≡ at′ → at < stop → at < stop′ → (q ≡ q′) × (stop ≡ stop′)
 same-place s q q′ at stop at′ stop′ p from end here here e m n = (refl, refl)
-same-place s q q′ at stop at′ stop′ p from end here (later l f t) e m n = absurd (omega (arith, size-fits s p from end f, past-first s p from end l q′ at′ stop′ f t))
-same-place s q q′ at stop at′ stop′ p from end here (deeper size r l f t) e m n = absurd (omega (arith, in-first s p from end l q′ at′ stop′ size r f t))
-same-place s q q′ at stop at′ stop′ p from end (later l f t) here e m n = absurd (omega (arith, size-fits s p from end f, past-first s p from end l q at stop f t))
+same-place s q q′ at stop at′ stop′ p from end here (later l f t) e m n =
+    absurd (omega (arith, size-fits s p from end f, past-first s p from end l q′ at′ stop′ f t))
+same-place s q q′ at stop at′ stop′ p from end here (deeper size r l f t) e m n =
+    absurd (omega (arith, in-first s p from end l q′ at′ stop′ size r f t))
+same-place s q q′ at stop at′ stop′ p from end (later l f t) here e m n =
+    absurd (omega (arith, size-fits s p from end f, past-first s p from end l q at stop f t))
 same-place s q q′ at stop at′ stop′ p from end (later l f t) (later k g u) e m n = same-place s q q′ at stop at′ stop′ p _ end t u e m n
 same-place s q q′ at stop at′ stop′ p from end (later l f t) (deeper size r k g u) e m n =
     absurd (omega (arith, past-first s p from end l q at stop f t, in-first s p from end l q′ at′ stop′ size r g u))
-same-place s q q′ at stop at′ stop′ p from end (deeper size r l f t) here e m n = absurd (omega (arith, in-first s p from end l q at stop size r f t))
+same-place s q q′ at stop at′ stop′ p from end (deeper size r l f t) here e m n =
+    absurd (omega (arith, in-first s p from end l q at stop size r f t))
 same-place s q q′ at stop at′ stop′ p from end (deeper size r l f t) (later k g u) e m n =
     absurd (omega (arith, past-first s p from end l q′ at′ stop′ g u, in-first s p from end l q at stop size r f t))
 same-place s q q′ at stop at′ stop′ p from end (deeper size r l f t) (deeper size′ r′ k g u) e m n =
@@ -47,8 +55,10 @@ same-place s q q′ at stop at′ stop′ p from end (deeper size r l f t) (deep
     same-place s q q′ at stop at′ stop′ r′ (from + 8) (from + size′) (rw (same .0, same .1) at t) u e m n
 
 -- what starts inside a subset is held by its inside
-nested : (s : List ℕ) (q q′ u : Parent) (at stop at′ stop′ n : ℕ) (p : Parent) (from end : ℕ) → at < stop → descriptorAt s q at stop ≡ Subset n u → at′ < stop′
-    → (at + 8 ≤ at′) × (at′ < at + n) → Holds s q at stop p from end → Holds s q′ at′ stop′ p from end → Holds s q′ at′ stop′ u (at + 8) (at + n)
+nested : (s : List ℕ) (q q′ u : Parent) (at stop at′ stop′ n : ℕ) (p : Parent) (from end : ℕ) → at < stop
+    → descriptorAt s q at stop ≡ Subset n u → at′ < stop′
+    → (at + 8 ≤ at′) × (at′ < at + n) → Holds s q at stop p from end → Holds s q′ at′ stop′ p from end
+    → Holds s q′ at′ stop′ u (at + 8) (at + n)
 nested s q q′ u at stop at′ stop′ n p from end m e m′ b here here = absurd (omega arith)
 nested s q q′ u at stop at′ stop′ n p from end m e m′ b here (later l f t) =
     let z : descriptorSize (descriptorAt s p from end) ≡ n = ap descriptorSize e in
@@ -57,10 +67,12 @@ nested s q q′ u at stop at′ stop′ n p from end m e m′ b here (deeper siz
     let same = same-subset s p from end l f e in
     rw (same .0, same .1) at t
 nested s q q′ u at stop at′ stop′ n p from end m e m′ b (later l f t) here = absurd (omega (arith, past-first s p from end l q at stop f t))
-nested s q q′ u at stop at′ stop′ n p from end m e m′ b (later l f t) (later k g v) = nested s q q′ u at stop at′ stop′ n p _ end m e m′ b t v
+nested s q q′ u at stop at′ stop′ n p from end m e m′ b (later l f t) (later k g v) =
+    nested s q q′ u at stop at′ stop′ n p _ end m e m′ b t v
 nested s q q′ u at stop at′ stop′ n p from end m e m′ b (later l f t) (deeper size r k g v) =
     absurd (omega (arith, past-first s p from end l q at stop f t, in-first s p from end l q′ at′ stop′ size r g v))
-nested s q q′ u at stop at′ stop′ n p from end m e m′ b (deeper size r l f t) here = absurd (omega (arith, in-first s p from end l q at stop size r f t))
+nested s q q′ u at stop at′ stop′ n p from end m e m′ b (deeper size r l f t) here =
+    absurd (omega (arith, in-first s p from end l q at stop size r f t))
 nested s q q′ u at stop at′ stop′ n p from end m e m′ b (deeper size r l f t) (later k g v) =
     let w = known-as s q at stop _ e in
     absurd (omega (arith, past-first s p from end l q′ at′ stop′ g v, in-first s p from end l q at stop size r f t))
@@ -89,7 +101,8 @@ pub in-function : (s : List ℕ) (p : Parent) (at end i : ℕ) → Stands s p at
 in-function s p at end i d f =
     let e = function-subset s (f .function) (f .end) (f .accepted) (f .kind) in
     let t =
-    nested s Configuration p (Function (interfaceByte s (f .function))) (f .function) (f .end) at end (totalAt s (f .function)) Set 10 (length s) (f .stands .more) e (d .more)
+    nested s Configuration p (Function (interfaceByte s (f .function))) (f .function) (f .end) at end (totalAt s (f .function)) Set 10
+    (length s) (f .stands .more) e (d .more)
     (f .holds)
     (held s _ Configuration (f .function) (f .end) (f .stands .reached))
     (held s _ p at end (d .reached))
@@ -97,7 +110,8 @@ in-function s p at end i d f =
     only-function s p at end (interfaceByte s (f .function)) _ _ t ∙ ap (λ (x : ℕ). Function x) (f .first)
 
 -- and the rest of the inside of a function lies in it
-opened : (s : List ℕ) (d : ℕ) (p : Parent) (at end size i : ℕ) → Reached s d p at end → at < end → descriptorAt s p at end ≡ Subset size (Function i)
+opened : (s : List ℕ) (d : ℕ) (p : Parent) (at end size i : ℕ) → Reached s d p at end → at < end
+    → descriptorAt s p at end ≡ Subset size (Function i)
     → (x : ℕ) → at + 8 ≤ x → x < at + size → InFunction s x i
 opened s d Set at end size i r l e x a b = absurd (let q = known-as s Set at end _ e .3 in let z : _≡_ {A = ℕ} 0 1 = cc in omega arith)
 opened s d (Function j) at end size i r l e x a b = absurd (known-as s (Function j) at end _ e .4)
@@ -114,10 +128,12 @@ opened s d Configuration at end size i r l e x a b =
       first = cc;
     }
 
-rest-of-function : (s : List ℕ) (d : ℕ) (p : Parent) (at end i : ℕ) → Reached s d p at end → p ≡ Function i → (x : ℕ) → at ≤ x → x < end → InFunction s x i
+rest-of-function : (s : List ℕ) (d : ℕ) (p : Parent) (at end i : ℕ) → Reached s d p at end → p ≡ Function i → (x : ℕ) → at ≤ x → x < end
+    → InFunction s x i
 rest-of-function s d p at end i top e x a b = absurd (let z : _≡_ {A = ℕ} 0 1 = cc in omega arith)
 rest-of-function s d p at end i (behind {at = at′} r l f) e x a b = rest-of-function s d p at′ end i r e x (omega arith) b
-rest-of-function s d p at end i (inside {depth = d′} {p = p′} {at = at′} {end = end′} size q r l f) e x a b = opened s d′ p′ at′ end′ size i r l (rw e at f) x a b
+rest-of-function s d p at end i (inside {depth = d′} {p = p′} {at = at′} {end = end′} size q r l f) e x a b =
+    opened s d′ p′ at′ end′ size i r l (rw e at f) x a b
 
 pub function-around : (s : List ℕ) (at end i : ℕ) → Stands s (Function i) at end → InFunction s at i
 function-around s at end i d = rest-of-function s (d .depth) (Function i) at end i (d .reached) refl at (omega arith) (d .more)

@@ -35,7 +35,8 @@ both s (refused c o) b x y = x
 both s (sound ps) (refused c o) x y = y
 both s (sound ps) (sound qs) x y = append s ps qs x y
 
-one : (s : List ℕ) (f : Parent → ℕ → ℕ → SetReading) (p : Parent) (at end : ℕ) (d : Descriptor) → Known s p at (end - at) d → at < end → end ≤ length s
+one : (s : List ℕ) (f : Parent → ℕ → ℕ → SetReading) (p : Parent) (at end : ℕ) (d : Descriptor) → Known s p at (end - at) d → at < end
+    → end ≤ length s
     → ((q : Parent) (a e : ℕ) → e ≤ length s → Proper s (f q a e)) → Proper s (descriptor f p at d)
 one s f p at end (Refused code) w l k r = (w .0, w .1, omega arith)
 one s f p at end (Opaque size) w l k r = tt
@@ -47,7 +48,8 @@ unfolding contents
 proper zero s p at end k = tt
 proper (suc n) s p at end k =
     go _ (ltb at end) refl
-    (λ lt. both s (descriptor (contents n s) p at d) (contents n s p (at + descriptorSize d) end) (one s (contents n s) p at end d (known s p at end) lt k (λ q a e r. proper n s q a e r))
+    (λ lt. both s (descriptor (contents n s) p at d) (contents n s p (at + descriptorSize d) end)
+    (one s (contents n s) p at end d (known s p at end) lt k (λ q a e r. proper n s q a e r))
     (proper n s p (at + descriptorSize d) end k))
   where
     d : Descriptor
@@ -61,5 +63,6 @@ pub contents-proper : (s : List ℕ) (p : Parent) (at end : ℕ) → end ≤ len
 unfolding contentsOf
 contents-proper s p at end k = proper (length s) s p at end k
 
-pub one-proper : (s : List ℕ) (p : Parent) (at end : ℕ) → at < end → end ≤ length s → Proper s (descriptor (contentsOf s) p at (descriptorAt s p at end))
+pub one-proper : (s : List ℕ) (p : Parent) (at end : ℕ) → at < end → end ≤ length s
+    → Proper s (descriptor (contentsOf s) p at (descriptorAt s p at end))
 one-proper s p at end l k = one s (contentsOf s) p at end (descriptorAt s p at end) (known s p at end) l k (contents-proper s)

@@ -55,7 +55,8 @@ module _ (s : List ℕ) (p : Parent) (at left : ℕ) where
   unfolding subsetAt subsetRefusal
   subset-short h = simp (eq-eqb _ _ (h .0), le-ltb _ _ (h .1), lt-ltb _ _ (h .2))
 
-  pub subset-reserved : (lengthAt s at ≡ 8) × (totalAt s at ≤ left) × (8 ≤ totalAt s at) × (reservedAt s at ≡ 0 → ⊥) → Refused badField ≡ subsetAt s p at left
+  pub subset-reserved : (lengthAt s at ≡ 8) × (totalAt s at ≤ left) × (8 ≤ totalAt s at) × (reservedAt s at ≡ 0 → ⊥)
+      → Refused badField ≡ subsetAt s p at left
   unfolding subsetAt subsetRefusal
   subset-reserved h = simp (eq-eqb _ _ (h .0), le-ltb _ _ (h .1), le-ltb _ _ (h .2), ne-eqb _ _ (h .3))
 
@@ -93,7 +94,8 @@ module _ (s : List ℕ) (at : ℕ) where
 
   -- the fields as they were read: the name's length first, and by it the name's end and the data's length
   pub gathered : (len kind name ending value : ℕ) (r b : Bool) → r ≡ goodFields len kind name ending value
-      → len ≡ lengthAt s at → kind ≡ dataTypeAt s at → name ≡ nameLengthAt s at → ending ≡ leAt 2 s (at + 6 + name) → value ≡ leAt 2 s (at + 8 + name)
+      → len ≡ lengthAt s at → kind ≡ dataTypeAt s at → name ≡ nameLengthAt s at → ending ≡ leAt 2 s (at + 6 + name)
+      → value ≡ leAt 2 s (at + 8 + name)
       → r ≡ b → goodProperty s at ≡ b
   gathered len kind name ending value r b e f g h i j k = simp (← k, e, i, j, f, g, h)
 
@@ -189,5 +191,6 @@ module _ (s : List ℕ) (p : Parent) (at end : ℕ) {d : Descriptor} (l : Looked
   pub told-sound : {len code : ℕ} → d ≡ Property len → code ≡ propertyRefusal s at → code ≡ 0 → descriptorAt s p at end ≡ Property len
   told-sound e f z = told-property e .3 ∙ rw (eq-eqb (propertyRefusal s at) 0 (sym f ∙ z))
 
-  pub told-faulty : {len code : ℕ} → d ≡ Property len → code ≡ propertyRefusal s at → (code ≡ 0 → ⊥) → descriptorAt s p at end ≡ Refused code
+  pub told-faulty : {len code : ℕ} → d ≡ Property len → code ≡ propertyRefusal s at → (code ≡ 0 → ⊥)
+      → descriptorAt s p at end ≡ Refused code
   told-faulty e f n = told-property e .3 ∙ rw (ne-eqb (propertyRefusal s at) 0 (λ z. n (f ∙ z)), f)

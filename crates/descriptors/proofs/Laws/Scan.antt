@@ -193,7 +193,8 @@ module _ (s : List ℕ) (k : ℕ) (c : Cursor) (pre : Scanning s k c × (c .at <
 
     -- a property is put to those passed
     listed : (size hit : ℕ) (holder : Parent) → descriptorHere s c ≡ Property size
-        → (k < length (g .passed ++ propertyPlace (c .at) (c .parent) ∷ []) → Kept s k hit holder (g .passed ++ propertyPlace (c .at) (c .parent) ∷ []))
+        → (k < length (g .passed ++ propertyPlace (c .at) (c .parent) ∷ []) → Kept s k hit holder
+        (g .passed ++ propertyPlace (c .at) (c .parent) ∷ []))
         → Stepped s k c (passedProperty c size hit holder)
     unfolding behind
     listed size hit holder e kept =

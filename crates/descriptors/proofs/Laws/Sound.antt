@@ -36,14 +36,16 @@ at-most false c r h k = k
 module _ (s : List ℕ) (at : ℕ) where
   property-low : propertyRefusal s at ≤ badField
   unfolding propertyRefusal
-  property-low = at-most (ltb (lengthAt s at) 12) badLength _ (omega arith) (at-most (not (goodProperty s at)) badField _ (omega arith) (omega arith))
+  property-low =
+      at-most (ltb (lengthAt s at) 12) badLength _ (omega arith) (at-most (not (goodProperty s at)) badField _ (omega arith) (omega arith))
 
   subset-low : (left : ℕ) → subsetRefusal left (lengthAt s at) (totalAt s at) (reservedAt s at) ≤ badField
   unfolding subsetRefusal
   subset-low left =
       at-most (not (eqb (lengthAt s at) 8)) badLength _ (omega arith)
       (at-most (ltb left (totalAt s at)) pastParent _ (omega arith)
-      (at-most (ltb (totalAt s at) 8) badLength _ (omega arith) (at-most (not (eqb (reservedAt s at) 0)) badField _ (omega arith) (omega arith))))
+      (at-most (ltb (totalAt s at) 8) badLength _ (omega arith)
+      (at-most (not (eqb (reservedAt s at) 0)) badField _ (omega arith) (omega arith))))
 
   refusal-low : (p : Parent) (end : ℕ) → descriptorRefusal s p at end ≤ badField
   unfolding descriptorRefusal
@@ -75,10 +77,14 @@ opens p t a b = go (ltb t 3) refl
 module _ (s : List ℕ) (p : Parent) (at end : ℕ) (e : descriptorRefusal s p at end ≡ 0) where
   -- the rows of every descriptor, none of which answered, and what is left of the table
   four : (4 ≤ end - at) × (lengthAt s at ≤ end - at) × (4 ≤ lengthAt s at) × (allowed p (typeAt s at) ≡ true)
-      × (cond (isSubset (typeAt s at)) (subsetRefusal (end - at) (lengthAt s at) (totalAt s at) (reservedAt s at)) (cond (isProperty (typeAt s at)) (propertyRefusal s at) 0) ≡ 0)
+      × (cond (isSubset (typeAt s at)) (subsetRefusal (end - at) (lengthAt s at) (totalAt s at) (reservedAt s at))
+      (cond (isProperty (typeAt s at)) (propertyRefusal s at) 0) ≡ 0)
   unfolding descriptorRefusal
   four =
-      let r = quiet ((_ ⇒ pastParent) ∷ (_ ⇒ pastParent) ∷ (_ ⇒ badLength) ∷ (_ ⇒ badType) ∷ []) ((isSubset (typeAt s at) ⇒ subsetRefusal (end - at) (lengthAt s at) (totalAt s at) (reservedAt s at)) ∷ (isProperty (typeAt s at) ⇒ propertyRefusal s at) ∷ []) refl e in
+      let r =
+      quiet ((_ ⇒ pastParent) ∷ (_ ⇒ pastParent) ∷ (_ ⇒ badLength) ∷ (_ ⇒ badType) ∷ [])
+      ((isSubset (typeAt s at) ⇒ subsetRefusal (end - at) (lengthAt s at) (totalAt s at) (reservedAt s at)) ∷
+      (isProperty (typeAt s at) ⇒ propertyRefusal s at) ∷ []) refl e in
       let q = r .0 in
       (ltb-false _ _ (q .0), ltb-false _ _ (q .1 .0), ltb-false _ _ (q .1 .1 .0), not-false _ (q .1 .1 .1 .0), r .1)
 
@@ -86,7 +92,9 @@ module _ (s : List ℕ) (p : Parent) (at end : ℕ) (e : descriptorRefusal s p a
   unfolding subsetRefusal
   subset-whole t =
       let r = answers (isSubset (typeAt s at)) (subsetRefusal (end - at) (lengthAt s at) (totalAt s at) (reservedAt s at)) _ (four .4) t in
-      let q = quiet ((not (eqb (lengthAt s at) 8) ⇒ badLength) ∷ (_ ⇒ pastParent) ∷ (_ ⇒ badLength) ∷ (not (eqb (reservedAt s at) 0) ⇒ badField) ∷ []) [] refl r .0 in
+      let q =
+      quiet ((not (eqb (lengthAt s at) 8) ⇒ badLength) ∷ (_ ⇒ pastParent) ∷ (_ ⇒ badLength) ∷
+      (not (eqb (reservedAt s at) 0) ⇒ badField) ∷ []) [] refl r .0 in
       (ltb-false _ _ (q .1 .1 .0), ltb-false _ _ (q .1 .0))
 
   property-whole : isSubset (typeAt s at) ≡ false → isProperty (typeAt s at) ≡ true → (12 ≤ lengthAt s at) × (goodProperty s at ≡ true)
@@ -125,8 +133,11 @@ pub known : (s : List ℕ) (p : Parent) (at end : ℕ) → Known s p at (end - a
 unfolding descriptorAt
 known s p at end = go (eqb (descriptorRefusal s p at end) 0) refl (isSubset (typeAt s at)) refl (isProperty (typeAt s at)) refl
   where
-    go : (b : Bool) → eqb (descriptorRefusal s p at end) 0 ≡ b → (c : Bool) → isSubset (typeAt s at) ≡ c → (d : Bool) → isProperty (typeAt s at) ≡ d
-        → Known s p at (end - at) (cond b (cond c (Subset (totalAt s at) (inner s p at)) (cond d (Property (lengthAt s at)) (Opaque (lengthAt s at)))) (Refused (descriptorRefusal s p at end)))
+    go : (b : Bool) → eqb (descriptorRefusal s p at end) 0 ≡ b → (c : Bool) → isSubset (typeAt s at) ≡ c → (d : Bool)
+        → isProperty (typeAt s at) ≡ d
+        → Known s p at (end - at)
+        (cond b (cond c (Subset (totalAt s at) (inner s p at)) (cond d (Property (lengthAt s at)) (Opaque (lengthAt s at))))
+        (Refused (descriptorRefusal s p at end)))
     go true e true f d g =
         let z = eqb-true _ _ e in
         let h = subset-whole s p at end z f in
@@ -157,14 +168,17 @@ unfolding descriptorAt
 refusal-is s p at end = go (eqb (descriptorRefusal s p at end) 0) refl (isSubset (typeAt s at)) (isProperty (typeAt s at))
   where
     go : (b : Bool) → eqb (descriptorRefusal s p at end) 0 ≡ b → (c d : Bool)
-        → descriptorRefusal s p at end ≡ refusalOf (cond b (cond c (Subset (totalAt s at) (inner s p at)) (cond d (Property (lengthAt s at)) (Opaque (lengthAt s at)))) (Refused (descriptorRefusal s p at end)))
+        → descriptorRefusal s p at end
+        ≡ refusalOf (cond b (cond c (Subset (totalAt s at) (inner s p at))
+        (cond d (Property (lengthAt s at)) (Opaque (lengthAt s at)))) (Refused (descriptorRefusal s p at end)))
     go true e true d = eqb-true _ _ e
     go true e false true = eqb-true _ _ e
     go true e false false = eqb-true _ _ e
     go false e c d = refl
 
 -- a descriptor that no test refuses ends behind its start, in its parent
-pub fits : (s : List ℕ) (p : Parent) (at left : ℕ) (d : Descriptor) → Known s p at left d → refusalOf d ≡ 0 → (0 < descriptorSize d) × (descriptorSize d ≤ left)
+pub fits : (s : List ℕ) (p : Parent) (at left : ℕ) (d : Descriptor) → Known s p at left d → refusalOf d ≡ 0
+    → (0 < descriptorSize d) × (descriptorSize d ≤ left)
 fits s p at left (Refused code) k e = absurd (omega arith)
 fits s p at left (Opaque size) k e = (omega arith, omega arith)
 fits s p at left (Property size) k e = (omega arith, omega arith)
@@ -174,5 +188,6 @@ pub size-fits : (s : List ℕ) (p : Parent) (at end : ℕ) → descriptorRefusal
     → (0 < descriptorSize (descriptorAt s p at end)) × (descriptorSize (descriptorAt s p at end) ≤ end - at)
 size-fits s p at end e = fits s p at (end - at) (descriptorAt s p at end) (known s p at end) (sym (refusal-is s p at end) ∙ e)
 
-pub subset-accepted : (s : List ℕ) (p : Parent) (at end size : ℕ) (q : Parent) → descriptorAt s p at end ≡ Subset size q → descriptorRefusal s p at end ≡ 0
+pub subset-accepted : (s : List ℕ) (p : Parent) (at end size : ℕ) (q : Parent) → descriptorAt s p at end ≡ Subset size q
+    → descriptorRefusal s p at end ≡ 0
 subset-accepted s p at end size q e = refusal-is s p at end ∙ ap refusalOf e

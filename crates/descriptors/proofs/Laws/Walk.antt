@@ -31,7 +31,8 @@ module _ (s : List ℕ) (p : Parent) (at end : ℕ) where
   unfolding stopOf
   stop-opaque n e = rw e
 
-  pub stop-property : (n : ℕ) → descriptorAt s p at end ≡ unless (propertyRefusal s at) (Property n) → propertyStop s at n ≡ stopAt s p at end
+  pub stop-property : (n : ℕ) → descriptorAt s p at end ≡ unless (propertyRefusal s at) (Property n)
+      → propertyStop s at n ≡ stopAt s p at end
   unfolding stopOf propertyStop
   stop-property n e = go (eqb (propertyRefusal s at) 0) refl
     where
@@ -53,7 +54,8 @@ then-sound end ps (refused c o) = refl
 then-sound end ps (sound qs) = refl
 
 -- the reading a of what stands from `at` to `next`, and then the rest: a refusal ends the walk, and else it goes on from `next`
-turned : (s : List ℕ) (p : Parent) (at end next : ℕ) (a : SetReading) → at < end → Walkable s end → Proper s a → (isSound a ≡ true → (at < next) × (next ≤ end))
+turned : (s : List ℕ) (p : Parent) (at end next : ℕ) (a : SetReading) → at < end → Walkable s end → Proper s a
+    → (isSound a ≡ true → (at < next) × (next ≤ end))
     → (stopOf end (a then contentsOf s p next end) ≡ stopFrom s p (stopOf next a) end) × (at < stopOf next a)
 unfolding stopOf
 turned s p at end next (refused c o) l w r b = (stopped s p (refusalNumber c o) end (omega arith), omega arith)
@@ -62,8 +64,11 @@ turned s p at end next (sound ps) l w r b =
     (then-sound end ps (contentsOf s p next end) ∙ sym (from s p next end (h .1)), h .0)
 
 -- one turn of the loop, r being what reading one descriptor answered
-pub turn : (s : List ℕ) (p : Parent) (at end r : ℕ) → r ≡ stopAt s p at end → at < end → Walkable s end → (stopFrom s p at end ≡ stopFrom s p r end) × (at < r)
+pub turn : (s : List ℕ) (p : Parent) (at end r : ℕ) → r ≡ stopAt s p at end → at < end → Walkable s end
+    → (stopFrom s p at end ≡ stopFrom s p r end) × (at < r)
 turn s p at end r e l w =
     let d = descriptorAt s p at end in
-    let t = turned s p at end (at + descriptorSize d) (descriptor (contentsOf s) p at d) l w (one-proper s p at end l (w .within)) (ends-in s (contentsOf s) p at end d (known s p at end)) in
+    let t =
+    turned s p at end (at + descriptorSize d) (descriptor (contentsOf s) p at d) l w (one-proper s p at end l (w .within))
+    (ends-in s (contentsOf s) p at end d (known s p at end)) in
     rw e (from s p at end (omega arith) ∙ ap (stopOf end) (one-then s p at end l (w .within)) ∙ t .0, t .1)

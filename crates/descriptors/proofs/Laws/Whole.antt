@@ -17,7 +17,8 @@ headerTests : List ℕ → List Bool
 headerTests s = leb 10 (length s) ∷ eqb (lengthAt s 0) 10 ∷ eqb (typeAt s 0) 0 ∷ eqb (leAt 2 s 8) (length s) ∷ []
 
 module _ (s : List ℕ) where
-  words : 10 ≤ length s → (a b t : ℕ) → a ≡ lengthAt s 0 → b ≡ typeAt s 0 → t ≡ leAt 2 s 8 → (eqb a 10 && eqb b 0 && eqb t (length s)) ≡ goodHeader s
+  words : 10 ≤ length s → (a b t : ℕ) → a ≡ lengthAt s 0 → b ≡ typeAt s 0 → t ≡ leAt 2 s 8
+      → (eqb a 10 && eqb b 0 && eqb t (length s)) ≡ goodHeader s
   unfolding goodHeader
   words h a b t e f g = simp (le-leb _ _ h, e, f, g, and-assoc, and-true)
 
@@ -61,7 +62,8 @@ module _ (s : List ℕ) where
   good-set e = simp e
 
 -- a fault read off the number
-sound-fault : (s : List ℕ) (stop : ℕ) (f : SetReading) → Proper s f → stop ≡ stopOf (length s) f → stop < 65536 → _≡_ {A = Fault} (record { code = 0; offset = 0 }) (faultOf f)
+sound-fault : (s : List ℕ) (stop : ℕ) (f : SetReading) → Proper s f → stop ≡ stopOf (length s) f → stop < 65536
+    → _≡_ {A = Fault} (record { code = 0; offset = 0 }) (faultOf f)
 unfolding stopOf faultOf
 sound-fault s stop (refused c o) r e l = absurd (omega arith)
 sound-fault s stop (sound ps) r e l = refl

@@ -30,7 +30,9 @@ lit-nil n = omega arith
 -- nothing laid over a buffer leaves it
 pub nothing-laid : (d : List ℕ) (i : ℕ) → overlay d i [] ≡ d
 unfolding overlay
-nothing-laid d i = rw (take-all {A = ℕ} (length d - i) [] (lit-nil (length d - i)), add-zero i) (ap (λ l. l ++ drop i d) (append-nil (take i d)) ∙ take-append-drop i d)
+nothing-laid d i =
+    rw (take-all {A = ℕ} (length d - i) [] (lit-nil (length d - i)), add-zero i)
+    (ap (λ l. l ++ drop i d) (append-nil (take i d)) ∙ take-append-drop i d)
 
 -- what a place of face authentication holds
 held-place : (s : Settings) (i : ℕ) → i < places → settingsHeld s (i + 1) ≡ faceHeld (firstAddress + i) (getD (s .face) i 0)
@@ -62,7 +64,8 @@ below-all s = refl
 
 below-next : (s : Settings) (k : ℕ) → below s (k + 1) ≡ below s k ++ piece s k
 unfolding records piece
-below-next s k = records-split (recordsHeld s) k 1 0 ∙ ap (λ l. below s k ++ l) (append-nil _ ∙ ap (λ j. recordBytes (recordsHeld s j)) (add-zero k))
+below-next s k =
+    records-split (recordsHeld s) k 1 0 ∙ ap (λ l. below s k ++ l) (append-nil _ ∙ ap (λ j. recordBytes (recordsHeld s j)) (add-zero k))
 
 piece-short : (s : Settings) (k : ℕ) → length (piece s k) ≤ 24
 unfolding piece
@@ -123,15 +126,21 @@ module _ (s : Settings) (k : ℕ) {h : HeldSetting} (is-held : h ≡ heldSetting
     pub held-measured : Measured s n k → Measured s (n + len) (k + 1)
     held-measured w = measure-next s w (is-len ∙ ap length held-row)
 
-    pub held-written : {old out after : List ℕ} → Progress s old out n k → after ≡ overlay out n (recordHeld (settingHeld h)) → Progress s old after (n + len) (k + 1)
+    pub held-written : {old out after : List ℕ} → Progress s old out n k → after ≡ overlay out n (recordHeld (settingHeld h))
+        → Progress s old after (n + len) (k + 1)
     held-written w e = write-next s _ w held-row e (is-len ∙ ap length held-row)
 
-  pub held-last : {n : ℕ} {old out after : List ℕ} → Progress s old out n k → after ≡ overlay out n (recordHeld (settingHeld h)) → after ≡ overlay old 0 (below s (k + 1))
+  pub held-last : {n : ℕ} {old out after : List ℕ} → Progress s old out n k → after ≡ overlay out n (recordHeld (settingHeld h))
+      → after ≡ overlay old 0 (below s (k + 1))
   held-last w e = write-turn s _ w held-row e
 
-module _ (s : Settings) (i : ℕ) (h : i < places) {face : List ℕ} (is-face : face ≡ s .face) {len : ℕ} (is-len : len ≡ cond (eqb (getD face i 0) 0) 0 13) where
+module _ (s : Settings) (i : ℕ) (h : i < places) {face : List ℕ} (is-face : face ≡ s .face) {len : ℕ}
+    (is-len : len ≡ cond (eqb (getD face i 0) 0) 0 13) where
   place-row : recordHeld (faceHeld (firstAddress + i) (getD face i 0)) ≡ piece s (i + 1)
-  place-row = ap (λ (l : List ℕ). recordHeld (faceHeld (firstAddress + i) (getD l i 0))) is-face ∙ ap recordHeld (sym (held-place s i h)) ∙ piece-held s (i + 1)
+  place-row =
+      ap (λ (l : List ℕ). recordHeld (faceHeld (firstAddress + i) (getD l i 0))) is-face
+      ∙ ap recordHeld (sym (held-place s i h))
+      ∙ piece-held s (i + 1)
 
   place-length-is : len ≡ length (piece s (i + 1))
   place-length-is = is-len ∙ place-length (firstAddress + i) (getD face i 0) ∙ ap length place-row
@@ -139,7 +148,8 @@ module _ (s : Settings) (i : ℕ) (h : i < places) {face : List ℕ} (is-face : 
   pub place-measured : {n : ℕ} → Measured s n (i + 1) → Measured s (n + len) (i + 1 + 1)
   place-measured w = measure-next s w place-length-is
 
-  pub place-written : {n : ℕ} {old out after : List ℕ} → Progress s old out n (i + 1) → after ≡ overlay out n (recordHeld (faceHeld (firstAddress + i) (getD face i 0))) → Progress s old after (n + len) (i + 1 + 1)
+  pub place-written : {n : ℕ} {old out after : List ℕ} → Progress s old out n (i + 1)
+      → after ≡ overlay out n (recordHeld (faceHeld (firstAddress + i) (getD face i 0))) → Progress s old after (n + len) (i + 1 + 1)
   place-written w e = write-next s _ w place-row e place-length-is
 
 none-measured : (s : Settings) → Measured s 0 0
@@ -151,7 +161,8 @@ unfolding records
 none-written s old = record { measured = none-measured s; is = sym (no-bytes old) }
 
 -- the first key's
-module _ (s : Settings) {h : HeldSetting} (is-held : h ≡ heldSetting (settingsHeld s 0)) {len : ℕ} (is-len : len ≡ length (recordHeld (settingHeld h))) where
+module _ (s : Settings) {h : HeldSetting} (is-held : h ≡ heldSetting (settingsHeld s 0)) {len : ℕ}
+    (is-len : len ≡ length (recordHeld (settingHeld h))) where
   pub first-measured : Measured s len 1
   first-measured = rw zero-add at (held-measured s 0 is-held {n = 0} is-len (none-measured s))
 

@@ -32,7 +32,11 @@ length-place-requires c κs = search needs
 add-n : tie.Need-add-n Inv-loop μ-loop
 add-n c =
     let l = c .before in
-    omega (arith, place-measured _ _ (l .loop-test .taken) (l .before .loop .inv .1 .0) (c .length-place .ensures) (l .before .loop .inv .1 .1) .short)
+    omega (
+      arith,
+      place-measured _ _ (l .loop-test .taken) (l .before .loop .inv .1 .0) (c .length-place .ensures)
+          (l .before .loop .inv .1 .1) .short,
+    )
 
 add-i : tie.Need-add-i Inv-loop μ-loop
 add-i c = omega arith
@@ -42,25 +46,38 @@ loop-less c = omega arith
 
 loop-again : tie.Need-loop-again Inv-loop μ-loop
 loop-again c =
-    let l = c .before in
-    (omega arith, (l .before .loop .inv .1 .0, place-measured _ _ (l .loop-test .taken) (l .before .loop .inv .1 .0) (c .length-place .ensures) (l .before .loop .inv .1 .1)))
+    let l = c .before in (
+      omega arith,
+      (
+        l .before .loop .inv .1 .0,
+        place-measured _ _ (l .loop-test .taken) (l .before .loop .inv .1 .0)
+            (c .length-place .ensures) (l .before .loop .inv .1 .1),
+      ),
+    )
 
 -- the keys behind the places, one after the other
-places-measured : (c : tie.After-loop Inv-loop μ-loop) → Measured (c .before .before .before .before .before .args .s) (c .before .loop .n) (places + 1)
+places-measured : (c : tie.After-loop Inv-loop μ-loop)
+    → Measured (c .before .before .before .before .before .args .s) (c .before .loop .n) (places + 1)
 places-measured c =
     let e : c .before .loop .i ≡ places = omega (arith, c .before .loop .inv .0) in
-    subst (λ (k : ℕ). Measured (c .before .before .before .before .before .args .s) (c .before .loop .n) (k + 1)) e (c .before .loop .inv .1 .1)
+    subst (λ (k : ℕ). Measured (c .before .before .before .before .before .args .s) (c .before .loop .n) (k + 1)) e
+    (c .before .loop .inv .1 .1)
 
 metadata-measured : (c : tie.After-length-held2 Inv-loop μ-loop)
-    → Measured (c .before .before .before .before .before .before .before .args .s) (c .before .before .before .loop .n + c .length-held2 .result) (places + 2)
+    → Measured (c .before .before .before .before .before .before .before .args .s)
+    (c .before .before .before .loop .n + c .length-held2 .result) (places + 2)
 metadata-measured c = held-measured _ _ (c .before .held2 .ensures) (c .length-held2 .ensures) (places-measured (c .before .before))
 
 hdr-measured : (c : tie.After-length-held3 Inv-loop μ-loop)
-    → Measured (c .before .before .before .before .before .before .before .before .before .args .s) (c .before .before .before .before .before .loop .n + c .before .before .length-held2 .result + c .length-held3 .result) (places + 3)
+    → Measured (c .before .before .before .before .before .before .before .before .before .args .s)
+    (c .before .before .before .before .before .loop .n + c .before .before .length-held2 .result + c .length-held3 .result)
+    (places + 3)
 hdr-measured c = held-measured _ _ (c .before .held3 .ensures) (c .length-held3 .ensures) (metadata-measured (c .before .before))
 
 throttle-measured : (c : tie.After-length-held4 Inv-loop μ-loop)
-    → Measured (c .before .before .before .before .before .before .before .before .before .before .before .args .s) (c .before .before .before .before .before .before .before .loop .n + c .before .before .before .before .length-held2 .result + c .before .before .length-held3 .result + c .length-held4 .result) (places + 4)
+    → Measured (c .before .before .before .before .before .before .before .before .before .before .before .args .s)
+    (c .before .before .before .before .before .before .before .loop .n + c .before .before .before .before .length-held2 .result +
+    c .before .before .length-held3 .result + c .length-held4 .result) (places + 4)
 throttle-measured c = held-measured _ _ (c .before .held4 .ensures) (c .length-held4 .ensures) (hdr-measured (c .before .before))
 
 held-requires-2 : tie.Need-held-requires-2 Inv-loop μ-loop

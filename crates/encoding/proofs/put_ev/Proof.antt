@@ -59,7 +59,10 @@ unfolding recordOf bytesOf evBytes
 returns c =
     let k = c .before .before in
     let a = k .before .before .before .before .before .args in
-    k .copy .ensures ∙ ap (λ (e : List ℕ). overlay (a .out .now) (a .at) (15 ∷ 0 ∷ 3 ∷ 0 ∷ getD e 0 0 ∷ getD e 1 0 ∷ getD e 2 0 ∷ getD e 3 0 ∷ getD e 4 0 ∷ getD e 5 0 ∷ getD e 6 0 ∷ getD e 7 0 ∷ getD e 8 0 ∷ getD e 9 0 ∷ getD e 10 0 ∷ [])) (k .before .before .before .bytes .ensures)
+    k .copy .ensures
+    ∙ ap (λ (e : List ℕ). overlay (a .out .now) (a .at)
+    (15 ∷ 0 ∷ 3 ∷ 0 ∷ getD e 0 0 ∷ getD e 1 0 ∷ getD e 2 0 ∷ getD e 3 0 ∷ getD e 4 0 ∷ getD e 5 0 ∷ getD e 6 0 ∷ getD e 7 0 ∷ getD e 8
+    0 ∷ getD e 9 0 ∷ getD e 10 0 ∷ [])) (k .before .before .before .bytes .ensures)
 
 pub put-ev-spec : {M : Type 1} → statement M
 put-ev-spec =

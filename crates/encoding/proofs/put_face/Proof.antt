@@ -23,7 +23,9 @@ returns c =
     let k = c .before .before in
     let s = k .before .before .before .before in
     let a = s .args in
-    k .copy .ensures ∙ ap (λ (l : List ℕ). overlay (a .out .now) (a .at) (13 ∷ 0 ∷ 6 ∷ 0 ∷ 1 ∷ l)) (sym (entry-small (a .address) (a .flags) (s .fits .flags .fits)))
+    k .copy .ensures
+    ∙ ap (λ (l : List ℕ). overlay (a .out .now) (a .at) (13 ∷ 0 ∷ 6 ∷ 0 ∷ 1 ∷ l))
+    (sym (entry-small (a .address) (a .flags) (s .fits .flags .fits)))
 
 pub put-face-spec : {M : Type 1} → statement M
 put-face-spec = tie.close (tie.spec slice-aggregate-copy copy-requires same-length returns)

@@ -20,7 +20,8 @@ put-setting-requires c κs = search needs
 returns : tie.Need-returns
 returns c =
     let a = c .before .before .before .args in
-    sym (nothing-laid (a .out .now) (a .at)) ∙ sym (ap (λ (h : HeldSetting). overlay (a .out .now) (a .at) (recordHeld (settingHeld h))) (c .enum-told .given .1))
+    sym (nothing-laid (a .out .now) (a .at))
+    ∙ sym (ap (λ (h : HeldSetting). overlay (a .out .now) (a .at) (recordHeld (settingHeld h))) (c .enum-told .given .1))
 
 same-length : tie.Need-same-length
 same-length c = search needs

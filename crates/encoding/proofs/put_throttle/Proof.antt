@@ -55,7 +55,9 @@ returns c =
     let a = k .before .before .before .before .before .before .args in
     let p = k .before .before .before in
     k .copy .ensures
-    ∙ ap₂ (λ (m p : List ℕ). overlay (a .out .now) (a .at) (24 ∷ 0 ∷ 14 ∷ 0 ∷ getD m 0 0 ∷ getD m 1 0 ∷ getD m 2 0 ∷ getD m 3 0 ∷ getD p 0 0 ∷ getD p 1 0 ∷ getD p 2 0 ∷ getD p 3 0 ∷ 0 ∷ 0 ∷ 0 ∷ 0 ∷ 0 ∷ 0 ∷ 0 ∷ 0 ∷ 0 ∷ 0 ∷ 0 ∷ 0 ∷ [])) (p .before .bytes32 .ensures) (p .bytes322 .ensures)
+    ∙ ap₂ (λ (m p : List ℕ). overlay (a .out .now) (a .at)
+    (24 ∷ 0 ∷ 14 ∷ 0 ∷ getD m 0 0 ∷ getD m 1 0 ∷ getD m 2 0 ∷ getD m 3 0 ∷ getD p 0 0 ∷ getD p 1 0 ∷ getD p 2 0 ∷ getD p 3 0 ∷ 0 ∷ 0 ∷
+    0 ∷ 0 ∷ 0 ∷ 0 ∷ 0 ∷ 0 ∷ 0 ∷ 0 ∷ 0 ∷ 0 ∷ [])) (p .before .bytes32 .ensures) (p .bytes322 .ensures)
 
 pub put-throttle-spec : {M : Type 1} → statement M
 put-throttle-spec =

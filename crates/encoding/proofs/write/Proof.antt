@@ -72,32 +72,45 @@ loop-again c =
         w .0,
         (
           place-measured _ _ (l .loop-test .taken) (w .0) (c .length-place .ensures) (w .1 .0),
-          λ old start. place-written _ _ (l .loop-test .taken) (w .0) (c .length-place .ensures) (w .1 .1 old start) (p .put-place .ensures),
+          λ old start. place-written _ _ (l .loop-test .taken) (w .0) (c .length-place .ensures) (w .1 .1 old start)
+              (p .put-place .ensures),
         ),
       ),
     )
 
 -- the keys behind the places, one after the other
-places-written : (c : tie.After-loop Inv-loop μ-loop) → let a = c .before .before .before .before .before .before .before .before .before .before .args in Progress (a .s) (a .out .now) (c .before .loop .out) (c .before .loop .n) (places + 1)
+places-written : (c : tie.After-loop Inv-loop μ-loop)
+    → let a = c .before .before .before .before .before .before .before .before .before .before .args in Progress (a .s) (a .out .now)
+    (c .before .loop .out) (c .before .loop .n) (places + 1)
 places-written c =
     let l = c .before in
     let k = l .before in
     let p = k .before .before .before in
     let e : l .loop .i ≡ places = omega (arith, l .loop .inv .0) in
     let w = l .loop .inv .1 .1 .1 _ (first-written _ (p .before .before .held .ensures) (k .length-held .ensures) (p .put-held .ensures)) in
-    subst (λ (i : ℕ). Progress (c .before .before .before .before .before .before .before .before .before .before .args .s) (c .before .before .before .before .before .before .before .before .before .before .args .out .now) (l .loop .out) (l .loop .n) (i + 1)) e w
+    subst (λ (i : ℕ). Progress (c .before .before .before .before .before .before .before .before .before .before .args .s)
+    (c .before .before .before .before .before .before .before .before .before .before .args .out .now) (l .loop .out) (l .loop .n)
+    (i + 1)) e w
 
-metadata-written : (c : tie.After-length-held2 Inv-loop μ-loop) → let l = c .before .before .before .before .before .before .before in let a = l .before .before .before .before .before .before .before .before .before .args in
+metadata-written : (c : tie.After-length-held2 Inv-loop μ-loop)
+    → let l = c .before .before .before .before .before .before .before in let a =
+    l .before .before .before .before .before .before .before .before .before .args in
     Progress (a .s) (a .out .now) (c .before .before .before .put-held2 .last .0) (l .loop .n + c .length-held2 .result) (places + 2)
 metadata-written c =
     let p = c .before .before .before in
-    held-written _ _ (p .before .before .held2 .ensures) (c .length-held2 .ensures) (places-written (p .before .before .before)) (p .put-held2 .ensures)
+    held-written _ _ (p .before .before .held2 .ensures) (c .length-held2 .ensures) (places-written (p .before .before .before))
+    (p .put-held2 .ensures)
 
-hdr-written : (c : tie.After-length-held3 Inv-loop μ-loop) → let m = c .before .before .before .before .before .before in let l = m .before .before .before .before .before .before .before in let a = l .before .before .before .before .before .before .before .before .before .args in
-    Progress (a .s) (a .out .now) (c .before .before .before .put-held3 .last .0) (l .loop .n + m .length-held2 .result + c .length-held3 .result) (places + 3)
+hdr-written : (c : tie.After-length-held3 Inv-loop μ-loop)
+    → let m = c .before .before .before .before .before .before in let l =
+    m .before .before .before .before .before .before .before in let a =
+    l .before .before .before .before .before .before .before .before .before .args in
+    Progress (a .s) (a .out .now) (c .before .before .before .put-held3 .last .0)
+    (l .loop .n + m .length-held2 .result + c .length-held3 .result) (places + 3)
 hdr-written c =
     let p = c .before .before .before in
-    held-written _ _ (p .before .before .held3 .ensures) (c .length-held3 .ensures) (metadata-written (p .before .before .before)) (p .put-held3 .ensures)
+    held-written _ _ (p .before .before .held3 .ensures) (c .length-held3 .ensures) (metadata-written (p .before .before .before))
+    (p .put-held3 .ensures)
 
 held-requires-2 : tie.Need-held-requires-2 Inv-loop μ-loop
 held-requires-2 c κs = search needs
@@ -129,10 +142,12 @@ held-requires-4 c κs = search needs
 put-held-requires-4 : tie.Need-put-held-requires-4 Inv-loop μ-loop
 put-held-requires-4 c κs = search needs
 
-written : (c : tie.After-slice-known6 Inv-loop μ-loop) → let a = c .before .before .before .before .before .before .before .before .before .before .before .before .before .before .before .before .before .before .before .before .before .before .before .before .before .before .before .args in c .before .before .put-held4 .last .0 ≡ overlay (a .out .now) 0 (encoded (a .s))
+written : (c : tie.After-slice-known6 Inv-loop μ-loop)
+    → let a = c .before .before .before .before .before .before .before .before .before .before .before .before .before .before .before .before .before .before .before .before .before .before .before .before .before .before .before .args in c .before .before .put-held4 .last .0 ≡ overlay (a .out .now) 0 (encoded (a .s))
 written c =
     let p = c .before .before in
-    held-last _ _ (p .before .held4 .ensures) (hdr-written (p .before .before .before)) (p .put-held4 .ensures) ∙ ap (overlay _ 0) (below-all _)
+    held-last _ _ (p .before .held4 .ensures) (hdr-written (p .before .before .before)) (p .put-held4 .ensures)
+    ∙ ap (overlay _ 0) (below-all _)
 
 same-length : tie.Need-same-length Inv-loop μ-loop
 same-length c = ap length (written c) ∙ laid.same-length _ _ _

@@ -78,7 +78,8 @@ module _ (l : FaceLimits) (held s : List ℕ) (i : ℕ) (seen : List Bool) (next
   unfolding entryRefusal
   entry-unlisted h = rw (← ha, offers-none l address p hp h)
 
-  module _ (h : p < endpointLimit) (flags code : ℕ) (hf : flags ≡ leAt 7 s (1 + 8 * i + 1)) (hc : code ≡ entryTests (offersAt l p) (getD seen p false) flags) where
+  module _ (h : p < endpointLimit) (flags code : ℕ) (hf : flags ≡ leAt 7 s (1 + 8 * i + 1))
+      (hc : code ≡ entryTests (offersAt l p) (getD seen p false) flags) where
     abbrev flags-are : flags ≡ entryFlags s i
     flags-are = let e : 1 + 8 * i + 1 ≡ 2 + 8 * i = omega arith in hf ∙ ap (leAt 7 s) e
 
@@ -89,7 +90,8 @@ module _ (l : FaceLimits) (held s : List ℕ) (i : ℕ) (seen : List Bool) (next
     unfolding entryRefusal
     entry-listed = rw (← ha, offers-placed l address p hp h, ← mark-is, ← flags-are) hc
 
-    marks-next : length seen ≡ endpointLimit → (a : ℕ) → placeOf l a < endpointLimit → getD (set seen p true) (placeOf l a) false ≡ named s a (suc i)
+    marks-next : length seen ≡ endpointLimit → (a : ℕ) → placeOf l a < endpointLimit
+        → getD (set seen p true) (placeOf l a) false ≡ named s a (suc i)
     unfolding named
     marks-next room a g = go (eqb (entryAddress s i) a) refl
       where
@@ -98,7 +100,9 @@ module _ (l : FaceLimits) (held s : List ℕ) (i : ℕ) (seen : List Bool) (next
             let same : placeOf l a ≡ p = ap (placeOf l) (sym (ha ∙ eqb-true (entryAddress s i) a e)) ∙ sym hp in
             rw (same, or-true) (getD-set-same seen p true false (omega arith))
         go false e =
-            let other : placeOf l a ≡ p → ⊥ = λ q. eqb-false (entryAddress s i) a e (sym ha ∙ sym (address-placed l address p hp h) ∙ ap (addressAt l) (sym q) ∙ address-placed l a (placeOf l a) refl g) in
+            let other : placeOf l a ≡ p → ⊥ =
+            λ q. eqb-false (entryAddress s i) a e
+            (sym ha ∙ sym (address-placed l address p hp h) ∙ ap (addressAt l) (sym q) ∙ address-placed l a (placeOf l a) refl g) in
             rw or-false (getD-set-other seen p (placeOf l a) true false other ∙ w .marks a g)
 
     pub walked-next : length seen ≡ endpointLimit → code ≡ 0 → Walked l held s (i + 1) (set seen p true) (putFace next address flags)
@@ -114,11 +118,14 @@ module _ (l : FaceLimits) (held s : List ℕ) (i : ℕ) (seen : List Bool) (next
         go {j} false e g = let q = eqb-false j i e in w .passed j (omega arith)
 
 -- what a SET comes to: refused at entry i, or all of it taken
-module _ (l : FaceLimits) (held s : List ℕ) (n i : ℕ) (seen : List Bool) (next : List ℕ) (hn : n ≡ getD s 0 0) (w : Walked l held s i seen next) where
-  pub taken-refused : i < n → (code : ℕ) → code ≡ entryRefusal l s i → (code ≡ 0 → ⊥) → _≡_ {A = FacesTaken} (record { code = code; held = held }) (facesTaken l held s)
+module _ (l : FaceLimits) (held s : List ℕ) (n i : ℕ) (seen : List Bool) (next : List ℕ) (hn : n ≡ getD s 0 0)
+    (w : Walked l held s i seen next) where
+  pub taken-refused : i < n → (code : ℕ) → code ≡ entryRefusal l s i → (code ≡ 0 → ⊥)
+      → _≡_ {A = FacesTaken} (record { code = code; held = held }) (facesTaken l held s)
   unfolding facesTaken
   taken-refused h code e bad =
-      let r : firstRefusal (getD s 0 0) 0 (entryRefusal l s) ≡ code = rw (← hn) (stops (entryRefusal l s) n i (w .passed) h (λ z. bad (e ∙ z)) ∙ sym e) in
+      let r : firstRefusal (getD s 0 0) 0 (entryRefusal l s) ≡ code =
+      rw (← hn) (stops (entryRefusal l s) n i (w .passed) h (λ z. bad (e ∙ z)) ∙ sym e) in
       rw (r, ne-eqb code 0 bad)
 
   pub taken-all : i ≡ n → _≡_ {A = FacesTaken} (record { code = 0; held = next }) (facesTaken l held s)

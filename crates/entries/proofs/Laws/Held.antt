@@ -43,7 +43,8 @@ table-next l n i t k h g r e =
     let m : n - (i - 1) ≡ suc (n - i) = omega arith in
     let s : suc (i - 1) ≡ i = omega arith in
     let o : getD t k 0 ≡ offersFrom l (firstAddress + k) (n - i) (suc (i - 1)) = rw s e in
-    rw m (put-at t (addressAt l (i - 1)) (offersAt l (i - 1)) k r ∙ ap (cond (eqb (addressAt l (i - 1)) (firstAddress + k)) (offersAt l (i - 1))) o)
+    rw m (put-at t (addressAt l (i - 1)) (offersAt l (i - 1)) k r
+    ∙ ap (cond (eqb (addressAt l (i - 1)) (firstAddress + k)) (offersAt l (i - 1))) o)
 
 -- a setting held, by what the table has at its place
 pub kept-place : (present : Bool) (l : FaceLimits) (held : List ℕ) (i offers : ℕ) → offers ≡ cond present (offersOf l (firstAddress + i)) 0

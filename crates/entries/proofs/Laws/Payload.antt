@@ -20,7 +20,8 @@ unfolding faceSetLength
 set-length-empty l [] h = refl
 set-length-empty l (n ∷ s) h = absurd (omega arith)
 
-pub set-length-first : (l : FaceLimits) (s : List ℕ) → (length s ≡ 0 → ⊥) → faceSetLength l s ≡ cond (leb (getD s 0 0) (l .count)) (1 + 8 * getD s 0 0) 0
+pub set-length-first : (l : FaceLimits) (s : List ℕ) → (length s ≡ 0 → ⊥)
+    → faceSetLength l s ≡ cond (leb (getD s 0 0) (l .count)) (1 + 8 * getD s 0 0) 0
 unfolding faceSetLength
 set-length-first l [] p = absurd (p refl)
 set-length-first l (n ∷ s) p = refl
@@ -32,7 +33,9 @@ entry-flags n address flags h = number-bytes 7 flags h
 
 -- a payload of one entry, as a snapshot's record has it
 pub one-entry : (l : FaceLimits) (address flags : ℕ) → flags < 256
-    → faceItem l (1 ∷ entryOf address flags) 0 ≡ itemOf (firstOf ((eqb (offersOf l address) 0 ⇒ outOfRange) ∷ (not (isChoice (oneFlag (offersOf l address) flags)) ⇒ invalidValue) ∷ [])) (S.Face address flags)
+    → faceItem l (1 ∷ entryOf address flags) 0
+    ≡ itemOf (firstOf ((eqb (offersOf l address) 0 ⇒ outOfRange) ∷
+    (not (isChoice (oneFlag (offersOf l address) flags)) ⇒ invalidValue) ∷ [])) (S.Face address flags)
 unfolding faceItem entryRefusal seenIn
 one-entry l address flags h = rw (entry-flags 1 address flags (omega arith))
 
@@ -44,13 +47,15 @@ pub record Accepted (l : FaceLimits) (s : List ℕ) (i address flags : ℕ) : Ty
   pub new : seenBefore s i ≡ false
   pub sound : faceRefusal (offersOf l address) flags ≡ 0
 
-tests-passed : (a b c : Bool) → firstOf ((a ⇒ outOfRange) ∷ (b ⇒ invalidValue) ∷ (not c ⇒ invalidValue) ∷ []) ≡ 0 → (a ≡ false) × (b ≡ false) × (c ≡ true)
+tests-passed : (a b c : Bool) → firstOf ((a ⇒ outOfRange) ∷ (b ⇒ invalidValue) ∷ (not c ⇒ invalidValue) ∷ []) ≡ 0
+    → (a ≡ false) × (b ≡ false) × (c ≡ true)
 tests-passed true b c e = absurd (omega arith)
 tests-passed false true c e = absurd (omega arith)
 tests-passed false false false e = absurd (omega arith)
 tests-passed false false true e = (refl, refl, refl)
 
-pub accepted : (l : FaceLimits) (s : List ℕ) (i address flags : ℕ) → faceItem l s i ≡ Given (S.Face address flags) → Accepted l s i address flags
+pub accepted : (l : FaceLimits) (s : List ℕ) (i address flags : ℕ) → faceItem l s i ≡ Given (S.Face address flags)
+    → Accepted l s i address flags
 unfolding faceItem entryRefusal faceRefusal
 accepted l s i address flags e =
     let offers = offersOf l (entryAddress s i) in
@@ -71,7 +76,9 @@ accepted l s i address flags e =
 module _ (l : FaceLimits) (valid : faceValid l ≡ true) where
   pub len-taken : (rest : List ℕ) → faceSetLength l (l .count ∷ rest) ≡ 1 + 8 * endpointsOf l
   unfolding faceSetLength
-  len-taken rest = let e : l .count ≡ endpointsOf l = omega (arith, count-most l valid) in rw (le-leb (l .count) (l .count) (omega arith)) (ap (λ (n : ℕ). 1 + 8 * n) e)
+  len-taken rest =
+      let e : l .count ≡ endpointsOf l = omega (arith, count-most l valid) in
+      rw (le-leb (l .count) (l .count) (omega arith)) (ap (λ (n : ℕ). 1 + 8 * n) e)
 
   pub len-longest : (s : List ℕ) → faceSetLength l s ≤ 1 + 8 * endpointsOf l
   unfolding faceSetLength

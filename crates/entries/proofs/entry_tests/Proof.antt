@@ -10,7 +10,8 @@ use Rattle.entries.proofs.entry_tests.Tie as tie
 
 returns : tie.Need-returns
 returns c =
-    let e : outOfRange ≡ entryTests (c .before .args .offers) (c .before .args .seen) (c .before .args .flags) = rw (eq-eqb _ _ (c .if1 .taken)) in
+    let e : outOfRange ≡ entryTests (c .before .args .offers) (c .before .args .seen) (c .before .args .flags) =
+    rw (eq-eqb _ _ (c .if1 .taken)) in
     (e, λ z f. absurd (omega arith))
 
 returns-2 : tie.Need-returns-2
@@ -34,7 +35,8 @@ returns-3 c =
     let f = c .before .before in
     let a = f .before .before .before in
     let chosen = sym (f .one-flag .ensures) ∙ c .enum-told .given .1 in
-    let e : 0 ≡ entryTests (a .args .offers) (a .args .seen) (a .args .flags) = rw (ne-eqb _ _ (f .before .before .if1 .left), f .before .if2 .left, chosen) in
+    let e : 0 ≡ entryTests (a .args .offers) (a .args .seen) (a .args .flags) =
+    rw (ne-eqb _ _ (f .before .before .if1 .left), f .before .if2 .left, chosen) in
     (e, λ z small. chosen-below 8 (a .args .offers) (a .args .flags) _ (a .fits .offers .fits) small chosen)
 
 returns-4 : tie.Need-returns-4
@@ -42,7 +44,8 @@ unfolding isChoice
 returns-4 c =
     let f = c .before .before in
     let a = f .before .before .before .args in
-    let e : invalidValue ≡ entryTests (a .offers) (a .seen) (a .flags) = rw (ne-eqb _ _ (f .before .before .if1 .left), f .before .if2 .left, sym (f .one-flag .ensures) ∙ c .enum-told2 .given .1) in
+    let e : invalidValue ≡ entryTests (a .offers) (a .seen) (a .flags) =
+    rw (ne-eqb _ _ (f .before .before .if1 .left), f .before .if2 .left, sym (f .one-flag .ensures) ∙ c .enum-told2 .given .1) in
     (e, λ z small. absurd (omega arith))
 
 pub entry-tests-spec : {M : Type 1} → statement M

@@ -20,7 +20,8 @@ entry-tests-requires c κs = search needs
 returns : tie.Need-returns
 returns c =
     let f = c .before .before .before in
-    sym (first-refused _ _ _ _ _ _ (f .before .byte .ensures) (c .before .before .offers-of .ensures) (f .flag-word .ensures .0) (c .before .entry-tests .ensures .0) (c .if1 .taken))
+    sym (first-refused _ _ _ _ _ _ (f .before .byte .ensures) (c .before .before .offers-of .ensures) (f .flag-word .ensures .0)
+    (c .before .entry-tests .ensures .0) (c .if1 .taken))
 
 cast-t6 : tie.Need-cast-t6
 cast-t6 c =
@@ -30,7 +31,8 @@ cast-t6 c =
 returns-2 : tie.Need-returns-2
 returns-2 c =
     let f = c .before .before .before in
-    sym (first-given _ _ _ _ _ _ (f .before .byte .ensures) (c .before .before .offers-of .ensures) (f .flag-word .ensures .0) (c .before .entry-tests .ensures .0) (c .if1 .left))
+    sym (first-given _ _ _ _ _ _ (f .before .byte .ensures) (c .before .before .offers-of .ensures) (f .flag-word .ensures .0)
+    (c .before .entry-tests .ensures .0) (c .if1 .left))
 
 pub item-spec : {M : Type 1} → statement M
 item-spec =

@@ -43,7 +43,11 @@ loop-again : tie.Need-loop-again Inv-loop μ-loop
 unfolding allBelow
 loop-again c =
     let b = c .before .before in
-    let e : b .loop .ok && c .flags-kept .result ≡ allBelow (b .loop .i + 1) (λ k. flagsKept (getD (b .before .offers-by-place .result) k 0) (getD (b .before .before .args .t3) k 0)) = rw add-one (ap₂ _&&_ (b .loop .inv .1) (c .flags-kept .ensures)) in
+    let e : b .loop .ok
+    && c .flags-kept .result
+    ≡ allBelow (b .loop .i + 1)
+    (λ k. flagsKept (getD (b .before .offers-by-place .result) k 0) (getD (b .before .before .args .t3) k 0)) =
+    rw add-one (ap₂ _&&_ (b .loop .inv .1) (c .flags-kept .ensures)) in
     (omega arith, e)
 
 returns : tie.Need-returns Inv-loop μ-loop
@@ -52,7 +56,8 @@ returns c =
     let b = c .before in
     let a = b .before .before .args in
     let e : b .loop .i ≡ places = omega arith in
-    b .loop .inv .1 ∙ rw e (all-same places _ _ (λ i h. kept-place (a .present) (a .l) (a .t3) i _ (b .before .offers-by-place .ensures i h)))
+    b .loop .inv .1
+    ∙ rw e (all-same places _ _ (λ i h. kept-place (a .present) (a .l) (a .t3) i _ (b .before .offers-by-place .ensures i h)))
 
 pub kept-spec : {M : Type 1} → statement M
 kept-spec =

@@ -12,7 +12,9 @@ use Rattle.entries.proofs.offers_by_place.Statement.{statement}
 use Rattle.entries.proofs.offers_by_place.Tie as tie
 
 abbrev Inv-loop : tie.InvT-loop
-Inv-loop present l table₀ i₀ table i = (i ≤ i₀) × (i₀ ≤ endpointLimit) × (length table ≡ places) × ((k : ℕ) → k < places → getD table k 0 ≡ offersFrom l (firstAddress + k) (i₀ - i) i)
+Inv-loop present l table₀ i₀ table i =
+    (i ≤ i₀) × (i₀ ≤ endpointLimit) × (length table ≡ places)
+    × ((k : ℕ) → k < places → getD table k 0 ≡ offersFrom l (firstAddress + k) (i₀ - i) i)
 
 abbrev μ-loop : tie.MeasureT-loop
 μ-loop present l table₀ i₀ table i = i
@@ -54,8 +56,13 @@ loop-again c =
     let b = y .before .before .before .before .before in
     let l = b .before .before .before .args .t1 in
     let laid : y .lay .last .0 ≡ putFace (b .loop .table) (addressAt l (b .loop .i - 1)) (offersAt l (b .loop .i - 1)) = y .lay .ensures in
-    let long = ap length laid ∙ length-put (b .loop .table) _ _ ∙ b .loop .inv .2 in
-    (omega arith, b .loop .inv .1, long, λ k h. rw laid (table-next l _ (b .loop .i) (b .loop .table) k (omega arith) (omega arith) (omega arith) (b .loop .inv .3 k h)))
+    let long = ap length laid ∙ length-put (b .loop .table) _ _ ∙ b .loop .inv .2 in (
+      omega arith,
+      b .loop .inv .1,
+      long,
+      λ k h. rw laid
+          (table-next l _ (b .loop .i) (b .loop .table) k (omega arith) (omega arith) (omega arith) (b .loop .inv .3 k h)),
+    )
 
 returns-2 : tie.Need-returns-2 Inv-loop μ-loop
 unfolding offersOf
@@ -64,7 +71,8 @@ returns-2 c =
     let a = b .before .before .before .args in
     let e : b .loop .i ≡ 0 = omega arith in
     let n : b .before .endpoints-of .result - b .loop .i ≡ endpointsOf (a .t1) = omega (arith, b .before .endpoints-of .ensures .0) in
-    λ k h. rw (not-false (a .present) (b .before .before .if1 .left)) (b .loop .inv .3 k h ∙ ap₂ (offersFrom (a .t1) (firstAddress + k)) n e)
+    λ k h. rw (not-false (a .present) (b .before .before .if1 .left))
+    (b .loop .inv .3 k h ∙ ap₂ (offersFrom (a .t1) (firstAddress + k)) n e)
 
 pub offers-by-place-spec : {M : Type 1} → statement M
 offers-by-place-spec =

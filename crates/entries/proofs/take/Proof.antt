@@ -12,7 +12,8 @@ use Rattle.entries.proofs.take.Statement.{statement}
 use Rattle.entries.proofs.take.Tie as tie
 
 abbrev Inv-loop : tie.InvT-loop
-Inv-loop held payload l n seen₀ next₀ i₀ seen next i = (i ≤ n) × (length seen ≡ endpointLimit) × (length next ≡ places) × Walked l held payload i seen next
+Inv-loop held payload l n seen₀ next₀ i₀ seen next i =
+    (i ≤ n) × (length seen ≡ endpointLimit) × (length next ≡ places) × Walked l held payload i seen next
 
 abbrev μ-loop : tie.MeasureT-loop
 μ-loop held payload l n seen₀ next₀ i₀ seen next i = n - i
@@ -69,7 +70,8 @@ returns-2 c =
     let b = p .before .before .before in
     let w = b .loop .inv .3 in
     taken-refused _ _ _ _ _ _ _ (b .before .byte .ensures) w (p .before .before .loop-test .taken) _
-    (entry-listed _ _ _ _ _ _ w _ _ (p .before .byte2 .ensures) (p .place-of .ensures) (f .before .if1 .left) _ _ (f .flag-word .ensures .0) (r .entry-tests .ensures .0))
+    (entry-listed _ _ _ _ _ _ w _ _ (p .before .byte2 .ensures) (p .place-of .ensures) (f .before .if1 .left) _ _
+    (f .flag-word .ensures .0) (r .entry-tests .ensures .0))
     (c .if2 .taken)
 
 array-write-seen : tie.Need-array-write-seen Inv-loop μ-loop
@@ -102,7 +104,9 @@ loop-again c =
     let w = b .loop .inv .3 in
     let laid : y .lay .last .0 ≡ putFace (b .loop .next) (p .before .byte2 .result) (f .flag-word .result) = y .lay .ensures in
     let long = ap length laid ∙ length-put (b .loop .next) _ _ ∙ b .loop .inv .2 in
-    let on = walked-next _ _ _ _ _ _ w _ _ (p .before .byte2 .ensures) (p .place-of .ensures) (f .before .if1 .left) _ _ (f .flag-word .ensures .0) (r .entry-tests .ensures .0) (b .loop .inv .1) (y .before .before .if2 .left) in
+    let on =
+    walked-next _ _ _ _ _ _ w _ _ (p .before .byte2 .ensures) (p .place-of .ensures) (f .before .if1 .left) _ _
+    (f .flag-word .ensures .0) (r .entry-tests .ensures .0) (b .loop .inv .1) (y .before .before .if2 .left) in
     (omega arith, simp length-set (b .loop .inv .1), long, rw laid on)
 
 returns-3 : tie.Need-returns-3 Inv-loop μ-loop

@@ -68,10 +68,13 @@ module _ (l : EvLimits) (flags : ℕ) (v : ℤ) where
 -- the value of a setting in range of valid limits is small
 module _ (l : EvLimits) (h : evValid l ≡ true) where
   low-small : mag (l .minimum) < 128
-  low-small = let p = simp and-eq-true-iff at h in between 128 (negsuc 127) (l .minimum) (pos 0) (p .0 .0 .0 .0 .0) (p .0 .0 .0 .0 .1) (lit< tt) (lit< tt)
+  low-small =
+      let p = simp and-eq-true-iff at h in
+      between 128 (negsuc 127) (l .minimum) (pos 0) (p .0 .0 .0 .0 .0) (p .0 .0 .0 .0 .1) (lit< tt) (lit< tt)
 
   high-small : mag (l .maximum) < 128
-  high-small = let p = simp and-eq-true-iff at h in between 128 (pos 0) (l .maximum) (pos 127) (p .0 .0 .0 .1) (p .0 .0 .1) (lit< tt) (lit< tt)
+  high-small =
+      let p = simp and-eq-true-iff at h in between 128 (pos 0) (l .maximum) (pos 127) (p .0 .0 .0 .1) (p .0 .0 .1) (lit< tt) (lit< tt)
 
   pub range-small : (place : ℕ) (v : ℤ) → inRange l (divisor place) v ≡ true → mag v < 1024
   unfolding inRange
@@ -124,9 +127,11 @@ module _ (s : EvSetting) (h : s .flags < 256) (f : SFits w32 (s .value)) where
   ev-read l = rw (ev-flags, ev-value)
 
 -- and a payload of that length is that of the setting it reads as
-pub ev-bytes : (payload : List ℕ) → length payload ≡ 11 → Bytes payload → evBytes (record { flags = evFlags payload; value = evValue payload }) ≡ payload
+pub ev-bytes : (payload : List ℕ) → length payload ≡ 11 → Bytes payload
+    → evBytes (record { flags = evFlags payload; value = evValue payload }) ≡ payload
 unfolding evBytes
 ev-bytes payload n b =
     let value : bits32 (evValue payload) ≡ leAt 4 payload 7 = bits-signed (leAt 4 payload 7) (below 4 4 payload 7 b (lit≤ tt)) in
     let rest : take 4 (drop 7 payload) ≡ drop 7 payload = take-all 4 (drop 7 payload) (simp length-drop (omega arith)) in
-    ap₂ _++_ (bytes-at 7 payload 0 (omega arith) b) (ap (bytesOf 4) value ∙ bytes-at 4 payload 7 (omega arith) b ∙ rest) ∙ take-append-drop 7 payload
+    ap₂ _++_ (bytes-at 7 payload 0 (omega arith) b) (ap (bytesOf 4) value ∙ bytes-at 4 payload 7 (omega arith) b ∙ rest)
+    ∙ take-append-drop 7 payload

@@ -24,7 +24,8 @@ unfolding evAnswer
 returns c =
     let b = c .before .before in
     let code = b .before .before .args .code in
-    c .answer-by .ensures ∙ ap (λ (s : List ℕ). packed (answerBy code 11 0x13 s)) (b .bytes .ensures ∙ ap evBytes (b .before .attribute .ensures))
+    c .answer-by .ensures
+    ∙ ap (λ (s : List ℕ). packed (answerBy code 11 0x13 s)) (b .bytes .ensures ∙ ap evBytes (b .before .attribute .ensures))
 
 pub answer-spec : {M : Type 1} → statement M
 answer-spec =

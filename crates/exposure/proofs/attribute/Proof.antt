@@ -12,7 +12,8 @@ use Rattle.exposure.proofs.attribute.Statement.{statement}
 use Rattle.exposure.proofs.attribute.Tie as tie
 
 -- D4 with a limit
-with-limit : (z : ℤ) → SFits w32 z → _≡_ {A = EvSetting} (record { flags = 16; value = toZ w32 (ofZ w32 z) }) (record { flags = 16; value = z })
+with-limit : (z : ℤ) → SFits w32 z
+    → _≡_ {A = EvSetting} (record { flags = 16; value = toZ w32 (ofZ w32 z) }) (record { flags = 16; value = z })
 with-limit z f = rw (toZ-ofZ f)
 
 returns : tie.Need-returns
@@ -54,7 +55,13 @@ unfolding evAttribute
 returns-6 c =
     let b = c .before in
     let code = b .before .before .before .args .code in
-    rw (ne-eqb code getMin (b .before .before .if1 .left), ne-eqb code getMax (b .before .if2 .left), ne-eqb code getRes (b .if3 .left), ne-eqb code getCur (c .if4 .left))
+    rw (
+      ne-eqb code getMin (b .before .before .if1 .left),
+      ne-eqb code getMax (b .before .if2 .left),
+      ne-eqb code getRes
+          (b .if3 .left),
+      ne-eqb code getCur (c .if4 .left),
+    )
 
 pub attribute-spec : {M : Type 1} → statement M
 attribute-spec =

@@ -36,7 +36,8 @@ returns c =
     let s = c .before .before .before .args .s in
     let f : SFits w32 (s .value) = search needs in
     let h : s .flags < 256 = search needs in
-    let e : c .bytes32 .result ≡ bytesOf 4 (bits32 (s .value)) = c .bytes32 .ensures ∙ ap (bytesOf 4) (c .before .bits32 .ensures ∙ ap bits32 (toZ-ofZ f)) in
+    let e : c .bytes32 .result ≡ bytesOf 4 (bits32 (s .value)) =
+    c .bytes32 .ensures ∙ ap (bytesOf 4) (c .before .bits32 .ensures ∙ ap bits32 (toZ-ofZ f)) in
     ap (λ (l : List ℕ). s .flags ∷ 0 ∷ 0 ∷ 0 ∷ 0 ∷ 0 ∷ 0 ∷ getD l 0 0 ∷ getD l 1 0 ∷ getD l 2 0 ∷ getD l 3 0 ∷ []) e
     ∙ ap (λ (l : List ℕ). l ++ bytesOf 4 (bits32 (s .value))) (sym (bytes-byte 6 (s .flags) h))
 

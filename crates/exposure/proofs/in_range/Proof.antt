@@ -50,7 +50,9 @@ cast-result-4 : tie.Need-cast-result-4
 cast-result-4 c = search needs
 
 mul-result-2 : tie.Need-mul-result-2
-mul-result-2 c = limit-fits (c .before .before .before .before .args .l .maximum) (search needs) (c .before .before .before .before .args .d) (search needs)
+mul-result-2 c =
+    limit-fits (c .before .before .before .before .args .l .maximum) (search needs) (c .before .before .before .before .args .d)
+    (search needs)
 
 returns : tie.Need-returns
 unfolding inRange
@@ -60,7 +62,8 @@ returns c =
     let g : SFits w32 (a .l .maximum) = search needs in
     let h : SFits w32 (a .value) = search needs in
     let d : Fits w8 (a .d) = search needs in
-    ap₂ _&&_ (ap₂ leZ (limit-is (a .l .minimum) f (a .d) d) (widened-is (a .value) h)) (ap₂ leZ (widened-is (a .value) h) (limit-is (a .l .maximum) g (a .d) d))
+    ap₂ _&&_ (ap₂ leZ (limit-is (a .l .minimum) f (a .d) d) (widened-is (a .value) h))
+    (ap₂ leZ (widened-is (a .value) h) (limit-is (a .l .maximum) g (a .d) d))
 
 pub in-range-spec : {M : Type 1} → statement M
 in-range-spec =

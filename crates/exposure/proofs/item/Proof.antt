@@ -23,7 +23,9 @@ module _ (c : tie.After-refusal) where
   payload = c .before .before .before .before .before .args .payload .now
 
   value-is : toZ w32 (ofZ w32 (c .before .signed32 .result)) ≡ evValue payload
-  value-is = let f : SFits w32 (c .before .signed32 .result) = search needs in toZ-ofZ f ∙ c .before .signed32 .ensures ∙ ap signed32 (c .before .before .le32 .ensures)
+  value-is =
+      let f : SFits w32 (c .before .signed32 .result) = search needs in
+      toZ-ofZ f ∙ c .before .signed32 .ensures ∙ ap signed32 (c .before .before .le32 .ensures)
 
   code-is : c .refusal .result ≡ evRefusal l (evFlags payload) (evValue payload)
   code-is = c .refusal .ensures ∙ ap₂ (evRefusal l) (c .before .before .before .flag-word .ensures .0) value-is
@@ -54,7 +56,8 @@ cast-t8 c =
 returns-2 : tie.Need-returns-2
 unfolding evItem
 returns-2 c =
-    ap₂ {C = Item} (λ (n : ℕ) (z : ℤ). Given (Ev (record { flags = n; value = z }))) (c .before .before .before .before .flag-word .ensures .0) (value-is (c .before))
+    ap₂ {C = Item} (λ (n : ℕ) (z : ℤ). Given (Ev (record { flags = n; value = z })))
+    (c .before .before .before .before .flag-word .ensures .0) (value-is (c .before))
     ∙ sym (item-given _ _ (sym (code-is (c .before)) ∙ c .if1 .left))
 
 pub item-spec : {M : Type 1} → statement M

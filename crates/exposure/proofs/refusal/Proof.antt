@@ -25,7 +25,9 @@ module _ (c : tie.After-in-range) where
   chosen = sym (c .before .before .before .before .before .one-flag .ensures) ∙ c .before .before .before .place .given .1
 
   ranged : c .in-range .result ≡ inRange l (divisor place) value
-  ranged = c .in-range .ensures ∙ ap₂ (inRange l) (c .before .divisor .ensures) (toZ-ofZ (c .before .before .before .before .before .before .fits .value))
+  ranged =
+      c .in-range .ensures
+      ∙ ap₂ (inRange l) (c .before .divisor .ensures) (toZ-ofZ (c .before .before .before .before .before .before .fits .value))
 
 one-flag-requires : tie.Need-one-flag-requires
 one-flag-requires c κs = search needs

@@ -93,7 +93,8 @@ mul-result : tie.Need-mul-result
 mul-result c = times-fits (c .before .before)
 
 returns-2 : tie.Need-returns-2
-returns-2 c = sym (scaled-flags _ _ (valid (c .before .before .before .before)) (sym (c .before .before .one-flag .ensures) ∙ c .enum-told .given .1))
+returns-2 c =
+    sym (scaled-flags _ _ (valid (c .before .before .before .before)) (sym (c .before .before .one-flag .ensures) ∙ c .enum-told .given .1))
 
 returns-3 : tie.Need-returns-3
 returns-3 c =

@@ -39,7 +39,8 @@ module _ (l : FaceLimits) (valid : faceValid l ≡ true) where
   unfolding faceValid
   count-most = leb-true (l .count) endpointLimit (simp and-eq-true-iff at valid .0 .1)
 
-  place-valid : (i : ℕ) → i < l .count → (addressBefore l i < addressAt l i) × (addressAt l i ≤ lastAddress) × (2 ≤ offersAt l i) × (offersAt l i ≤ 5)
+  place-valid : (i : ℕ) → i < l .count
+      → (addressBefore l i < addressAt l i) × (addressAt l i ≤ lastAddress) × (2 ≤ offersAt l i) × (offersAt l i ≤ 5)
   unfolding faceValid endpointValid
   place-valid i h =
       let v = all-at endpointLimit (endpointValid l) (simp and-eq-true-iff at valid .1) i (omega (arith, count-most)) in

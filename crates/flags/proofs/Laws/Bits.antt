@@ -96,7 +96,9 @@ module _ (offered word : ℕ) where
   zeros-bits : ones n ≡ 1 → trailingZeros 64 n ≡ first (bitsOf 56 word)
   zeros-bits p =
       let q : 0 < count (bitsOf 56 n) = omega (arith, ones-bits, ap count (low-bits 56 word)) in
-      ap (trailingZeros 64) (sym (value-bits 56 n small)) ∙ zeros-value 64 (bitsOf 56 n) q (omega (arith, length-bits 56 n)) ∙ ap first (low-bits 56 word)
+      ap (trailingZeros 64) (sym (value-bits 56 n small))
+      ∙ zeros-value 64 (bitsOf 56 n) q (omega (arith, length-bits 56 n))
+      ∙ ap first (low-bits 56 word)
 
   pub not-one : (ones n ≡ 1 → ⊥) → oneFlag offered word ≡ Refused
   unfolding oneFlag
@@ -132,7 +134,8 @@ module _ (w offered word p : ℕ) (h : offered < 2 ^ w) (g : word < 2 ^ 56) (e :
   abbrev bits : List Bool
   bits = bitsOf 56 word
 
-  tested : (a b : Bool) → eqb (count bits) 1 ≡ a → isSet offered (first bits) ≡ b → cond (a && b) (At (first bits)) Refused ≡ At p → (word ≡ 2 ^ p) × (p < w)
+  tested : (a b : Bool) → eqb (count bits) 1 ≡ a → isSet offered (first bits) ≡ b → cond (a && b) (At (first bits)) Refused ≡ At p
+      → (word ≡ 2 ^ p) × (p < w)
   tested true true m n f =
       let q : first bits ≡ p = cc in
       rw (← q) (sym (value-bits 56 word g) ∙ one-value bits (eqb-true (count bits) 1 m), set-below w offered (first bits) h n)

@@ -11,7 +11,8 @@ use Rattle.flags.proofs.one_flag.Tie as tie
 
 -- past the count, the place of the one flag where it is offered
 placed : (c : tie.After-is-set)
-    → cond (c .is-set .result) (At (trailingZeros 64 (c .before .before .args .word % 2 ^ 56))) Refused ≡ oneFlag (c .before .before .args .offered) (c .before .before .args .word)
+    → cond (c .is-set .result) (At (trailingZeros 64 (c .before .before .args .word % 2 ^ 56))) Refused
+    ≡ oneFlag (c .before .before .args .offered) (c .before .before .args .word)
 placed c =
     let a = c .before .before .args in
     ap (λ (b : Bool). cond b (At (trailingZeros 64 (a .word % 2 ^ 56))) Refused) (c .is-set .ensures)

@@ -38,7 +38,8 @@ module _ (room at id len : ℕ) where
       let q = quiet ((_ ⇒ unknownId) ∷ (_ ⇒ tooLong) ∷ (_ ⇒ noRoom) ∷ []) [] refl e .0 in
       record { known = not-false _ (q .0); short = ltb-false _ _ (q .1 .0); roomy = ltb-false _ _ (q .1 .1 .0) }
 
-  pub refuses : (code : ℕ) → code ≡ appendRefusal room at id len → (code ≡ 0 → ⊥) → _≡_ {A = Appended} (record { code = code; end = 0 }) (appendedOf room at id len)
+  pub refuses : (code : ℕ) → code ≡ appendRefusal room at id len → (code ≡ 0 → ⊥)
+      → _≡_ {A = Appended} (record { code = code; end = 0 }) (appendedOf room at id len)
   unfolding appendedOf
   refuses code e n = rw (← e) (simp (ne-eqb _ _ n))
 
@@ -51,7 +52,8 @@ module _ (room at id len : ℕ) where
   accepts = go (eqb (appendRefusal room at id len) 0) refl
     where
       go : (b : Bool) → eqb (appendRefusal room at id len) 0 ≡ b
-          → cond {A = Appended} b (record { code = 0; end = endOf at len }) (record { code = appendRefusal room at id len; end = 0 }) .code ≡ 0 → appendRefusal room at id len ≡ 0
+          → cond {A = Appended} b (record { code = 0; end = endOf at len })
+          (record { code = appendRefusal room at id len; end = 0 }) .code ≡ 0 → appendRefusal room at id len ≡ 0
       go true t e = eqb-true _ _ t
       go false t e = e
 
@@ -65,13 +67,15 @@ module _ (buf : List ℕ) (at id : ℕ) (payload : List ℕ) where
   writes e = simp (eq-eqb _ _ e)
 
 -- two pieces laid one behind the other are one piece
-pub in-turn : (d : List ℕ) (at : ℕ) (s t : List ℕ) → at + (length s + length t) ≤ length d → overlay (overlay d at s) (at + length s) t ≡ overlay d at (s ++ t)
+pub in-turn : (d : List ℕ) (at : ℕ) (s t : List ℕ) → at + (length s + length t) ≤ length d
+    → overlay (overlay d at s) (at + length s) t ≡ overlay d at (s ++ t)
 in-turn d at s t h =
     let one : overlay d at s ≡ (take at d ++ s) ++ drop (at + length s) d = fits d at s (omega arith) in
     let n : length (take at d ++ s) ≡ at + length s = simp (length-append, length-take) (omega arith) in
     let room : (at + length s) + length t ≤ length (overlay d at s) = rw same-length (omega arith) in
     let front : take (at + length s) (overlay d at s) ≡ take at d ++ s = ap (take (at + length s)) one ∙ take-at (take at d ++ s) _ _ n in
-    let back : drop (at + length s) (overlay d at s) ≡ drop (at + length s) d = ap (drop (at + length s)) one ∙ drop-at (take at d ++ s) _ _ n in
+    let back : drop (at + length s) (overlay d at s) ≡ drop (at + length s) d =
+    ap (drop (at + length s)) one ∙ drop-at (take at d ++ s) _ _ n in
     let last : drop (at + length s + length t) (overlay d at s) ≡ drop (at + length s + length t) d =
     sym (drop-drop (length t) (at + length s) _) ∙ ap (drop (length t)) back ∙ drop-drop (length t) (at + length s) d in
     let m : at + length s + length t ≡ at + length (s ++ t) = simp length-append (omega arith) in
@@ -89,5 +93,6 @@ pub item-in-turn : (d : List ℕ) (at id : ℕ) (payload a b c : List ℕ) → a
 unfolding bytesOf itemBytes
 item-in-turn d at id payload a b c h e f g =
     let size = bytesOf 4 (8 + length payload) in
-    let two : b ≡ overlay d at (bytesOf 4 id ++ size) = f ∙ ap (λ (x : List ℕ). overlay x (at + 4) size) e ∙ in-turn d at (bytesOf 4 id) size (omega arith) in
+    let two : b ≡ overlay d at (bytesOf 4 id ++ size) =
+    f ∙ ap (λ (x : List ℕ). overlay x (at + 4) size) e ∙ in-turn d at (bytesOf 4 id) size (omega arith) in
     g ∙ ap (λ (x : List ℕ). overlay x (at + 8) payload) two ∙ in-turn d at (bytesOf 4 id ++ size) payload (omega arith)

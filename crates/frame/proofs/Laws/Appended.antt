@@ -29,7 +29,8 @@ step s is p ih at k js =
     let long : 8 ≤ p .size = p .head .long in
     let inside : p .size ≤ length s = p .head .inside in
     let len : length (take (p .size - 8) (drop 8 s)) ≡ p .size - 8 = simp (length-take, length-drop) (omega arith) in
-    let next : at + (8 + length (take (p .size - 8) (drop 8 s))) + length (drop (p .size) s) ≡ at + length s = simp length-drop (omega arith) in
+    let next : at + (8 + length (take (p .size - 8) (drop 8 s))) + length (drop (p .size) s) ≡ at + length s =
+    simp length-drop (omega arith) in
     let one : suc (length (p .rest)) + k ≡ suc (length (p .rest) + k) = omega arith in
     rw (p .whole, one) (ih (at + (8 + length (take (p .size - 8) (drop 8 s)))) k js ∙ ap (λ (n : ℕ). nthItem n k js) next)
 
@@ -38,7 +39,8 @@ behind-it = every Behind (λ at k js. ap₂ (λ (n m : ℕ). nthItem n m js) (om
 
 -- one item behind the others
 pub last-item : (s : List ℕ) (is : List MetadataItem) (i : MetadataItem) → itemsFrom s ≡ sound is
-    → nthItem 0 (length is) (is ++ i ∷ []) ≡ record { code = 0; id = i .id; payload = record { at = length s + 8; len = length (i .payload) } }
+    → nthItem 0 (length is) (is ++ i ∷ [])
+    ≡ record { code = 0; id = i .id; payload = record { at = length s + 8; len = length (i .payload) } }
 unfolding nthItem
 last-item s is i e =
     let n : length is ≡ length is + 0 = omega arith in
@@ -54,7 +56,8 @@ pub sound-block : (s : List ℕ) (is : List MetadataItem) → blockItems s ≡ s
 unfolding blockItems
 sound-block s is e = go (ltb longestBlock (length s)) refl e
   where
-    go : (b : Bool) → ltb longestBlock (length s) ≡ b → cond b (refused tooLong) (itemsFrom s) ≡ sound is → (length s ≤ longestBlock) × (itemsFrom s ≡ sound is)
+    go : (b : Bool) → ltb longestBlock (length s) ≡ b → cond b (refused tooLong) (itemsFrom s) ≡ sound is
+        → (length s ≤ longestBlock) × (itemsFrom s ≡ sound is)
     go true t f = absurd (let z : _≡_ {A = ℕ} 0 1 = cc in omega arith)
     go false t f = (ltb-false _ _ t, f)
 
@@ -62,7 +65,8 @@ then-sound : (is js : List MetadataItem) → (is then sound js) ≡ sound (is ++
 then-sound [] js = refl
 then-sound (i ∷ is) js = ap (λ (f : BlockReading). i before f) (then-sound is js)
 
-module _ (block buf : List ℕ) (id : ℕ) (payload : List ℕ) (begins : take (length block) buf ≡ block) (a : appendRefusal (length buf) (length block) id (length payload) ≡ 0) where
+module _ (block buf : List ℕ) (id : ℕ) (payload : List ℕ) (begins : take (length block) buf ≡ block)
+    (a : appendRefusal (length buf) (length block) id (length payload) ≡ 0) where
   abbrev new : List ℕ
   new = take (length block + 8 + length payload) (writtenOf buf (length block) id payload)
 
@@ -74,16 +78,21 @@ module _ (block buf : List ℕ) (id : ℕ) (payload : List ℕ) (begins : take (
       let m : length (block ++ itemBytes id payload) ≡ length block + 8 + length payload = simp length-append (omega arith) in
       let behind : List ℕ = drop (length block + length (itemBytes id payload)) buf in
       let whole : writtenOf buf (length block) id payload ≡ block ++ itemBytes id payload ++ behind =
-      sym (writes buf (length block) id payload a) ∙ overlays.fits buf (length block) (itemBytes id payload) room ∙ ap (λ (l : List ℕ). l ++ itemBytes id payload ++ behind) begins in
+      sym (writes buf (length block) id payload a)
+      ∙ overlays.fits buf (length block) (itemBytes id payload) room
+      ∙ ap (λ (l : List ℕ). l ++ itemBytes id payload ++ behind) begins in
       ap (take (length block + 8 + length payload)) whole ∙ take-at (block ++ itemBytes id payload) _ _ m
 
   pub new-length : length new ≡ length block + 8 + length payload
   new-length = ap length new-is ∙ simp (length-append, length-item) (omega arith)
 
-  pub new-items : (is : List MetadataItem) → itemsFrom block ≡ sound is → id < 256 ^ 4 → itemsFrom new ≡ sound (is ++ record { id = id; payload = payload } ∷ [])
+  pub new-items : (is : List MetadataItem) → itemsFrom block ≡ sound is → id < 256 ^ 4
+      → itemsFrom new ≡ sound (is ++ record { id = id; payload = payload } ∷ [])
   new-items is e small =
       let f = accepted (length buf) (length block) id (length payload) a in
       let i : MetadataItem = record { id = id; payload = payload } in
-      let one : itemsFrom (itemBytes id payload) ≡ (i before itemsFrom []) = ap itemsFrom (sym (append-nil (itemBytes id payload))) ∙ reads id payload [] (f .known) small (omega arith) in
-      let last : itemsFrom (itemBytes id payload) ≡ sound (i ∷ []) = one ∙ ap (λ (g : BlockReading). i before g) (nothing-left [] (omega arith)) in
+      let one : itemsFrom (itemBytes id payload) ≡ (i before itemsFrom []) =
+      ap itemsFrom (sym (append-nil (itemBytes id payload))) ∙ reads id payload [] (f .known) small (omega arith) in
+      let last : itemsFrom (itemBytes id payload) ≡ sound (i ∷ []) =
+      one ∙ ap (λ (g : BlockReading). i before g) (nothing-left [] (omega arith)) in
       ap itemsFrom new-is ∙ join (itemBytes id payload) block is e ∙ ap (λ (g : BlockReading). is then g) last ∙ then-sound is _

@@ -14,7 +14,8 @@ none zero s h = refl
 none (suc n) s h = simp (le-ltb _ _ h)
 
 -- two readers that agree on every shorter rest
-same : (f g : List ℕ → BlockReading) (s : List ℕ) (h : Head) → Says s h → ((t : List ℕ) → length t < length s → f t ≡ g t) → follow f s h ≡ follow g s h
+same : (f g : List ℕ → BlockReading) (s : List ℕ) (h : Head) → Says s h → ((t : List ℕ) → length t < length s → f t ≡ g t)
+    → follow f s h ≡ follow g s h
 same f g s (Bad code) w k = refl
 same f g s (Whole id size) w k =
     ap (λ (r : BlockReading). itemIn s id size before r) (k (drop size s) (simp length-drop (omega (arith, w .long, w .inside))))
@@ -44,4 +45,5 @@ unfolding itemsFrom
 one-then s h =
     enough (length s) (suc (length s)) s (omega arith) (omega arith)
     ∙ step (length s) s h
-    ∙ same (itemsIn (length s)) (λ (t : List ℕ). itemsIn (length t) t) s (firstItem s) (says s) (λ t r. enough (length s) (length t) t (omega arith) (omega arith))
+    ∙ same (itemsIn (length s)) (λ (t : List ℕ). itemsIn (length t) t) s (firstItem s) (says s)
+    (λ t r. enough (length s) (length t) t (omega arith) (omega arith))

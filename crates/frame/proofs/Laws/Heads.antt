@@ -33,7 +33,8 @@ module _ (s : List ℕ) where
 
     pub head-whole : (size : ℕ) → size ≡ itemSize s → known ≡ true → 8 ≤ size → size ≤ length s → Whole id size ≡ firstItem s
     unfolding firstItem itemRefusal
-    head-whole size e b c d = simp (i, e, le-ltb _ _ a, is true b, le-ltb (itemSize s) 8 (omega arith), le-ltb (length s) (itemSize s) (omega arith))
+    head-whole size e b c d =
+        simp (i, e, le-ltb _ _ a, is true b, le-ltb (itemSize s) 8 (omega arith), le-ltb (length s) (itemSize s) (omega arith))
 
 -- none of the tests of the item that s begins with held
 pub record Sound (s : List ℕ) (id size : ℕ) : Type 0 where
@@ -52,7 +53,14 @@ tests : (s : List ℕ) → itemRefusal s ≡ 0 → Sound s (itemId s) (itemSize 
 unfolding itemRefusal
 tests s e =
     let q = quiet ((ltb (length s) 8 ⇒ truncated) ∷ (_ ⇒ unknownId) ∷ (_ ⇒ shortSize) ∷ (_ ⇒ truncated) ∷ []) [] refl e .0 in
-    record { known = not-false _ (q .1 .0); long = ltb-false _ _ (q .1 .1 .0); inside = ltb-false _ _ (q .1 .1 .1 .0); its-id = refl; its-size = refl }
+    record {
+      known = not-false _ (q .1 .0);
+      long = ltb-false _ _ (q .1 .1 .0);
+      inside = ltb-false _ _
+          (q .1 .1 .1 .0);
+      its-id = refl;
+      its-size = refl;
+    }
 
 pub says : (s : List ℕ) → Says s (firstItem s)
 unfolding firstItem

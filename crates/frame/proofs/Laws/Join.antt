@@ -38,7 +38,8 @@ split s is l e = go (firstItem s) refl (sym (one-then s l) ∙ e)
     go (Whole id size) h q = last id size h (itemsFrom (drop size s)) refl q
 
 -- what holds of no bytes, and of a sound block where it holds of the block behind its first item, holds of every sound block
-module _ (P : List ℕ → List MetadataItem → Type 0) (nil : P [] []) (more : (s : List ℕ) (is : List MetadataItem) (p : Split s is) → P (drop (p .size) s) (p .rest) → P s is) where
+module _ (P : List ℕ → List MetadataItem → Type 0) (nil : P [] [])
+    (more : (s : List ℕ) (is : List MetadataItem) (p : Split s is) → P (drop (p .size) s) (p .rest) → P s is) where
   none : (s : List ℕ) (is : List MetadataItem) → length s ≤ 0 → itemsFrom s ≡ sound is → P s is
   none [] is l e =
       let z = nothing-left [] l in
@@ -76,7 +77,8 @@ pub front : (s : List ℕ) (id size : ℕ) → Sound s id size → itemsFrom s �
 front s id size h = one-then s (omega (arith, h .long, h .inside)) ∙ ap (follow itemsFrom s) (head-of s id size h)
 
 -- one item more, where the block behind it is joined so
-step : (s t : List ℕ) (is : List MetadataItem) (p : Split s is) → itemsFrom (drop (p .size) s ++ t) ≡ (p .rest then itemsFrom t) → itemsFrom (s ++ t) ≡ (is then itemsFrom t)
+step : (s t : List ℕ) (is : List MetadataItem) (p : Split s is) → itemsFrom (drop (p .size) s ++ t) ≡ (p .rest then itemsFrom t)
+    → itemsFrom (s ++ t) ≡ (is then itemsFrom t)
 step s t is p ih =
     let long : 8 ≤ p .size = p .head .long in
     let inside : p .size ≤ length s = p .head .inside in

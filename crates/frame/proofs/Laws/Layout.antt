@@ -38,14 +38,16 @@ module _ (id : ℕ) (payload t : List ℕ) (known : isKnown id ≡ true) (small 
   pub reads : itemsFrom (itemBytes id payload ++ t) ≡ (record { id = id; payload = payload } before itemsFrom t)
   reads =
       front (itemBytes id payload ++ t) id (8 + length payload) written
-      ∙ ap₂ (λ (p r : List ℕ). record { id = id; payload = p } before itemsFrom r) (body id payload t) (drop-at (itemBytes id payload) t _ (length-item id payload))
+      ∙ ap₂ (λ (p r : List ℕ). record { id = id; payload = p } before itemsFrom r) (body id payload t)
+      (drop-at (itemBytes id payload) t _ (length-item id payload))
 
 pub reads-all : (is : List MetadataItem) → Writable is → length (layout is) ≤ longestBlock → itemsFrom (layout is) ≡ sound is
 unfolding layout
 reads-all [] g h = nothing-left [] (omega arith)
 reads-all (i ∷ is) g h =
     let n : 8 + length (i .payload) + length (layout is) ≤ longestBlock = rw (length-append, length-item) at h in
-    reads (i .id) (i .payload) (layout is) (g .0) (g .1) (omega arith) ∙ ap (λ (f : BlockReading). i before f) (reads-all is (g .2) (omega arith))
+    reads (i .id) (i .payload) (layout is) (g .0) (g .1) (omega arith)
+    ∙ ap (λ (f : BlockReading). i before f) (reads-all is (g .2) (omega arith))
 
 -- a sound item written again is the bytes it was read from
 again : (s : List ℕ) (id size : ℕ) → Sound s id size → Bytes s → itemBytes id (take (size - 8) (drop 8 s)) ≡ take size s
@@ -55,17 +57,23 @@ again s id size h b =
     let inside : size ≤ length s = h .inside in
     let whole : 8 + length (take (size - 8) (drop 8 s)) ≡ size = simp (length-take, length-drop) (omega arith) in
     let first : bytesOf 4 id ≡ take 4 s = ap (bytesOf 4) (h .its-id) ∙ bytes-at 4 s 0 (omega arith) b in
-    let second : bytesOf 4 (8 + length (take (size - 8) (drop 8 s))) ≡ take 4 (drop 4 s) = ap (bytesOf 4) (whole ∙ h .its-size) ∙ bytes-at 4 s 4 (omega arith) b in
+    let second : bytesOf 4 (8 + length (take (size - 8) (drop 8 s))) ≡ take 4 (drop 4 s) =
+    ap (bytesOf 4) (whole ∙ h .its-size) ∙ bytes-at 4 s 4 (omega arith) b in
     let m : 8 + (size - 8) ≡ size = omega arith in
-    rw (first, second) (ap (λ (t : List ℕ). t ++ take (size - 8) (drop 8 s)) (sym (take-add 4 4 s)) ∙ sym (take-add 8 (size - 8) s) ∙ ap (λ (n : ℕ). take n s) m)
+    rw (first, second) (ap (λ (t : List ℕ). t ++ take (size - 8) (drop 8 s)) (sym (take-add 4 4 s)) ∙ sym (take-add 8 (size - 8) s)
+    ∙ ap (λ (n : ℕ). take n s) m)
 
 pub written-again : (s : List ℕ) (is : List MetadataItem) → itemsFrom s ≡ sound is → Bytes s → (s ≡ layout is) × Writable is
 unfolding layout
 written-again = every (λ (s : List ℕ) (is : List MetadataItem). Bytes s → (s ≡ layout is) × Writable is) (λ b. (refl, tt)) more
   where
-    more : (s : List ℕ) (is : List MetadataItem) (p : Split s is) → (Bytes (drop (p .size) s) → (drop (p .size) s ≡ layout (p .rest)) × Writable (p .rest)) → Bytes s
+    more : (s : List ℕ) (is : List MetadataItem) (p : Split s is)
+        → (Bytes (drop (p .size) s) → (drop (p .size) s ≡ layout (p .rest)) × Writable (p .rest)) → Bytes s
         → (s ≡ layout is) × Writable is
     more s is p ih b =
         let r = ih (bytes-drop s (p .size) b) in
         let h = p .head in
-        rw (p .whole) (sym (ap₂ (λ (x y : List ℕ). x ++ y) (again s (p .id) (p .size) h b) (sym (r .0)) ∙ take-append-drop (p .size) s), (h .known, rw (← (h .its-id)) at (below 4 4 s 0 b (omega arith)), r .1))
+        rw (p .whole) (
+          sym (ap₂ (λ (x y : List ℕ). x ++ y) (again s (p .id) (p .size) h b) (sym (r .0)) ∙ take-append-drop (p .size) s),
+          (h .known, rw (← (h .its-id)) at (below 4 4 s 0 b (omega arith)), r .1),
+        )

@@ -53,7 +53,9 @@ more t is p ih s at e l k = rw (p .whole) (go k)
 
     go : (k : ℕ) → Located s at k (itemIn t (p .id) (p .size) ∷ p .rest)
     go zero = first t (p .id) (p .size) (p .rest) (p .head) s at e
-    go (suc k) = later t (p .id) (p .size) (p .rest) (p .head) s at e k (ih s (at + p .size) behind (omega (arith, sizes t (p .id) (p .size) (p .rest) (p .head) s at e)) k)
+    go (suc k) =
+        later t (p .id) (p .size) (p .rest) (p .head) s at e k
+        (ih s (at + p .size) behind (omega (arith, sizes t (p .id) (p .size) (p .rest) (p .head) s at e)) k)
 
 pub located : (s : List ℕ) (is : List MetadataItem) → itemsFrom s ≡ sound is → (k : ℕ) → Located s 0 k is
 located s is e k = every Lie nil more s is e s 0 refl (omega arith) k

@@ -37,7 +37,8 @@ module _ (buf : List ℕ) (at id : ℕ) (payload : List ℕ) where
     where
       answer : Bool → Appended
       answer b =
-          cond b (record { code = 0; end = endOf at (length payload) }) (record { code = appendRefusal (length buf) at id (length payload); end = 0 })
+          cond b (record { code = 0; end = endOf at (length payload) })
+          (record { code = appendRefusal (length buf) at id (length payload); end = 0 })
 
       go : (b : Bool) → (answer b .code ≡ 0 → ⊥) → (answer b .end ≡ 0) × (cond b (overlay buf at (itemBytes id payload)) buf ≡ buf)
       go true n = absurd (n refl)

@@ -33,7 +33,8 @@ over-after k at n found (i ∷ is) h =
     let m : suc n + length is ≡ n + suc (length is) = omega arith in
     rw (← (pass-by k at n found (i .id) (length (i .payload)) (omega arith))) (rw m at next)
 
-over-before : (k j at n : ℕ) (is : List MetadataItem) → k ≡ n + j → Ends (walkedOver k at n (refusedItem noItem) is) (n + length is) (nthItem at j is)
+over-before : (k j at n : ℕ) (is : List MetadataItem) → k ≡ n + j
+    → Ends (walkedOver k at n (refusedItem noItem) is) (n + length is) (nthItem at j is)
 unfolding walkedOver nthItem
 over-before k j at n [] h = ap (λ (m : ℕ). record { counted = record { code = 0; items = m }; found = refusedItem noItem }) (omega arith)
 over-before k zero at n (i ∷ is) h =
@@ -62,7 +63,8 @@ begins k found s e = rw e (go (itemsFrom s))
         rw m at (over-before k k 0 0 is (omega arith))
 
 onward-before : (k at n : ℕ) (found : Found) (i : MetadataItem) (f : BlockReading)
-    → onward k at n found (i before f) ≡ onward k (at + (8 + length (i .payload))) (suc n) (passItem k at n found (i .id) (length (i .payload))) f
+    → onward k at n found (i before f)
+    ≡ onward k (at + (8 + length (i .payload))) (suc n) (passItem k at n found (i .id) (length (i .payload))) f
 unfolding onward walkedOver
 onward-before k at n found i (refused code) = refl
 onward-before k at n found i (sound is) = refl

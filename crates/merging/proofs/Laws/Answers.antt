@@ -26,7 +26,8 @@ module _ (s t out : List ℕ) where
       unfolding mergeCode mergeLen mergeOut
       short h = simp (e, f, lt-leb (length (merged s t)) (length out) h) (refl, (refl, refl))
 
-      pub accepted : length (merged s t) ≤ length out → Answer s t out 0 (length (merged s t)) (merged s t ++ drop (length (merged s t)) out)
+      pub accepted : length (merged s t) ≤ length out
+          → Answer s t out 0 (length (merged s t)) (merged s t ++ drop (length (merged s t)) out)
       unfolding mergeCode mergeLen mergeOut
       accepted h = simp (e, f, le-leb (length (merged s t)) (length out) h) (refl, (refl, refl))
 
@@ -47,7 +48,8 @@ module _ (s t out : List ℕ) where
       go false e = (refl, refl)
 
   -- merging well-formed snapshots is answered by what they merge to
-  pub same-answer : (s′ t′ : List ℕ) → wellFormed s ≡ true → wellFormed t ≡ true → wellFormed s′ ≡ true → wellFormed t′ ≡ true → merged s t ≡ merged s′ t′
+  pub same-answer : (s′ t′ : List ℕ) → wellFormed s ≡ true → wellFormed t ≡ true → wellFormed s′ ≡ true → wellFormed t′ ≡ true
+      → merged s t ≡ merged s′ t′
       → Alike s t s′ t′ out
   unfolding mergeCode mergeLen mergeOut
   same-answer s′ t′ p q p′ q′ e = simp (p, q, p′, q′, e) (refl, (refl, refl))

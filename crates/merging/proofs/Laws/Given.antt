@@ -11,4 +11,5 @@ module _ {Value : Type 0} (recordOf : Value → List ℕ) where
   unfolding merged
   snapshot-append a b p q =
       ap encode (fun-ext λ k. ap (Option·map recordOf) (last-append a b k) ∙ over-map recordOf (lastOf a k) (lastOf b k))
-      ∙ ap₂ (λ m n. encode (overs m n)) (sym (decode-encode _ (records-good recordOf a p))) (sym (decode-encode _ (records-good recordOf b q)))
+      ∙ ap₂ (λ m n. encode (overs m n)) (sym (decode-encode _ (records-good recordOf a p)))
+      (sym (decode-encode _ (records-good recordOf b q)))

@@ -104,16 +104,20 @@ module _ {s t old out : List ℕ} {a x b y n : ℕ} (w : Written s t old out a x
   first-key : x < keys
   first-key = omega (arith, w .second .few)
 
-  pub write-first : {p x′ : ℕ} {u out′ : List ℕ} → p ≡ recordLength x → u ≡ take p (drop a s) → out′ ≡ overlay out n u → x′ ≡ keyAt (drop (a + p) s)
+  pub write-first : {p x′ : ℕ} {u out′ : List ℕ} → p ≡ recordLength x → u ≡ take p (drop a s) → out′ ≡ overlay out n u
+      → x′ ≡ keyAt (drop (a + p) s)
       → Written s t old out′ (a + p) x′ b y (n + p)
   write-first e f g i =
       let r = take (recordLength x) (drop a s) in
-      let z : length r ≡ recordLength x = length-take-le (recordLength x) (drop a s) (omega (arith, next-within (w .first) first-key, length-drop a s)) in
+      let z : length r ≡ recordLength x =
+      length-take-le (recordLength x) (drop a s) (omega (arith, next-within (w .first) first-key, length-drop a s)) in
       let x₁ = keyAt (drop (a + recordLength x) s) in
       let up = next-above (w .first) first-key in
       let same = front-same s t (suc x) (min x₁ y) (omega arith)
       (λ i lo hi. (none-between (w .first) first-key i lo (omega arith), w .second-none i (omega arith) (omega arith))) in
-      let q = put w x (min x₁ y) r (omega arith) (ap₂ (λ c d. recordBytes (over c d)) (record-at (w .first) first-key) (w .second-none x (omega arith) h)) same in
+      let q =
+      put w x (min x₁ y) r (omega arith)
+      (ap₂ (λ c d. recordBytes (over c d)) (record-at (w .first) first-key) (w .second-none x (omega arith) h)) same in
       rw (g, i, f, e)
       record {
         first = next-at (w .first) first-key;
@@ -145,11 +149,13 @@ module _ {s t old out : List ℕ} {a x b y n : ℕ} (w : Written s t old out a x
   second-key : y < keys
   second-key = omega (arith, w .first .few)
 
-  pub write-second : {p y′ : ℕ} {u out′ : List ℕ} → p ≡ recordLength y → u ≡ take p (drop b t) → out′ ≡ overlay out n u → y′ ≡ keyAt (drop (b + p) t)
+  pub write-second : {p y′ : ℕ} {u out′ : List ℕ} → p ≡ recordLength y → u ≡ take p (drop b t) → out′ ≡ overlay out n u
+      → y′ ≡ keyAt (drop (b + p) t)
       → Written s t old out′ a x (b + p) y′ (n + p)
   write-second e f g i =
       let r = take (recordLength y) (drop b t) in
-      let z : length r ≡ recordLength y = length-take-le (recordLength y) (drop b t) (omega (arith, next-within (w .second) second-key, length-drop b t)) in
+      let z : length r ≡ recordLength y =
+      length-take-le (recordLength y) (drop b t) (omega (arith, next-within (w .second) second-key, length-drop b t)) in
       let y₁ = keyAt (drop (b + recordLength y) t) in
       let up = next-above (w .second) second-key in
       let same = front-same s t (suc y) (min x y₁) (omega arith)

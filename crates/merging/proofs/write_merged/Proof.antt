@@ -23,7 +23,9 @@ key-at-requires-2 : tie.Need-key-at-requires-2 Inv-loop μ-loop
 key-at-requires-2 c κs = search needs
 
 loop-holds : tie.Need-loop-holds Inv-loop μ-loop
-loop-holds c = let a = c .before .before .before .before .before in unwritten _ _ _ (a .pre .0) (a .pre .1) (c .before .key-at .ensures) (c .key-at2 .ensures)
+loop-holds c =
+    let a = c .before .before .before .before .before in
+    unwritten _ _ _ (a .pre .0) (a .pre .1) (c .before .key-at .ensures) (c .key-at2 .ensures)
 
 min-requires : tie.Need-min-requires Inv-loop μ-loop
 min-requires c κs = search needs
@@ -31,7 +33,9 @@ min-requires c κs = search needs
 -- the first's record, where its key is the lesser
 first-room : (d : tie.After-record-length Inv-loop μ-loop) →
     let l = d .before .before .before .before .loop in
-    (l .n + d .record-length .result ≤ longestSnapshot) × (l .a + d .record-length .result ≤ length (d .before .before .before .before .before .before .before .before .before .before .args .first .now))
+    (l .n + d .record-length .result ≤ longestSnapshot)
+    × (l .a + d .record-length .result ≤ length
+    (d .before .before .before .before .before .before .before .before .before .before .args .first .now))
 first-room d =
     let w = d .before .before .before .before .loop .inv in
     let v = write-first w (d .before .if2 .taken) (d .record-length .ensures) refl refl refl in
@@ -66,7 +70,8 @@ loop-again : tie.Need-loop-again Inv-loop μ-loop
 loop-again c =
     let o = c .before .before .before in
     let d = o .before .before .before in
-    write-first (d .before .before .before .before .loop .inv) (d .before .if2 .taken) (d .record-length .ensures) (o .before .part-at .ensures .bytes) (o .copy .ensures) (c .key-at3 .ensures)
+    write-first (d .before .before .before .before .loop .inv) (d .before .if2 .taken) (d .record-length .ensures)
+    (o .before .part-at .ensures .bytes) (o .copy .ensures) (c .key-at3 .ensures)
 
 -- of equal keys
 below : (d : tie.Then3 Inv-loop μ-loop) → d .before .before .before .before .loop .x < keys
@@ -93,7 +98,8 @@ loop-less-2 c =
 loop-again-2 : tie.Need-loop-again-2 Inv-loop μ-loop
 loop-again-2 c =
     let d = c .before in
-    pass-first (d .before .before .before .before .before .loop .inv) (d .before .if3 .taken) (below (d .before)) (d .record-length2 .ensures) (c .key-at4 .ensures)
+    pass-first (d .before .before .before .before .before .loop .inv) (d .before .if3 .taken) (below (d .before))
+    (d .record-length2 .ensures) (c .key-at4 .ensures)
 
 -- the second's record, where its key is the lesser
 lesser : (d : tie.Else3 Inv-loop μ-loop) → let l = d .before .before .before .before .loop in l .y < l .x
@@ -101,7 +107,9 @@ lesser d = omega (arith, d .if3 .left, d .before .if2 .left)
 
 second-room : (d : tie.After-record-length3 Inv-loop μ-loop) →
     let l = d .before .before .before .before .before .loop in
-    (l .n + d .record-length3 .result ≤ longestSnapshot) × (l .b + d .record-length3 .result ≤ length (d .before .before .before .before .before .before .before .before .before .before .before .args .second .now))
+    (l .n + d .record-length3 .result ≤ longestSnapshot)
+    × (l .b + d .record-length3 .result ≤ length
+    (d .before .before .before .before .before .before .before .before .before .before .before .args .second .now))
 second-room d =
     let w = d .before .before .before .before .before .loop .inv in
     let v = write-second w (lesser (d .before)) (d .record-length3 .ensures) refl refl refl in
@@ -130,13 +138,20 @@ loop-less-3 c =
     let d = c .before .before .before .before .before .before in
     let w = d .before .before .before .before .before .loop .inv in
     let h = lesser (d .before) in
-    omega (arith, h, w .first .few, step-above (w .second) (omega (arith, h, w .first .few)) (d .record-length3 .ensures) (c .key-at5 .ensures))
+    omega (
+      arith,
+      h,
+      w .first .few,
+      step-above (w .second) (omega (arith, h, w .first .few)) (d .record-length3 .ensures)
+          (c .key-at5 .ensures),
+    )
 
 loop-again-3 : tie.Need-loop-again-3 Inv-loop μ-loop
 loop-again-3 c =
     let o = c .before .before .before in
     let d = o .before .before .before in
-    write-second (d .before .before .before .before .before .loop .inv) (lesser (d .before)) (d .record-length3 .ensures) (o .before .part-at2 .ensures .bytes) (o .copy2 .ensures) (c .key-at5 .ensures)
+    write-second (d .before .before .before .before .before .loop .inv) (lesser (d .before)) (d .record-length3 .ensures)
+    (o .before .part-at2 .ensures .bytes) (o .copy2 .ensures) (c .key-at5 .ensures)
 
 same-length : tie.Need-same-length Inv-loop μ-loop
 same-length c = write-length (c .before .before .loop .inv)

@@ -16,4 +16,5 @@ module _ (l : MetadataLimits) (n : ℕ) where
 
   pub metadata-within : metadataRefusal l n ≡ 0 → n ≤ l .maximum
   unfolding metadataRefusal
-  metadata-within h = ltb-false (l .maximum) n (quiet ((_ ⇒ outOfRange) ∷ (not (eqb n 0 || eqb n (l .maximum)) ⇒ invalidValue) ∷ []) [] refl h .0 .0)
+  metadata-within h =
+      ltb-false (l .maximum) n (quiet ((_ ⇒ outOfRange) ∷ (not (eqb n 0 || eqb n (l .maximum)) ⇒ invalidValue) ∷ []) [] refl h .0 .0)

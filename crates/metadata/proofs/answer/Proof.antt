@@ -21,7 +21,13 @@ answer-by-requires c κs = search needs
 
 returns : tie.Need-returns
 unfolding metadataAnswer
-returns c = rw (c .answer-by .ensures, c .before .before .info .ensures, c .before .before .before .bytes32 .ensures, c .before .before .before .before .attribute .ensures)
+returns c =
+    rw (
+      c .answer-by .ensures,
+      c .before .before .info .ensures,
+      c .before .before .before .bytes32 .ensures,
+      c .before .before .before .before .attribute .ensures,
+    )
 
 pub answer-spec : {M : Type 1} → statement M
 answer-spec =

@@ -28,7 +28,12 @@ returns-4 : tie.Need-returns-4
 unfolding metadataAttribute
 returns-4 c =
     let a = c .before .before .before .before .before .args in
-    rw (not-false (a .l .writable) (c .before .before .before .if1 .left), c .before .before .if3 .left, eq-eqb (a .code) getCur (c .before .if4 .taken)) (c .number-or .ensures)
+    rw (
+      not-false (a .l .writable) (c .before .before .before .if1 .left),
+      c .before .before .if3 .left,
+      eq-eqb (a .code) getCur
+          (c .before .if4 .taken),
+    ) (c .number-or .ensures)
 
 returns-5 : tie.Need-returns-5
 unfolding metadataAttribute

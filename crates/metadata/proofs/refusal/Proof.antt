@@ -20,13 +20,23 @@ returns-3 : tie.Need-returns-3
 unfolding metadataRefusal
 returns-3 c =
     let a = c .before .before .before .before .before .args in
-    rw (le-ltb (a .l .maximum) (a .n) (c .before .before .before .if1 .left), ne-eqb (a .n) 0 (c .before .before .if2 .left), eq-eqb (a .n) (a .l .maximum) (c .if3 .taken))
+    rw (
+      le-ltb (a .l .maximum) (a .n) (c .before .before .before .if1 .left),
+      ne-eqb (a .n) 0 (c .before .before .if2 .left),
+      eq-eqb
+          (a .n) (a .l .maximum) (c .if3 .taken),
+    )
 
 returns-4 : tie.Need-returns-4
 unfolding metadataRefusal
 returns-4 c =
     let a = c .before .before .before .before .before .args in
-    rw (le-ltb (a .l .maximum) (a .n) (c .before .before .before .if1 .left), ne-eqb (a .n) 0 (c .before .before .if2 .left), ne-eqb (a .n) (a .l .maximum) (c .if3 .left))
+    rw (
+      le-ltb (a .l .maximum) (a .n) (c .before .before .before .if1 .left),
+      ne-eqb (a .n) 0 (c .before .before .if2 .left),
+      ne-eqb
+          (a .n) (a .l .maximum) (c .if3 .left),
+    )
 
 pub refusal-spec : {M : Type 1} → statement M
 refusal-spec = tie.close (tie.spec returns returns-2 returns-3 returns-4)

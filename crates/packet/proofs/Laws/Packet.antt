@@ -26,22 +26,23 @@ module _ (p : List ℕ) where
   header-past a b = simp (le-ltb _ _ a, lt-ltb _ _ b)
 
   -- what was read of a header that is there
-  module _ (flags from : ℕ) (f : flags ≡ headerFlags p) (g : from ≡ fieldsLength flags) (a : 2 ≤ length p) (b : headerLength p ≤ length p) where
-    fields : from ≡ fieldsLength (headerFlags p)
-    fields = cc
+  module _ (flags from : ℕ) (f : flags ≡ headerFlags p) (g : from ≡ fieldsLength flags) (a : 2 ≤ length p) (b : headerLength p ≤ length p)
+    where
+      fields : from ≡ fieldsLength (headerFlags p)
+      fields = cc
 
-    pub header-short : headerLength p < from → refusedHeader shortHeader ≡ headerOf p
-    unfolding headerOf headerRefusal
-    header-short c =
-        let d : headerLength p < fieldsLength (headerFlags p) = rw fields at c in
-        simp (le-ltb _ _ a, le-ltb _ _ b, lt-ltb _ _ d)
+      pub header-short : headerLength p < from → refusedHeader shortHeader ≡ headerOf p
+      unfolding headerOf headerRefusal
+      header-short c =
+          let d : headerLength p < fieldsLength (headerFlags p) = rw fields at c in
+          simp (le-ltb _ _ a, le-ltb _ _ b, lt-ltb _ _ d)
 
-    pub header-whole : (len : ℕ) → len ≡ headerLength p → from ≤ len
-        → _≡_ {A = PayloadHeader} (record { code = 0; flags = flags; metadata = record { at = from; len = len - from } }) (headerOf p)
-    unfolding headerOf headerRefusal
-    header-whole len e c =
-        let d : fieldsLength (headerFlags p) ≤ headerLength p = rw (fields, e) at c in
-        rw (fields, f, e) (simp (le-ltb _ _ a, le-ltb _ _ b, le-ltb _ _ d))
+      pub header-whole : (len : ℕ) → len ≡ headerLength p → from ≤ len
+          → _≡_ {A = PayloadHeader} (record { code = 0; flags = flags; metadata = record { at = from; len = len - from } }) (headerOf p)
+      unfolding headerOf headerRefusal
+      header-whole len e c =
+          let d : fieldsLength (headerFlags p) ≤ headerLength p = rw (fields, e) at c in
+          rw (fields, f, e) (simp (le-ltb _ _ a, le-ltb _ _ b, le-ltb _ _ d))
 
 -- none of the tests held
 pub header-sound : (p : List ℕ) → headerRefusal p ≡ 0 → (headerLength p ≤ length p) × (fieldsLength (headerFlags p) ≤ headerLength p)
@@ -51,7 +52,8 @@ header-sound p e =
     (ltb-false _ _ (q .1 .0), ltb-false _ _ (q .1 .1 .0))
 
 -- the metadata lies in the header, and the header in the packet
-either : (b : Bool) (n : ℕ) (h g : PayloadHeader) → (b ≡ true → h .metadata .at + h .metadata .len ≤ n) → g .metadata .at + g .metadata .len ≤ n
+either : (b : Bool) (n : ℕ) (h g : PayloadHeader) → (b ≡ true → h .metadata .at + h .metadata .len ≤ n)
+    → g .metadata .at + g .metadata .len ≤ n
     → cond b h g .metadata .at + cond b h g .metadata .len ≤ n
 either true n h g f l = f refl
 either false n h g f l = l

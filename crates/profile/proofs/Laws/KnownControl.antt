@@ -54,7 +54,8 @@ bit-known n k o h = let p = simp and-eq-true-iff at o in go (leb 14 k) refl (p .
 control-at : (k : ℕ) → known k ≡ true → KnownControl (suc k)
 control-at k h = go (eqb k 2) (eqb k 5) (eqb k 8) (eqb k 12) (eqb k 13) refl refl refl refl refl h
   where
-    go : (a b c d e : Bool) → eqb k 2 ≡ a → eqb k 5 ≡ b → eqb k 8 ≡ c → eqb k 12 ≡ d → eqb k 13 ≡ e → a || b || c || d || e ≡ true → KnownControl (suc k)
+    go : (a b c d e : Bool) → eqb k 2 ≡ a → eqb k 5 ≡ b → eqb k 8 ≡ c → eqb k 12 ≡ d → eqb k 13 ≡ e → a || b || c || d || e ≡ true
+        → KnownControl (suc k)
     go true b c d e p q r s t u = subst (λ n. KnownControl (suc n)) (sym (eqb-true k 2 p)) ev
     go false true c d e p q r s t u = subst (λ n. KnownControl (suc n)) (sym (eqb-true k 5 q)) face
     go false false true d e p q r s t u = subst (λ n. KnownControl (suc n)) (sym (eqb-true k 8 r)) metadata
@@ -67,8 +68,13 @@ pub control-known : (bits selector : ℕ) → presenceValid bits ≡ true → ha
 unfolding presenceValid
 control-known bits selector v h =
     let p = simp and-eq-true-iff at h in
-    let e : bits ≡ presence (hasControl bits 0x03) (hasControl bits 0x06) (hasControl bits 0x09) (hasControl bits 0x0D) (hasControl bits 0x0E) = eqb-true bits _ v in
-    let o : only-known bits ≡ true = subst (λ n. only-known n ≡ true) (sym e) (presence-known (hasControl bits 0x03) (hasControl bits 0x06) (hasControl bits 0x09) (hasControl bits 0x0D) (hasControl bits 0x0E)) in
+    let e : bits
+    ≡ presence (hasControl bits 0x03) (hasControl bits 0x06) (hasControl bits 0x09) (hasControl bits 0x0D) (hasControl bits 0x0E) =
+    eqb-true bits _ v in
+    let o : only-known bits ≡ true =
+    subst (λ n. only-known n ≡ true) (sym e)
+    (presence-known (hasControl bits 0x03) (hasControl bits 0x06) (hasControl bits 0x09) (hasControl bits 0x0D)
+    (hasControl bits 0x0E)) in
     let one : 1 ≤ selector = leb-true 1 selector (p .0) in
     let s : suc (selector - 1) ≡ selector = omega arith in
     subst KnownControl s (control-at (selector - 1) (bit-known bits (selector - 1) o (p .1)))

@@ -35,7 +35,13 @@ returns : tie.Need-returns
 unfolding presenceValid
 returns c =
     let d = c .before .before .before in
-    rw (c .bit-at5 .ensures .0, c .before .bit-at4 .ensures .0, c .before .before .bit-at3 .ensures .0, d .bit-at2 .ensures .0, d .before .bit-at .ensures .0)
+    rw (
+      c .bit-at5 .ensures .0,
+      c .before .bit-at4 .ensures .0,
+      c .before .before .bit-at3 .ensures .0,
+      d .bit-at2 .ensures .0,
+      d .before .bit-at .ensures .0,
+    )
 
 pub presence-valid-spec : {M : Type 1} → statement M
 presence-valid-spec =

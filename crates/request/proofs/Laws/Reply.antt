@@ -14,10 +14,12 @@ module _ (a : List ℕ) (w : ℕ) (d : List ℕ) where
   no-room h = (rw (lt-leb (sentLength a w) (length d) h), rw (lt-leb (sentLength a w) (length d) h))
 
   -- the answer's first bytes laid over the buffer's start
-  pub room : sentLength a w ≤ length d → (record { code = 0; count = sentLength a w } ≡ sentOf a w (length d)) × (overlay d 0 (take (sentLength a w) a) ≡ replyOf a w d)
+  pub room : sentLength a w ≤ length d
+      → (record { code = 0; count = sentLength a w } ≡ sentOf a w (length d)) × (overlay d 0 (take (sentLength a w) a) ≡ replyOf a w d)
   unfolding sentOf replyOf
   room h =
       let n : length (take (sentLength a w) a) ≡ sentLength a w = length-take-le (sentLength a w) a (omega arith) in
       let m : 0 + length (take (sentLength a w) a) ≡ sentLength a w = omega arith in
-      let o : overlay d 0 (take (sentLength a w) a) ≡ take (sentLength a w) a ++ drop (sentLength a w) d = fits d 0 (take (sentLength a w) a) (omega arith) ∙ ap (λ (k : ℕ). take (sentLength a w) a ++ drop k d) m in
+      let o : overlay d 0 (take (sentLength a w) a) ≡ take (sentLength a w) a ++ drop (sentLength a w) d =
+      fits d 0 (take (sentLength a w) a) (omega arith) ∙ ap (λ (k : ℕ). take (sentLength a w) a ++ drop k d) m in
       (rw (le-leb (sentLength a w) (length d) h), rw (le-leb (sentLength a w) (length d) h) o)

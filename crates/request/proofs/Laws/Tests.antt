@@ -20,7 +20,8 @@ own n rows = go (eqb n 0)
 module _ (t : Table) (setup payload : List ℕ) where
   -- tests 7 and on are asked where tests 2 to 6 have nothing to say
   pub then-rows : (rows : List Row)
-      → firstOf (requestTests t setup payload ++ rows) ≡ cond (eqb (firstOf (requestTests t setup payload)) 0) (firstOf rows) (firstOf (requestTests t setup payload))
+      → firstOf (requestTests t setup payload ++ rows)
+      ≡ cond (eqb (firstOf (requestTests t setup payload)) 0) (firstOf rows) (firstOf (requestTests t setup payload))
   unfolding requestTests
   then-rows rows = first-append (requestTests t setup payload) rows refl
 
@@ -49,16 +50,24 @@ module _ (t : Table) (setup payload : List ℕ) where
       at-tests n = by-tests ∙ rw (ne-eqb first 0 n)
 
       module _ (z : first ≡ 0) where
-        by-state : requestCode t setup payload room ≡ cond (eqb state 0) (firstOf (answers (cond (isSetRequest setup) (t .values (setupSelector setup) payload) 0) ∷ last ∷ [])) state
+        by-state : requestCode t setup payload room
+            ≡ cond (eqb state 0) (firstOf (answers (cond (isSetRequest setup) (t .values (setupSelector setup) payload) 0) ∷ last ∷ []))
+            state
         unfolding valueTests
-        by-state = by-tests ∙ rw (eq-eqb first 0 z) (own state (answers (cond (isSetRequest setup) (t .values (setupSelector setup) payload) 0) ∷ last ∷ []))
+        by-state =
+            by-tests
+            ∙ rw (eq-eqb first 0 z)
+            (own state (answers (cond (isSetRequest setup) (t .values (setupSelector setup) payload) 0) ∷ last ∷ []))
 
         pub at-state : (state ≡ 0 → ⊥) → requestCode t setup payload room ≡ state
         at-state n = by-state ∙ rw (ne-eqb state 0 n)
 
         module _ (y : state ≡ 0) where
           pub at-set : isSetRequest setup ≡ true → requestCode t setup payload room ≡ t .values (setupSelector setup) payload
-          at-set e = by-state ∙ rw (eq-eqb state 0 y, e) (own (t .values (setupSelector setup) payload) ((false ⇒ noRoom) ∷ []) ∙ zero-or (t .values (setupSelector setup) payload))
+          at-set e =
+              by-state
+              ∙ rw (eq-eqb state 0 y, e)
+              (own (t .values (setupSelector setup) payload) ((false ⇒ noRoom) ∷ []) ∙ zero-or (t .values (setupSelector setup) payload))
             where
               zero-or : (n : ℕ) → cond (eqb n 0) 0 n ≡ n
               zero-or n = go (eqb n 0) refl
@@ -79,9 +88,11 @@ module _ (t : Table) (setup payload : List ℕ) where
       go true written = refl
       go false written = refl
 
-  pub get-sent : (reply : List ℕ) → isSetRequest setup ≡ false → requestCode t setup payload (length reply) ≡ cond (ltb (length reply) (sentCount t setup)) noRoom 0
+  pub get-sent : (reply : List ℕ) → isSetRequest setup ≡ false
+      → requestCode t setup payload (length reply) ≡ cond (ltb (length reply) (sentCount t setup)) noRoom 0
       → (replyOf (asked t setup) (setupWLength setup) reply ≡ replied t setup payload reply)
-      × (cond (eqb (requestCode t setup payload (length reply)) 0) (record { code = 0; count = sentCount t setup }) (record { code = requestCode t setup payload (length reply); count = 0 })
+      × (cond (eqb (requestCode t setup payload (length reply)) 0) (record { code = 0; count = sentCount t setup })
+      (record { code = requestCode t setup payload (length reply); count = 0 })
       ≡ sentOf (asked t setup) (setupWLength setup) (length reply))
   unfolding replied sentOf replyOf
   get-sent reply e n = go (leb (sentCount t setup) (length reply)) refl
@@ -91,7 +102,8 @@ module _ (t : Table) (setup payload : List ℕ) where
 
       Sends : Type 0
       Sends = (replyOf (asked t setup) (setupWLength setup) reply ≡ replied t setup payload reply)
-          × (cond (eqb code 0) (record { code = 0; count = sentCount t setup }) (record { code = code; count = 0 }) ≡ sentOf (asked t setup) (setupWLength setup) (length reply))
+          × (cond (eqb code 0) (record { code = 0; count = sentCount t setup }) (record { code = code; count = 0 }) ≡ sentOf
+          (asked t setup) (setupWLength setup) (length reply))
 
       go : (b : Bool) → leb (sentCount t setup) (length reply) ≡ b → Sends
       go true h = let z : code ≡ 0 = n ∙ rw (le-ltb (length reply) (sentCount t setup) (leb-true _ _ h)) in (rw (h, z, e), rw (h, z))

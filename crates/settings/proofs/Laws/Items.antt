@@ -33,7 +33,8 @@ puts-append h [] b = refl
 puts-append h (s ∷ a) b = puts-append (put h (s .1)) a b
 
 -- the settings with i + 1 items are those with i of them, and the next
-pub puts-next : (h : Settings) (i : ℕ) (given : ℕ → List (ℕ × Setting)) → putAll h (allGiven (i + 1) 0 given) ≡ putAll (putAll h (allGiven i 0 given)) (given i)
+pub puts-next : (h : Settings) (i : ℕ) (given : ℕ → List (ℕ × Setting))
+    → putAll h (allGiven (i + 1) 0 given) ≡ putAll (putAll h (allGiven i 0 given)) (given i)
 puts-next h i given =
     ap (λ (m : ℕ). putAll h (allGiven m 0 given)) (add-one i)
     ∙ ap (putAll h) (given-next i given)
@@ -57,7 +58,11 @@ one-given h (Refused code) = go (eqb code 0)
 one-given h (Given s) = refl
 
 pub one-item : (p : Profile) (h : Settings) (selector : ℕ) (payload : List ℕ) → (selector ≡ face → ⊥)
-    → _≡_ {A = SetTaken} (record { code = itemCode (profileItem p selector payload 0); settings = putAll h (givenOf (profileItem p selector payload 0)) }) (setTaken p h selector payload)
+    → _≡_ {A = SetTaken} (record {
+      code = itemCode (profileItem p selector payload 0);
+      settings = putAll h
+          (givenOf (profileItem p selector payload 0));
+    }) (setTaken p h selector payload)
 unfolding setTaken setRefusal setGives firstRefusal allGiven
 one-item p h selector payload n =
     let i = profileItem p selector payload 0 in
@@ -77,10 +82,12 @@ entries-put h payload (suc n) item t =
     let given : ℕ → List (ℕ × Setting) = λ i. givenOf (item i) in
     ap (putAll h) (given-next n given)
     ∙ puts-append h (allGiven n 0 given) (given n)
-    ∙ ap₂ (λ k (l : List (ℕ × Setting)). putAll k l) (entries-put h payload n item (λ i l. t i (omega arith))) (ap givenOf (t n (omega arith)))
+    ∙ ap₂ (λ k (l : List (ℕ × Setting)). putAll k l) (entries-put h payload n item (λ i l. t i (omega arith)))
+    (ap givenOf (t n (omega arith)))
 
 -- a SET's value tests of face authentication are its entries'
-pub face-refusal : (p : Profile) (payload : List ℕ) → setRefusal p face payload ≡ firstRefusal (getD payload 0 0) 0 (entryRefusal (p .face) payload)
+pub face-refusal : (p : Profile) (payload : List ℕ)
+    → setRefusal p face payload ≡ firstRefusal (getD payload 0 0) 0 (entryRefusal (p .face) payload)
 unfolding setRefusal profileItem
 face-refusal p payload = ap (firstRefusal (getD payload 0 0) 0) (fun-ext λ i. entry-code (p .face) payload i)
 
@@ -97,6 +104,7 @@ face-set p h payload {taken} is = rw (is, face-refusal p payload) (ap (λ s. rec
     code = firstRefusal n 0 (entryRefusal (p .face) payload)
 
     go : (b : Bool) → eqb code 0 ≡ b
-        → withFace h (cond b (entriesPut (h .face) payload n) (h .face)) ≡ cond b (putAll h (allGiven n 0 (λ i. givenOf (faceItem (p .face) payload i)))) h
+        → withFace h (cond b (entriesPut (h .face) payload n) (h .face))
+        ≡ cond b (putAll h (allGiven n 0 (λ i. givenOf (faceItem (p .face) payload i)))) h
     go true e = sym (entries-put h payload n (faceItem (p .face) payload) (taken-entries (p .face) payload n (eqb-true _ 0 e)))
     go false e = refl

@@ -30,11 +30,13 @@ module _ (p : Profile) where
       go false t = refl
 
   -- all but metadata take one
-  pub kept-settable : (s : Setting) → isSettable p (settingSelector s) ≡ true → has p (settingSelector s) && eqb (valueRefusal p s) 0 ≡ kept p (some s)
+  pub kept-settable : (s : Setting) → isSettable p (settingSelector s) ≡ true
+      → has p (settingSelector s) && eqb (valueRefusal p s) 0 ≡ kept p (some s)
   unfolding kept
   kept-settable s t = rw (control-kept (settingSelector s), t, and-true (has p (settingSelector s)))
 
-  pub kept-metadata : (n : ℕ) → has p metadata && p .metadata .writable && eqb (metadataRefusal (p .metadata) n) 0 ≡ kept p (some (S.Metadata n))
+  pub kept-metadata : (n : ℕ)
+      → has p metadata && p .metadata .writable && eqb (metadataRefusal (p .metadata) n) 0 ≡ kept p (some (S.Metadata n))
   unfolding kept valueRefusal
   kept-metadata n = rw (control-kept metadata)
 
@@ -56,7 +58,8 @@ keeps-place p s i h = rw (ne-eqb (suc i) 0 (omega arith), le-leb (suc i) places 
     of : has p face && eqb (settingRefusal (p .face) address flags) 0 ≡ kept p (some (S.Face address flags))
     of = kept-settable p (S.Face address flags) refl
 
-    go : (b : Bool) → kept p (cond b none (some (S.Face address flags))) ≡ b || (has p face && eqb (settingRefusal (p .face) address flags) 0)
+    go : (b : Bool)
+        → kept p (cond b none (some (S.Face address flags))) ≡ b || (has p face && eqb (settingRefusal (p .face) address flags) 0)
     go true = refl
     go false = sym of
 

@@ -10,11 +10,18 @@ pub record-ev : (a b c d e f g h i j k : ℕ) → IsRecord 0 (15 ∷ 0 ∷ ev �
 unfolding stands soundRecord statedKey leAt number
 record-ev a b c d e f g h i j k = record { long = refl; is = refl }
 
-pub record-face : (k a b c d e f g : ℕ) → 1 ≤ k → k ≤ places → IsRecord k (13 ∷ 0 ∷ face ∷ 0 ∷ 1 ∷ (firstAddress - 1 + k) ∷ a ∷ b ∷ c ∷ d ∷ e ∷ f ∷ g ∷ [])
+pub record-face : (k a b c d e f g : ℕ) → 1 ≤ k → k ≤ places
+    → IsRecord k (13 ∷ 0 ∷ face ∷ 0 ∷ 1 ∷ (firstAddress - 1 + k) ∷ a ∷ b ∷ c ∷ d ∷ e ∷ f ∷ g ∷ [])
 unfolding stands soundRecord statedKey leAt number
 record-face k a b c d e f g lo hi = record {
   long = simp (ne-eqb k 0 (omega arith), le-leb k places hi);
-  is = simp (le-leb firstAddress (firstAddress - 1 + k) (omega arith), le-leb (firstAddress - 1 + k) lastAddress (omega arith), eq-eqb (firstAddress - 1 + k - (firstAddress - 1)) k (omega arith));
+  is =
+      simp (
+        le-leb firstAddress (firstAddress - 1 + k) (omega arith),
+        le-leb (firstAddress - 1 + k) lastAddress (omega arith),
+        eq-eqb
+            (firstAddress - 1 + k - (firstAddress - 1)) k (omega arith),
+      );
 }
 
 pub record-metadata : (a b c d : ℕ) → IsRecord (1 + places) (8 ∷ 0 ∷ metadata ∷ 0 ∷ a ∷ b ∷ c ∷ d ∷ [])

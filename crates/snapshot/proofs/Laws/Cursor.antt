@@ -41,7 +41,8 @@ pub is-passed : (k : ℕ) (t : List ℕ) → keyAt t ≡ k → recordLength k �
 unfolding passed stands keyAt
 is-passed k t e = go (soundRecord t) refl e
   where
-    go : (b : Bool) → soundRecord t ≡ b → cond b (statedKey t) keys ≡ k → recordLength k ≡ cond (b && eqb (statedKey t) k) (recordLength k) 0
+    go : (b : Bool) → soundRecord t ≡ b → cond b (statedKey t) keys ≡ k
+        → recordLength k ≡ cond (b && eqb (statedKey t) k) (recordLength k) 0
     go true p e = simp (eq-eqb (statedKey t) k e)
     go false p e = ap recordLength (sym e)
 

@@ -95,7 +95,8 @@ unfolding entries
 entries-ascend zero k low m h = tt
 entries-ascend (suc n) k low m h = go (m k) (λ low (p : low ≤ suc k). entries-ascend n (suc k) low m p)
   where
-    go : (o : Option (List ℕ)) → ((low : ℕ) → low ≤ suc k → Ascending low (entries n (suc k) m)) → Ascending low (entryAt k o ++ entries n (suc k) m)
+    go : (o : Option (List ℕ)) → ((low : ℕ) → low ≤ suc k → Ascending low (entries n (suc k) m))
+        → Ascending low (entryAt k o ++ entries n (suc k) m)
     go none ih = ih low (omega arith)
     go (some r) ih = (h, ih (suc k) (omega arith))
 
@@ -108,7 +109,8 @@ unfolding entries records
 entries-joined zero k m = refl
 entries-joined (suc n) k m = go (m k) (entries-joined n (suc k) m)
   where
-    go : (o : Option (List ℕ)) → joined (entries n (suc k) m) ≡ records n (suc k) m → joined (entryAt k o ++ entries n (suc k) m) ≡ recordBytes o ++ records n (suc k) m
+    go : (o : Option (List ℕ)) → joined (entries n (suc k) m) ≡ records n (suc k) m
+        → joined (entryAt k o ++ entries n (suc k) m) ≡ recordBytes o ++ records n (suc k) m
     go none e = e
     go (some r) e = ap (λ l. r ++ l) e
 

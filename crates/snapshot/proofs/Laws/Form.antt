@@ -35,12 +35,14 @@ formed-end zero s = refl
 formed-end (suc fuel) [] = refl
 formed-end (suc fuel) (b ∷ s) = go (soundRecord (b ∷ s)) refl
   where
-    go : (t : Bool) → soundRecord (b ∷ s) ≡ t → (t && leb keys (statedKey (b ∷ s)) && formed fuel (suc (statedKey (b ∷ s))) (drop (statedLength (b ∷ s)) (b ∷ s))) ≡ false
+    go : (t : Bool) → soundRecord (b ∷ s) ≡ t
+        → (t && leb keys (statedKey (b ∷ s)) && formed fuel (suc (statedKey (b ∷ s))) (drop (statedLength (b ∷ s)) (b ∷ s))) ≡ false
     go true e = simp (lt-leb keys (statedKey (b ∷ s)) (sound-of (b ∷ s) (sound-parts (b ∷ s) e) .key))
     go false e = refl
 
 -- where the key `low` stands, its record is passed
-pub formed-at : (fuel low : ℕ) (s : List ℕ) → stands low s ≡ true → formed (suc fuel) low s ≡ formed fuel (suc low) (drop (recordLength low) s)
+pub formed-at : (fuel low : ℕ) (s : List ℕ) → stands low s ≡ true
+    → formed (suc fuel) low s ≡ formed fuel (suc low) (drop (recordLength low) s)
 unfolding formed
 formed-at fuel low s e =
     let p = stands-sound low s e in
@@ -59,7 +61,8 @@ formed-not (suc fuel) low s e = go (soundRecord s) refl
     same true e p = e ∙ sym (le-leb (suc low) (statedKey s) (let h = leb-true low (statedKey s) e in let n = ne p in omega arith))
     same false e p = e ∙ sym (lt-leb (suc low) (statedKey s) (let h = leb-false low (statedKey s) e in omega arith))
 
-    go : (t : Bool) → soundRecord s ≡ t → cond (isEmpty s) true (t && leb low (statedKey s) && formed fuel (suc (statedKey s)) (drop (statedLength s) s))
+    go : (t : Bool) → soundRecord s ≡ t
+        → cond (isEmpty s) true (t && leb low (statedKey s) && formed fuel (suc (statedKey s)) (drop (statedLength s) s))
         ≡ cond (isEmpty s) true (t && leb (suc low) (statedKey s) && formed fuel (suc (statedKey s)) (drop (statedLength s) s))
     go true p = rw (same _ refl p)
     go false p = refl
@@ -73,7 +76,8 @@ formed-sweep (suc n) fuel low s l h = go (stands low s) refl fuel l (λ fuel s l
         → ((fuel : ℕ) (s : List ℕ) → length s ≤ fuel → formed fuel (suc low) s ≡ isEmpty (sweep n (suc low) s))
         → formed fuel low s ≡ isEmpty (sweep n (suc low) (cond t (drop (recordLength low) s) s))
     go true e zero l ih = absurd (let p = stands-long low s e in let q = stands-some low s e in omega arith)
-    go true e (suc fuel) l ih = formed-at fuel low s e ∙ ih fuel (drop (recordLength low) s) (simp length-drop (omega (arith, stands-some low s e)))
+    go true e (suc fuel) l ih =
+        formed-at fuel low s e ∙ ih fuel (drop (recordLength low) s) (simp length-drop (omega (arith, stands-some low s e)))
     go false e fuel l ih = formed-not fuel low s e ∙ ih fuel s l
 
 pub formed-from : (s : List ℕ) → wellFormed s ≡ isEmpty (from s keys)

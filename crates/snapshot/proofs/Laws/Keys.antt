@@ -32,7 +32,8 @@ place-next : (k : ℕ) → suc k < keys → placeOf k < placeOf (suc k)
 unfolding placeOf
 place-next k h = go (eqb k 0) refl (ltb k places) refl (leb k places) refl (eqb k (1 + places)) refl
   where
-    go : (a : Bool) → eqb k 0 ≡ a → (b : Bool) → ltb k places ≡ b → (c : Bool) → leb k places ≡ c → (d : Bool) → eqb k (1 + places) ≡ d → placeOf k < placeOf (suc k)
+    go : (a : Bool) → eqb k 0 ≡ a → (b : Bool) → ltb k places ≡ b → (c : Bool) → leb k places ≡ c → (d : Bool) → eqb k (1 + places) ≡ d
+        → placeOf k < placeOf (suc k)
     go true p b q c r d s = let e = eqb-true k 0 p in rw e (omega arith)
     go false p true q c r d s =
         let n = eqb-false k 0 p in
@@ -57,7 +58,8 @@ place-later j (suc k) h l = go (eqb j k) refl (λ (p : j < k). place-later j k p
     go false e ih = let n = eqb-false j k e in omega (arith, ih (omega arith), place-next k (omega arith))
 
 -- of two sound records, the one with the lower key stands before the other by kind, then address, and equal keys are at one place
-pub key-order : (s t : List ℕ) → soundRecord s ≡ true → soundRecord t ≡ true → (statedKey s < statedKey t → orderPlace s < orderPlace t) × (statedKey s ≡ statedKey t → orderPlace s ≡ orderPlace t)
+pub key-order : (s t : List ℕ) → soundRecord s ≡ true → soundRecord t ≡ true
+    → (statedKey s < statedKey t → orderPlace s < orderPlace t) × (statedKey s ≡ statedKey t → orderPlace s ≡ orderPlace t)
 key-order s t p q =
     let u = sound-parts s p in
     let v = sound-parts t q in

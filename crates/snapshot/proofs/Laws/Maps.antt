@@ -40,7 +40,8 @@ module _ (m : ℕ → Option (List ℕ)) (g : Good m) where
   above zero k j h = stands-nil j
   above (suc n) k j h = go (m k) (g k) (above n (suc k) j (omega arith))
     where
-      go : (o : Option (List ℕ)) → GoodAt k o → stands j (records n (suc k) m) ≡ false → stands j (recordBytes o ++ records n (suc k) m) ≡ false
+      go : (o : Option (List ℕ)) → GoodAt k o → stands j (records n (suc k) m) ≡ false
+          → stands j (recordBytes o ++ records n (suc k) m) ≡ false
       go none p q = q
       go (some r) p q = not-true _ (λ e. let z = stands-one j k _ e (record-stands k r _ p) in omega arith)
 
@@ -58,7 +59,9 @@ module _ (m : ℕ → Option (List ℕ)) (g : Good m) where
     where
       go : (o : Option (List ℕ)) → GoodAt k o → recordAt k (recordBytes o ++ records n (suc k) m) ≡ o
       go none p = simp (above n (suc k) k (omega arith))
-      go (some r) p = simp (record-stands k r (records n (suc k) m) p) (ap {B = Option (List ℕ)} some (take-at r (records n (suc k) m) (recordLength k) (p .long)))
+      go (some r) p =
+          simp (record-stands k r (records n (suc k) m) p)
+          (ap {B = Option (List ℕ)} some (take-at r (records n (suc k) m) (recordLength k) (p .long)))
 
   -- the keys below k are passed once their records are
   pub from-records : (k n : ℕ) → n + k ≡ keys → from (encode m) k ≡ records n k m

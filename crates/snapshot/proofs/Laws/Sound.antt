@@ -31,7 +31,8 @@ pub record Sound (s : List ℕ) : Type 0 where
   pub within : statedLength s ≤ length s
   pub known : 0 < kindLength (statedKind s)
   pub right : statedLength s ≡ kindLength (statedKind s)
-  pub face : cond (eqb (statedKind s) selectors.face) (allOf (eqb (getD s 4 0) 1 ∷ leb firstAddress (getD s 5 0) ∷ leb (getD s 5 0) lastAddress ∷ [])) true ≡ true
+  pub face : cond (eqb (statedKind s) selectors.face)
+      (allOf (eqb (getD s 4 0) 1 ∷ leb firstAddress (getD s 5 0) ∷ leb (getD s 5 0) lastAddress ∷ [])) true ≡ true
   pub tail : cond (eqb (statedKind s) selectors.throttle) (zeros (throttleTail s)) true ≡ true
 
 pub sound-parts : (s : List ℕ) → soundRecord s ≡ true → Sound s
@@ -61,9 +62,12 @@ pub data Kind (n : ℕ) : Type 0 where
   throttle : n ≡ selectors.throttle → Kind n
 
 pub kind-of : (n : ℕ) → 0 < kindLength n → Kind n
-kind-of n h = go (eqb n selectors.ev) (eqb n selectors.face) (eqb n selectors.metadata) (eqb n selectors.hdr) (eqb n selectors.throttle) refl refl refl refl refl h
+kind-of n h =
+    go (eqb n selectors.ev) (eqb n selectors.face) (eqb n selectors.metadata) (eqb n selectors.hdr) (eqb n selectors.throttle) refl refl
+    refl refl refl h
   where
-    go : (a b c d e : Bool) → eqb n selectors.ev ≡ a → eqb n selectors.face ≡ b → eqb n selectors.metadata ≡ c → eqb n selectors.hdr ≡ d → eqb n selectors.throttle ≡ e
+    go : (a b c d e : Bool) → eqb n selectors.ev ≡ a → eqb n selectors.face ≡ b → eqb n selectors.metadata ≡ c → eqb n selectors.hdr ≡ d
+        → eqb n selectors.throttle ≡ e
         → 0 < cond a 15 (cond b 13 (cond c 8 (cond d 8 (cond e 24 0)))) → Kind n
     go true b c d e p q r s t h = ev (eqb-true n selectors.ev p)
     go false true c d e p q r s t h = face (eqb-true n selectors.face q)
@@ -86,18 +90,27 @@ pub record Of (s : List ℕ) : Type 0 where
 
 of-kind : (s : List ℕ) → Sound s → Kind (statedKind s) → Of s
 unfolding statedKey
-of-kind s p (ev e) = let r : statedLength s ≡ 15 = rw e at (p .right) in record { key = rw e (omega arith); size = rw e (sym r); eight = omega arith }
+of-kind s p (ev e) =
+    let r : statedLength s ≡ 15 = rw e at (p .right) in record { key = rw e (omega arith); size = rw e (sym r); eight = omega arith }
 of-kind s p (face e) =
     let r : statedLength s ≡ 13 = rw e at (p .right) in
     let b = sound-address s p e in
     record {
       key = rw e (omega arith);
-      size = rw e (simp (ne-eqb (getD s 5 0 - (firstAddress - 1)) 0 (omega arith), le-leb (getD s 5 0 - (firstAddress - 1)) places (omega arith)) (sym r));
+      size =
+          rw e (simp (
+            ne-eqb (getD s 5 0 - (firstAddress - 1)) 0 (omega arith),
+            le-leb (getD s 5 0 - (firstAddress - 1)) places
+                (omega arith),
+          ) (sym r));
       eight = omega arith;
     }
-of-kind s p (metadata e) = let r : statedLength s ≡ 8 = rw e at (p .right) in record { key = rw e (omega arith); size = rw e (sym r); eight = omega arith }
-of-kind s p (hdr e) = let r : statedLength s ≡ 8 = rw e at (p .right) in record { key = rw e (omega arith); size = rw e (sym r); eight = omega arith }
-of-kind s p (throttle e) = let r : statedLength s ≡ 24 = rw e at (p .right) in record { key = rw e (omega arith); size = rw e (sym r); eight = omega arith }
+of-kind s p (metadata e) =
+    let r : statedLength s ≡ 8 = rw e at (p .right) in record { key = rw e (omega arith); size = rw e (sym r); eight = omega arith }
+of-kind s p (hdr e) =
+    let r : statedLength s ≡ 8 = rw e at (p .right) in record { key = rw e (omega arith); size = rw e (sym r); eight = omega arith }
+of-kind s p (throttle e) =
+    let r : statedLength s ≡ 24 = rw e at (p .right) in record { key = rw e (omega arith); size = rw e (sym r); eight = omega arith }
 
 pub sound-of : (s : List ℕ) → Sound s → Of s
 sound-of s p = of-kind s p (kind-of (statedKind s) (p .known))
@@ -112,7 +125,8 @@ number-same (suc k) s t i h =
     ∙ sym (front k s i)
 
 -- bytes that agree with a sound record's own are a sound record of the same key and length
-module _ (s s′ : List ℕ) (p : Sound s) (long : statedLength s ≤ length s′) (same : (i : ℕ) → i < statedLength s → getD s′ i 0 ≡ getD s i 0) where
+module _ (s s′ : List ℕ) (p : Sound s) (long : statedLength s ≤ length s′)
+    (same : (i : ℕ) → i < statedLength s → getD s′ i 0 ≡ getD s i 0) where
   same-at : (i : ℕ) → i < 8 → getD s′ i 0 ≡ getD s i 0
   same-at i h = same i (omega (arith, sound-of s p .eight))
 
@@ -129,14 +143,16 @@ module _ (s s′ : List ℕ) (p : Sound s) (long : statedLength s ≤ length s�
   same-tail : statedKind s ≡ selectors.throttle → throttleTail s′ ≡ throttleTail s
   same-tail e =
       let r : statedLength s ≡ 24 = rw e at (p .right) in
-      let l : (t : List ℕ) → 24 ≤ length t → length (throttleTail t) ≡ 12 = λ t h. length-take-le 12 (drop 12 t) (simp length-drop (omega arith)) in
+      let l : (t : List ℕ) → 24 ≤ length t → length (throttleTail t) ≡ 12 =
+      λ t h. length-take-le 12 (drop 12 t) (simp length-drop (omega arith)) in
       let n : length (throttleTail s′) ≡ 12 = l s′ (omega arith) in
       ext-getD 0 _ _ (n ∙ sym (l s (omega (arith, p .within))))
       (λ i h.
       getD-take 12 (drop 12 s′) i 0 (omega arith) ∙ getD-drop 12 s′ i 0 ∙ same (12 + i) (omega arith)
       ∙ sym (getD-drop 12 s i 0) ∙ sym (getD-take 12 (drop 12 s) i 0 (omega arith)))
 
-  zeros-same : (b : Bool) → eqb (statedKind s) selectors.throttle ≡ b → cond b (zeros (throttleTail s)) true ≡ true → cond b (zeros (throttleTail s′)) true ≡ true
+  zeros-same : (b : Bool) → eqb (statedKind s) selectors.throttle ≡ b → cond b (zeros (throttleTail s)) true ≡ true
+      → cond b (zeros (throttleTail s′)) true ≡ true
   zeros-same true e h = rw (same-tail (eqb-true _ _ e)) h
   zeros-same false e h = refl
 
@@ -153,7 +169,8 @@ module _ (s s′ : List ℕ) (p : Sound s) (long : statedLength s ≤ length s�
 -- where a record of key k stands
 pub stands-sound : (k : ℕ) (s : List ℕ) → stands k s ≡ true → Sound s × (statedKey s ≡ k)
 unfolding stands
-stands-sound k s e = (sound-parts s (and-left _ (eqb (statedKey s) k) e), eqb-true (statedKey s) k (and-right (soundRecord s) (eqb (statedKey s) k) e))
+stands-sound k s e =
+    (sound-parts s (and-left _ (eqb (statedKey s) k) e), eqb-true (statedKey s) k (and-right (soundRecord s) (eqb (statedKey s) k) e))
 
 pub sound-stands : (k : ℕ) (s : List ℕ) → Sound s → statedKey s ≡ k → stands k s ≡ true
 unfolding stands

@@ -30,12 +30,15 @@ by-kind len size key h = ap (λ b. cond b key keys) (sym (framed len size true h
 by-face : (len n address : ℕ) (b : Bool) → (eqb n 1 && leb firstAddress address && leb address lastAddress) ≡ b
     → keyBy len selectors.face n address ≡ cond (eqb len 13 && b) (address - (firstAddress - 1)) keys
 by-face len n address b e =
-    let f : (eqb n 1 && (leb firstAddress address && (leb address lastAddress && true)) && true) ≡ (eqb n 1 && leb firstAddress address && leb address lastAddress) = simp (and-assoc, and-true) in
+    let f : (eqb n 1 && (leb firstAddress address && (leb address lastAddress && true)) && true)
+    ≡ (eqb n 1 && leb firstAddress address && leb address lastAddress) =
+    simp (and-assoc, and-true) in
     ap (λ c. cond c (address - (firstAddress - 1)) keys) (framed len 13 _ (omega arith) ∙ ap (λ c. eqb len 13 && c) (f ∙ e))
 
 module _ (len n address : ℕ) where
   pub by-address : (eqb n 1 && leb firstAddress address && leb address lastAddress) ≡ true → firstAddress ≤ address → address ≤ lastAddress
-      → cond (eqb len (recordLength (address - (firstAddress - 1)))) (address - (firstAddress - 1)) keys ≡ keyBy len selectors.face n address
+      → cond (eqb len (recordLength (address - (firstAddress - 1)))) (address - (firstAddress - 1)) keys
+      ≡ keyBy len selectors.face n address
   by-address e h l =
       let k = address - (firstAddress - 1) in
       let z : recordLength k ≡ 13 = simp (ne-eqb k 0 (omega arith), le-leb k places (omega arith)) in
@@ -101,9 +104,18 @@ module _ (s : List ℕ) where
   sound-stated : soundRecord s ≡ true → stated s ≡ true
   sound-stated e =
       let p = sound-parts s e in
-      simp (le-leb 4 (statedLength s) (omega (arith, sound-of s p .eight)), le-leb (statedLength s) (statedLength s) (omega arith), lt-ltb _ _ (p .known), eq-eqb _ _ (p .right), p .face, either)
+      simp (
+        le-leb 4 (statedLength s) (omega (arith, sound-of s p .eight)),
+        le-leb (statedLength s) (statedLength s)
+            (omega arith),
+        lt-ltb _ _ (p .known),
+        eq-eqb _ _ (p .right),
+        p .face,
+        either,
+      )
 
-  stated-sound : stated s ≡ true → statedLength s ≤ length s → cond (eqb (statedKind s) selectors.throttle) (zeros (throttleTail s)) true ≡ true → soundRecord s ≡ true
+  stated-sound : stated s ≡ true → statedLength s ≤ length s
+      → cond (eqb (statedKind s) selectors.throttle) (zeros (throttleTail s)) true ≡ true → soundRecord s ≡ true
   stated-sound e h t =
       let at = each (recordTests (statedLength s) (statedLength s) (statedKind s) (getD s 4 0) (getD s 5 0) true) e in
       parts-sound s record {
@@ -130,7 +142,8 @@ module _ (s : List ℕ) where
     pub zero-key : told s ≡ 3 + places → zeros (throttleTail s) ≡ true → told s ≡ keyAt s
     zero-key q z = go (stated s) refl q
       where
-        go : (b : Bool) → stated s ≡ b → cond b (keyFor (statedKind s) (getD s 5 0)) keys ≡ 3 + places → cond b (keyFor (statedKind s) (getD s 5 0)) keys ≡ keyAt s
+        go : (b : Bool) → stated s ≡ b → cond b (keyFor (statedKind s) (getD s 5 0)) keys ≡ 3 + places
+            → cond b (keyFor (statedKind s) (getD s 5 0)) keys ≡ keyAt s
         go true e q = sym (sound-key (stated-sound e h (rw z (either (eqb (statedKind s) selectors.throttle)))))
         go false e q = absurd (omega arith)
 

@@ -35,5 +35,8 @@ neither false b h = (refl, h)
 pub throttle-within : (l : ThrottleLimits) (mode percent : ℕ) → throttleRefusal l mode percent ≡ 0 → (mode ≤ 1) × (percent ≤ l .maximum)
 unfolding throttleRefusal
 throttle-within l mode percent h =
-    let q = quiet ((_ ⇒ outOfRange) ∷ (_ ⇒ invalidValue) ∷ []) [] refl h .0 in
-    (ltb-false 1 mode (neither (ltb 1 mode) _ (q .1 .0) .0), ltb-false (l .maximum) percent (neither (ltb percent (l .minimum)) _ (q .0) .1))
+    let q = quiet ((_ ⇒ outOfRange) ∷ (_ ⇒ invalidValue) ∷ []) [] refl h .0 in (
+      ltb-false 1 mode (neither (ltb 1 mode) _ (q .1 .0) .0),
+      ltb-false (l .maximum) percent
+          (neither (ltb percent (l .minimum)) _ (q .0) .1),
+    )

@@ -34,13 +34,20 @@ returns-5 : tie.Need-returns-5
 unfolding throttleAttribute throttleCurrent
 returns-5 c =
     let a = c .before .before .before .before .before .before .before .args in
-    sym (ap (throttleAttribute (a .l) (a .held)) (c .before .before .before .if4 .taken) ∙ ap (throttleCurrent (a .l)) (c .before .held .given .1))
+    sym (ap (throttleAttribute (a .l) (a .held)) (c .before .before .before .if4 .taken) ∙ ap (throttleCurrent (a .l))
+    (c .before .held .given .1))
 
 returns-6 : tie.Need-returns-6
 unfolding throttleAttribute
 returns-6 c =
     let code = c .before .before .before .before .args .code in
-    rw (ne-eqb code getMin (c .before .before .before .if1 .left), ne-eqb code getMax (c .before .before .if2 .left), ne-eqb code getRes (c .before .if3 .left), ne-eqb code getCur (c .if4 .left))
+    rw (
+      ne-eqb code getMin (c .before .before .before .if1 .left),
+      ne-eqb code getMax (c .before .before .if2 .left),
+      ne-eqb code getRes
+          (c .before .if3 .left),
+      ne-eqb code getCur (c .if4 .left),
+    )
 
 pub attribute-spec : {M : Type 1} → statement M
 attribute-spec =

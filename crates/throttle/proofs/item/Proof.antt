@@ -18,7 +18,8 @@ item-of-requires c κs = search needs
 
 returns : tie.Need-returns
 unfolding throttleItem
-returns c = rw (c .item-of .ensures, c .before .refusal .ensures, c .before .before .le322 .ensures, c .before .before .before .le32 .ensures)
+returns c =
+    rw (c .item-of .ensures, c .before .refusal .ensures, c .before .before .le322 .ensures, c .before .before .before .le32 .ensures)
 
 pub item-spec : {M : Type 1} → statement M
 item-spec =

@@ -8,11 +8,18 @@ use Rattle.throttle.proofs.refusal.Tie as tie
 
 -- past the limits and the mode the step answers
 last : (c : tie.After-divides)
-    → let a = c .before .before .before .before .before .before .args in throttleRefusal (a .l) (a .mode) (a .percent) ≡ cond (not (c .divides .result)) invalidValue 0
+    → let a = c .before .before .before .before .before .before .args in throttleRefusal (a .l) (a .mode) (a .percent)
+    ≡ cond (not (c .divides .result)) invalidValue 0
 unfolding throttleRefusal
 last c =
     let a = c .before .before .before .before .before .before .args in
-    rw (le-ltb (a .percent) (a .l .minimum) (c .before .before .before .before .if1 .left), le-ltb (a .l .maximum) (a .percent) (c .before .before .if2 .left), le-ltb 1 (a .mode) (c .before .if3 .left), c .divides .ensures)
+    rw (
+      le-ltb (a .percent) (a .l .minimum) (c .before .before .before .before .if1 .left),
+      le-ltb (a .l .maximum) (a .percent)
+          (c .before .before .if2 .left),
+      le-ltb 1 (a .mode) (c .before .if3 .left),
+      c .divides .ensures,
+    )
 
 returns : tie.Need-returns
 unfolding throttleRefusal
@@ -30,7 +37,12 @@ returns-3 : tie.Need-returns-3
 unfolding throttleRefusal
 returns-3 c =
     let a = c .before .before .before .before .before .args in
-    rw (le-ltb (a .percent) (a .l .minimum) (c .before .before .before .if1 .left), le-ltb (a .l .maximum) (a .percent) (c .before .if2 .left), lt-ltb 1 (a .mode) (c .if3 .taken))
+    rw (
+      le-ltb (a .percent) (a .l .minimum) (c .before .before .before .if1 .left),
+      le-ltb (a .l .maximum) (a .percent)
+          (c .before .if2 .left),
+      lt-ltb 1 (a .mode) (c .if3 .taken),
+    )
 
 divides-requires : tie.Need-divides-requires
 divides-requires c κs = search needs

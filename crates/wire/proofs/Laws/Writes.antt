@@ -36,7 +36,8 @@ pub part : (d : List ℕ) (i : ℕ) (s t : List ℕ) → i ≤ length d → t �
 unfolding overlay
 part d i s t h e = go (leb (length s) (length d - i)) refl
   where
-    go : (b : Bool) → leb (length s) (length d - i) ≡ b → take i d ++ take (length t) t ++ drop (i + length t) d ≡ take i d ++ take (length d - i) s ++ drop (i + length s) d
+    go : (b : Bool) → leb (length s) (length d - i) ≡ b
+        → take i d ++ take (length t) t ++ drop (i + length t) d ≡ take i d ++ take (length d - i) s ++ drop (i + length s) d
     go true p =
         let q : t ≡ s = e ∙ take-all (length d - i) s (leb-true (length s) (length d - i) p) in
         rw (take-length t, e) (ap (λ (l : List ℕ). take i d ++ take (length d - i) s ++ drop (i + length l) d) (sym e ∙ q))
@@ -70,7 +71,8 @@ unfolding overlay
 append-past d s t h =
     past (overlay d 0 s) (length s) t (omega (arith, same-length d 0 s))
     ∙ ap₂ (λ u v. u ++ v) (sym (take-append-le (length d - 0) s t (omega arith)))
-    (drop-of-length-le d {i = 0 + length s} (omega arith) ∙ sym (drop-of-length-le d {i = 0 + length (s ++ t)} (omega (arith, length-append s t))))
+    (drop-of-length-le d {i = 0 + length s} (omega arith)
+    ∙ sym (drop-of-length-le d {i = 0 + length (s ++ t)} (omega (arith, length-append s t))))
 
 -- what is laid over piece by piece is laid over at once
 pub append : (d s t : List ℕ) → overlay (overlay d 0 s) (length s) t ≡ overlay d 0 (s ++ t)

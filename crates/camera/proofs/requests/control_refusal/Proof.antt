@@ -19,7 +19,8 @@ state-refusal-requires c κs = search needs
 returns-2 : tie.Need-returns-2
 returns-2 c =
     let a = c .before .before .before .args in
-    c .state-refusal .ensures ∙ control-state (a .p) (a .streaming) (a .selector) (c .before .before .refusal .ensures) (c .before .if1 .left)
+    c .state-refusal .ensures
+    ∙ control-state (a .p) (a .streaming) (a .selector) (c .before .before .refusal .ensures) (c .before .if1 .left)
 
 pub control-refusal-spec : {M : Type 1} → statement M
 control-refusal-spec = tie.close (tie.spec refusal-requires returns state-refusal-requires returns-2)

@@ -26,7 +26,11 @@ returns c =
     let f = p .before in
     let e = f .before .before in
     let a = e .before .before .before .args .camera in
-    of-program a (record { flags = held-typed (a .settings) (e .ev-typed .ensures) (f .face-typed .ensures); maximum = c .maximum-typed .ensures }) (p .places-typed .ensures)
+    of-program a (record {
+      flags = held-typed (a .settings) (e .ev-typed .ensures)
+          (f .face-typed .ensures);
+      maximum = c .maximum-typed .ensures;
+    }) (p .places-typed .ensures)
 
 pub of-program-spec : {M : Type 1} → statement M
 of-program-spec =

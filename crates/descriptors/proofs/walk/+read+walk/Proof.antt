@@ -43,8 +43,16 @@ walk-below t = and 1 walk-kinds.ps (falls 1 walk-kinds.ps _<_ μ-walk t) walk.Pr
 
 -- what each may take of those that it calls
 abbrev read-calls : ℕ → read-lts.Claims
-read-calls t =
-    (look-reads.Asked, look-reads.Learnt, refused-reads.Asked, refused-reads.Learnt, stop-reads.Asked, stop-reads.Learnt, walk-below t, walk.Post)
+read-calls t = (
+  look-reads.Asked,
+  look-reads.Learnt,
+  refused-reads.Asked,
+  refused-reads.Learnt,
+  stop-reads.Asked,
+  stop-reads.Learnt,
+  walk-below t,
+  walk.Post,
+)
 
 abbrev walk-calls : ℕ → walk-lts.Claims
 walk-calls t = (read-below t, read.Post)
@@ -62,29 +70,35 @@ read-enum-known-size : (t : ℕ) → read-lts.Need-enum-known-size (read-calls t
 read-enum-known-size t c = search needs
 
 read-add-result : (t : ℕ) → read-lts.Need-add-result (read-calls t) (read-at t) read.Post
-read-add-result t c = omega (arith, known-as _ _ _ _ _ (told-opaque _ _ _ _ (c .before .before .before .look .ensures) (c .before .size .given .1)))
+read-add-result t c =
+    omega (arith, known-as _ _ _ _ _ (told-opaque _ _ _ _ (c .before .before .before .look .ensures) (c .before .size .given .1)))
 
 read-enum-known-size-2 : (t : ℕ) → read-lts.Need-enum-known-size-2 (read-calls t) (read-at t) read.Post
 read-enum-known-size-2 t c = search needs
 
 read-property-stop-requires : (t : ℕ) → read-lts.Need-property-stop-requires (read-calls t) (read-at t) read.Post
-read-property-stop-requires t c κs = omega (arith, told-property _ _ _ _ (c .before .before .before .look .ensures) (c .before .size2 .given .1))
+read-property-stop-requires t c κs =
+    omega (arith, told-property _ _ _ _ (c .before .before .before .look .ensures) (c .before .size2 .given .1))
 
 read-enum-known-size-3 : (t : ℕ) → read-lts.Need-enum-known-size-3 (read-calls t) (read-at t) read.Post
 read-enum-known-size-3 t c = search needs
 
 read-add-walk : (t : ℕ) → read-lts.Need-add-walk (read-calls t) (read-at t) read.Post
-read-add-walk t c = omega (arith, known-as _ _ _ _ _ (told-subset _ _ _ _ (c .before .before .before .look .ensures) (c .before .size3 .given .1)))
+read-add-walk t c =
+    omega (arith, known-as _ _ _ _ _ (told-subset _ _ _ _ (c .before .before .before .look .ensures) (c .before .size3 .given .1)))
 
 read-add-walk-2 : (t : ℕ) → read-lts.Need-add-walk-2 (read-calls t) (read-at t) read.Post
-read-add-walk-2 t c = omega (arith, known-as _ _ _ _ _ (told-subset _ _ _ _ (c .before .before .before .look .ensures) (c .before .size3 .given .1)))
+read-add-walk-2 t c =
+    omega (arith, known-as _ _ _ _ _ (told-subset _ _ _ _ (c .before .before .before .look .ensures) (c .before .size3 .given .1)))
 
 read-walk-requires : (t : ℕ) → read-lts.Need-walk-requires (read-calls t) (read-at t) read.Post
-read-walk-requires t c κs = omega (arith, known-as _ _ _ _ _ (told-subset _ _ _ _ (c .before .before .before .look .ensures) (c .before .size3 .given .1)))
+read-walk-requires t c κs =
+    omega (arith, known-as _ _ _ _ _ (told-subset _ _ _ _ (c .before .before .before .look .ensures) (c .before .size3 .given .1)))
 
 read-returns : (t : ℕ) → read-lts.Need-returns (read-calls t) (read-at t) read.Post
 read-returns t c =
-    c .refusal-number .ensures ∙ stop-refused _ _ _ _ _ (told-refused _ _ _ _ (c .before .before .before .before .look .ensures) (c .before .before .code .given .1))
+    c .refusal-number .ensures
+    ∙ stop-refused _ _ _ _ _ (told-refused _ _ _ _ (c .before .before .before .before .look .ensures) (c .before .before .code .given .1))
 
 read-returns-2 : (t : ℕ) → read-lts.Need-returns-2 (read-calls t) (read-at t) read.Post
 read-returns-2 t c = stop-opaque _ _ _ _ _ (told-opaque _ _ _ _ (c .before .before .before .look .ensures) (c .before .size .given .1))
@@ -92,7 +106,8 @@ read-returns-2 t c = stop-opaque _ _ _ _ _ (told-opaque _ _ _ _ (c .before .befo
 read-returns-3 : (t : ℕ) → read-lts.Need-returns-3 (read-calls t) (read-at t) read.Post
 read-returns-3 t c =
     c .property-stop .ensures
-    ∙ stop-property _ _ _ _ _ (told-property _ _ _ _ (c .before .before .before .before .look .ensures) (c .before .before .size2 .given .1) .3)
+    ∙ stop-property _ _ _ _ _
+    (told-property _ _ _ _ (c .before .before .before .before .look .ensures) (c .before .before .size2 .given .1) .3)
 
 read-returns-4 : (t : ℕ) → read-lts.Need-returns-4 (read-calls t) (read-at t) read.Post
 read-returns-4 t c =
@@ -115,7 +130,8 @@ walk-loop-less : (t : ℕ) → walk-lts.Need-loop-less (walk-calls t) (walk-at t
 walk-loop-less t c = let next = turn _ _ _ _ _ (c .read .ensures) (omega arith) (omega arith) in omega arith
 
 walk-loop-again : (t : ℕ) → walk-lts.Need-loop-again (walk-calls t) (walk-at t) walk.Post walk-Inv-loop walk-μ-loop
-walk-loop-again t c = let next = turn _ _ _ _ _ (c .read .ensures) (omega arith) (omega arith) in (omega arith, c .before .before .loop .inv .1 ∙ next .0)
+walk-loop-again t c =
+    let next = turn _ _ _ _ _ (c .read .ensures) (omega arith) (omega arith) in (omega arith, c .before .before .loop .inv .1 ∙ next .0)
 
 walk-returns : (t : ℕ) → walk-lts.Need-returns (walk-calls t) (walk-at t) walk.Post walk-Inv-loop walk-μ-loop
 walk-returns t c = stopped _ _ _ _ (c .loop-test .left) ∙ sym (c .before .loop .inv .1)

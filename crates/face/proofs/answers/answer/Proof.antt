@@ -37,7 +37,8 @@ returns c =
     let v = f .before .before in
     let a = v .before .args in
     c .answer-by .ensures
-    ∙ ap₂ (λ (n : ℕ) (s : List ℕ). packed (answerBy (a .code) (1 + 8 * n) 0x03 s)) (f .endpoints-of .ensures .0) (unpack (faceValue (a .l) (a .held) (a .code)) (value-length _ _ _) (v .value .result) (v .value .ensures))
+    ∙ ap₂ (λ (n : ℕ) (s : List ℕ). packed (answerBy (a .code) (1 + 8 * n) 0x03 s)) (f .endpoints-of .ensures .0)
+    (unpack (faceValue (a .l) (a .held) (a .code)) (value-length _ _ _) (v .value .result) (v .value .ensures))
 
 pub answer-spec : {M : Type 1} → statement M
 answer-spec =

@@ -32,13 +32,23 @@ returns-3 : tie.Need-returns-3
 unfolding flagsAt
 returns-3 c =
     let h = c .before .before in
-    rw (ne-eqb _ _ (h .before .before .before .if1 .left), eq-eqb _ _ (h .before .before .if2 .left), eq-eqb _ _ (sym (h .held-at .ensures) ∙ c .before .if3 .taken)) (c .default-of2 .ensures)
+    rw (
+      ne-eqb _ _ (h .before .before .before .if1 .left),
+      eq-eqb _ _ (h .before .before .if2 .left),
+      eq-eqb _ _
+          (sym (h .held-at .ensures) ∙ c .before .if3 .taken),
+    ) (c .default-of2 .ensures)
 
 returns-4 : tie.Need-returns-4
 unfolding flagsAt
 returns-4 c =
     let h = c .before in
-    rw (ne-eqb _ _ (h .before .before .before .if1 .left), eq-eqb _ _ (h .before .before .if2 .left), ne-eqb _ _ (λ e. c .if3 .left (h .held-at .ensures ∙ e))) (h .held-at .ensures)
+    rw (
+      ne-eqb _ _ (h .before .before .before .if1 .left),
+      eq-eqb _ _ (h .before .before .if2 .left),
+      ne-eqb _ _
+          (λ e. c .if3 .left (h .held-at .ensures ∙ e)),
+    ) (h .held-at .ensures)
 
 pub flags-at-spec : {M : Type 1} → statement M
 flags-at-spec =

@@ -73,8 +73,11 @@ loop-again c =
     let b = f .before .before .before .before in
     let a = b .before .before .before .args in
     let e : f .entry-of .result ≡ entryOf (addressAt (a .t1) (b .loop .i)) (flagsAt (a .t1) (a .held) (a .code) (b .loop .i)) =
-    f .entry-of .ensures ∙ ap (entryOf (addressAt (a .t1) (b .loop .i))) (f .before .flags-at .ensures) in
-    (omega arith, d .copy .ensures ∙ ap (overlay (b .loop .bytes) (1 + 8 * b .loop .i)) e ∙ entries-next (a .t1) (a .held) (a .code) _ (b .loop .i) (b .loop .bytes) (omega arith) (b .loop .inv .1))
+    f .entry-of .ensures ∙ ap (entryOf (addressAt (a .t1) (b .loop .i))) (f .before .flags-at .ensures) in (
+      omega arith,
+      d .copy .ensures ∙ ap (overlay (b .loop .bytes) (1 + 8 * b .loop .i)) e ∙ entries-next (a .t1) (a .held) (a .code) _
+          (b .loop .i) (b .loop .bytes) (omega arith) (b .loop .inv .1),
+    )
 
 mul-t32 : tie.Need-mul-t32 Inv-loop μ-loop
 mul-t32 c = search needs
@@ -91,8 +94,12 @@ returns-2 c =
     let v = n ∷ entriesOf (a .t1) (a .held) (a .code) n in
     let e : b .loop .i ≡ n = omega arith in
     let h : length v ≡ 1 + 8 * n = omega (arith, length-entries (a .t1) (a .held) (a .code) n) in
-    let f : v ≡ faceValue (a .t1) (a .held) (a .code) = rw (b .before .before .if1 .left) (ap (λ (m : ℕ). m ∷ entriesOf (a .t1) (a .held) (a .code) m) (b .before .endpoints-of .ensures .0)) in
-    pack-is v (omega arith) (b .loop .bytes) (1 + 8 * n) (b .loop .inv .1 ∙ ap (λ (i : ℕ). overlay blank 0 (n ∷ entriesOf (a .t1) (a .held) (a .code) i)) e) (sym h) ∙ ap packed f
+    let f : v ≡ faceValue (a .t1) (a .held) (a .code) =
+    rw (b .before .before .if1 .left)
+    (ap (λ (m : ℕ). m ∷ entriesOf (a .t1) (a .held) (a .code) m) (b .before .endpoints-of .ensures .0)) in
+    pack-is v (omega arith) (b .loop .bytes) (1 + 8 * n)
+    (b .loop .inv .1 ∙ ap (λ (i : ℕ). overlay blank 0 (n ∷ entriesOf (a .t1) (a .held) (a .code) i)) e) (sym h)
+    ∙ ap packed f
 
 pub value-spec : {M : Type 1} → statement M
 value-spec =

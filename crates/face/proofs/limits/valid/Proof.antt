@@ -32,7 +32,8 @@ loop-again : tie.Need-loop-again Inv-loop μ-loop
 unfolding allBelow
 loop-again c =
     let b = c .before .before in
-    let e : b .loop .ok && c .endpoint-valid .result ≡ allBelow (b .loop .i + 1) (endpointValid (b .before .args .l)) = rw add-one (ap₂ _&&_ (b .loop .inv .1) (c .endpoint-valid .ensures)) in
+    let e : b .loop .ok && c .endpoint-valid .result ≡ allBelow (b .loop .i + 1) (endpointValid (b .before .args .l)) =
+    rw add-one (ap₂ _&&_ (b .loop .inv .1) (c .endpoint-valid .ensures)) in
     (omega arith, e)
 
 cast-result : tie.Need-cast-result Inv-loop μ-loop
@@ -44,7 +45,8 @@ returns c =
     let b = c .before .before .before in
     let l = b .before .args .l in
     let e : b .loop .i ≡ endpointLimit = omega arith in
-    ap (λ (x : Bool). leb 1 (l .count) && leb (l .count) endpointLimit && x) (b .loop .inv .1 ∙ ap (λ (n : ℕ). allBelow n (endpointValid l)) e)
+    ap (λ (x : Bool). leb 1 (l .count) && leb (l .count) endpointLimit && x)
+    (b .loop .inv .1 ∙ ap (λ (n : ℕ). allBelow n (endpointValid l)) e)
 
 pub valid-spec : {M : Type 1} → statement M
 valid-spec =

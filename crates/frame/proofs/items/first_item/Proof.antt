@@ -15,7 +15,8 @@ is-known-requires : tie.Need-is-known-requires
 is-known-requires c κs = search needs
 
 returns-2 : tie.Need-returns-2
-returns-2 c = head-unknown _ _ _ (omega arith) (c .before .before .le32 .ensures) (c .before .is-known .ensures) (not-true _ (c .if2 .taken))
+returns-2 c =
+    head-unknown _ _ _ (omega arith) (c .before .before .le32 .ensures) (c .before .is-known .ensures) (not-true _ (c .if2 .taken))
 
 le32-requires-2 : tie.Need-le32-requires-2
 le32-requires-2 c κs = search needs
@@ -24,7 +25,9 @@ cast-size : tie.Need-cast-size
 cast-size c = search needs
 
 returns-3 : tie.Need-returns-3
-returns-3 c = head-small _ _ _ (omega arith) (c .before .before .before .before .le32 .ensures) (c .before .before .before .is-known .ensures) (not-false _ (c .before .before .if2 .left)) (omega arith)
+returns-3 c =
+    head-small _ _ _ (omega arith) (c .before .before .before .before .le32 .ensures) (c .before .before .before .is-known .ensures)
+    (not-false _ (c .before .before .if2 .left)) (omega arith)
 
 returns-4 : tie.Need-returns-4
 returns-4 c =

@@ -95,7 +95,9 @@ loop-less : tie.Need-loop-less Inv-loop μ-loop
 loop-less c = omega (arith, inside _ _ _ _ _ _ _ (item-here (c .before)))
 
 loop-again : tie.Need-loop-again Inv-loop μ-loop
-loop-again c = let i = inside _ _ _ _ _ _ _ (item-here (c .before)) in (omega arith, omega arith, goes-on _ _ _ _ _ _ _ (item-here (c .before)) _ (c .pass-item .ensures))
+loop-again c =
+    let i = inside _ _ _ _ _ _ _ (item-here (c .before)) in
+    (omega arith, omega arith, goes-on _ _ _ _ _ _ _ (item-here (c .before)) _ (c .pass-item .ensures))
 
 returns-3 : tie.Need-returns-3 Inv-loop μ-loop
 returns-3 c = ends _ _ _ _ _ (omega arith) (c .before .loop .inv .2) (omega arith)

@@ -16,7 +16,8 @@ returns-2 : tie.Need-returns-2
 returns-2 c = end-long _ _ _ _ (sym (c .before .before .is-known .ensures) ∙ not-false _ (c .before .if1 .left)) (omega arith)
 
 returns-3 : tie.Need-returns-3
-returns-3 c = end-long _ _ _ _ (sym (c .before .before .before .is-known .ensures) ∙ not-false _ (c .before .before .if1 .left)) (omega arith)
+returns-3 c =
+    end-long _ _ _ _ (sym (c .before .before .before .is-known .ensures) ∙ not-false _ (c .before .before .if1 .left)) (omega arith)
 
 add-end : tie.Need-add-end
 add-end c = search needs
@@ -25,13 +26,19 @@ add-end-2 : tie.Need-add-end-2
 add-end-2 c = search needs
 
 returns-4 : tie.Need-returns-4
-returns-4 c = end-long _ _ _ _ (sym (c .before .before .before .before .is-known .ensures) ∙ not-false _ (c .before .before .before .if1 .left)) (omega arith)
+returns-4 c =
+    end-long _ _ _ _ (sym (c .before .before .before .before .is-known .ensures) ∙ not-false _ (c .before .before .before .if1 .left))
+    (omega arith)
 
 returns-5 : tie.Need-returns-5
-returns-5 c = room-short _ _ _ _ (sym (c .before .before .before .before .before .is-known .ensures) ∙ not-false _ (c .before .before .before .before .if1 .left)) (omega arith) (omega arith)
+returns-5 c =
+    room-short _ _ _ _ (sym (c .before .before .before .before .before .is-known .ensures) ∙ not-false _
+    (c .before .before .before .before .if1 .left)) (omega arith) (omega arith)
 
 returns-6 : tie.Need-returns-6
-returns-6 c = all-fits _ _ _ _ (sym (c .before .before .before .before .before .is-known .ensures) ∙ not-false _ (c .before .before .before .before .if1 .left)) (omega arith) (omega arith)
+returns-6 c =
+    all-fits _ _ _ _ (sym (c .before .before .before .before .before .is-known .ensures) ∙ not-false _
+    (c .before .before .before .before .if1 .left)) (omega arith) (omega arith)
 
 pub append-refusal-spec : {M : Type 1} → statement M
 append-refusal-spec =

@@ -16,7 +16,8 @@ pack-requires : tie.Need-pack-requires
 pack-requires c κs = search needs
 
 returns : tie.Need-returns
-returns c = c .pack .ensures ∙ ap packed (c .before .before .bytes16 .ensures ∙ sym (answer-len _ _ _ _ (c .before .before .before .if1 .taken)))
+returns c =
+    c .pack .ensures ∙ ap packed (c .before .before .bytes16 .ensures ∙ sym (answer-len _ _ _ _ (c .before .before .before .if1 .taken)))
 
 slice-aggregate-pack-2 : tie.Need-slice-aggregate-pack-2
 slice-aggregate-pack-2 c = search needs
@@ -25,7 +26,8 @@ pack-requires-2 : tie.Need-pack-requires-2
 pack-requires-2 c κs = search needs
 
 returns-2 : tie.Need-returns-2
-returns-2 c = c .pack2 .ensures ∙ ap packed (sym (answer-info _ _ _ _ (c .before .before .before .if1 .left) (c .before .before .if2 .taken)))
+returns-2 c =
+    c .pack2 .ensures ∙ ap packed (sym (answer-info _ _ _ _ (c .before .before .before .if1 .left) (c .before .before .if2 .taken)))
 
 pack-requires-3 : tie.Need-pack-requires-3
 pack-requires-3 c κs = search needs

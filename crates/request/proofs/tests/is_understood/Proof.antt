@@ -21,7 +21,11 @@ is-set-request-requires c κs = search needs
 returns-2 : tie.Need-returns-2
 returns-2 c =
     let b = c .before in
-    rw (eq-eqb (getD (b .before .before .before .before .args .setup .now) 2 0) 0 (low (b .before)), sym (b .is-set-request .ensures) ∙ c .if2 .taken)
+    rw (
+      eq-eqb (getD (b .before .before .before .before .args .setup .now) 2 0) 0 (low (b .before)),
+      sym (b .is-set-request .ensures)
+          ∙ c .if2 .taken,
+    )
 
 is-get-request-requires : tie.Need-is-get-request-requires
 is-get-request-requires c κs = search needs
@@ -29,7 +33,11 @@ is-get-request-requires c κs = search needs
 returns-3 : tie.Need-returns-3
 returns-3 c =
     let b = c .before .before in
-    rw (eq-eqb (getD (b .before .before .before .before .args .setup .now) 2 0) 0 (low (b .before)), sym (b .is-set-request .ensures) ∙ c .before .if2 .left) (c .is-get-request .ensures)
+    rw (
+      eq-eqb (getD (b .before .before .before .before .args .setup .now) 2 0) 0 (low (b .before)),
+      sym (b .is-set-request .ensures)
+          ∙ c .before .if2 .left,
+    ) (c .is-get-request .ensures)
 
 pub is-understood-spec : {M : Type 1} → statement M
 is-understood-spec = tie.close (tie.spec byte-requires returns is-set-request-requires returns-2 is-get-request-requires returns-3)

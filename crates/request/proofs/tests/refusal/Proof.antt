@@ -13,21 +13,26 @@ use Rattle.request.proofs.tests.refusal.Tie as tie
 eight : (c : tie.Else1) → eqb (length (c .before .before .before .args .setup .now)) 8 ≡ true
 eight c = eq-eqb (length (c .before .before .before .args .setup .now)) 8 (omega arith)
 
-addressed-row : (c : tie.After-is-addressed) → let s = c .before .before .before .before .args in not (isAddressed (s .u .unit) (s .u .interface) (s .setup .now)) ≡ not (c .is-addressed .result)
+addressed-row : (c : tie.After-is-addressed)
+    → let s = c .before .before .before .before .args in not (isAddressed (s .u .unit) (s .u .interface) (s .setup .now))
+    ≡ not (c .is-addressed .result)
 addressed-row c = ap not (sym (c .is-addressed .ensures))
 
 present-row : (c : tie.After-has-control)
-    → let s = c .before .before .before .before .before .before .before .args in not (hasControl (s .u .present) (setupSelector (s .setup .now))) ≡ not (c .has-control .result)
+    → let s = c .before .before .before .before .before .before .before .args in not
+    (hasControl (s .u .present) (setupSelector (s .setup .now))) ≡ not (c .has-control .result)
 present-row c =
     let s = c .before .before .before .before .before .before .before .args in
     ap not (sym (c .has-control .ensures ∙ ap (hasControl (s .u .present)) (c .before .selector .ensures)))
 
 understood-row : (c : tie.After-is-understood)
-    → let s = c .before .before .before .before .before .before .before .before .before .args in not (isUnderstood (s .c .settable) (s .setup .now)) ≡ not (c .is-understood .result)
+    → let s = c .before .before .before .before .before .before .before .before .before .args in not
+    (isUnderstood (s .c .settable) (s .setup .now)) ≡ not (c .is-understood .result)
 understood-row c = ap not (sym (c .is-understood .ensures))
 
 sized-row : (c : tie.After-is-sized)
-    → let s = c .before .before .before .before .before .before .before .before .before .before .before .args in not (isSized (s .c .len) (s .setup .now) (s .payload .now)) ≡ not (c .is-sized .result)
+    → let s = c .before .before .before .before .before .before .before .before .before .before .before .args in not
+    (isSized (s .c .len) (s .setup .now) (s .payload .now)) ≡ not (c .is-sized .result)
 sized-row c = ap not (sym (c .is-sized .ensures))
 
 returns : tie.Need-returns
@@ -63,20 +68,34 @@ returns-4 c =
     let u = c .before in
     let p = u .before .before in
     let a = p .before .before .before in
-    rw (eight (a .before), addressed-row a ∙ p .before .before .if2 .left, present-row p ∙ u .before .if3 .left, understood-row u ∙ c .if4 .taken)
+    rw (
+      eight (a .before),
+      addressed-row a ∙ p .before .before .if2 .left,
+      present-row p ∙ u .before .if3 .left,
+      understood-row u
+          ∙ c .if4 .taken,
+    )
 
 is-sized-requires : tie.Need-is-sized-requires
 is-sized-requires c κs = search needs
 
 -- past the first four tests the fifth answers
 fifth : (c : tie.After-is-sized)
-    → let s = c .before .before .before .before .before .before .before .before .before .before .before .args in firstOf (requestTests (tableOf (s .u) (s .c)) (s .setup .now) (s .payload .now)) ≡ cond (not (c .is-sized .result)) unknown 0
+    → let s = c .before .before .before .before .before .before .before .before .before .before .before .args in firstOf
+    (requestTests (tableOf (s .u) (s .c)) (s .setup .now) (s .payload .now)) ≡ cond (not (c .is-sized .result)) unknown 0
 unfolding requestTests
 fifth c =
     let u = c .before .before in
     let p = u .before .before in
     let a = p .before .before .before in
-    rw (eight (a .before), addressed-row a ∙ p .before .before .if2 .left, present-row p ∙ u .before .if3 .left, understood-row u ∙ c .before .if4 .left, sized-row c)
+    rw (
+      eight (a .before),
+      addressed-row a ∙ p .before .before .if2 .left,
+      present-row p ∙ u .before .if3 .left,
+      understood-row u
+          ∙ c .before .if4 .left,
+      sized-row c,
+    )
 
 returns-5 : tie.Need-returns-5
 returns-5 c = rw (fifth (c .before), c .if5 .taken)

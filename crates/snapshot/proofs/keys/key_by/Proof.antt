@@ -52,19 +52,24 @@ key-if-requires-3 : tie.Need-key-if-requires-3
 key-if-requires-3 c κs = search needs
 
 returns-4 : tie.Need-returns-4
-returns-4 c = c .key-if3 .ensures ∙ rw (c .before .if4 .taken) (by-kind (c .before .before .before .before .args .len) 8 (1 + places) (omega arith))
+returns-4 c =
+    c .key-if3 .ensures ∙ rw (c .before .if4 .taken) (by-kind (c .before .before .before .before .args .len) 8 (1 + places) (omega arith))
 
 key-if-requires-4 : tie.Need-key-if-requires-4
 key-if-requires-4 c κs = search needs
 
 returns-5 : tie.Need-returns-5
-returns-5 c = c .key-if4 .ensures ∙ rw (c .before .if5 .taken) (by-kind (c .before .before .before .before .before .args .len) 8 (2 + places) (omega arith))
+returns-5 c =
+    c .key-if4 .ensures
+    ∙ rw (c .before .if5 .taken) (by-kind (c .before .before .before .before .before .args .len) 8 (2 + places) (omega arith))
 
 key-if-requires-5 : tie.Need-key-if-requires-5
 key-if-requires-5 c κs = search needs
 
 returns-6 : tie.Need-returns-6
-returns-6 c = c .key-if5 .ensures ∙ rw (c .before .if6 .taken) (by-kind (c .before .before .before .before .before .before .args .len) 24 (3 + places) (omega arith))
+returns-6 c =
+    c .key-if5 .ensures
+    ∙ rw (c .before .if6 .taken) (by-kind (c .before .before .before .before .before .before .args .len) 24 (3 + places) (omega arith))
 
 returns-7 : tie.Need-returns-7
 returns-7 c =

@@ -12,7 +12,8 @@ returns-2 : tie.Need-returns-2
 returns-2 c = simp (ne-eqb _ 0 (c .before .if1 .left), le-leb _ places (c .if2 .taken))
 
 returns-3 : tie.Need-returns-3
-returns-3 c = simp (ne-eqb _ 0 (c .before .before .if1 .left), lt-leb _ places (c .before .if2 .left), le-leb _ (2 + places) (c .if3 .taken))
+returns-3 c =
+    simp (ne-eqb _ 0 (c .before .before .if1 .left), lt-leb _ places (c .before .if2 .left), le-leb _ (2 + places) (c .if3 .taken))
 
 returns-4 : tie.Need-returns-4
 returns-4 c = rw (c .if4 .taken)

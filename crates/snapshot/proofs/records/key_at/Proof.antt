@@ -29,7 +29,8 @@ at d =
     let b = d .before in
     let k = b .before .before in
     let l = k .before .before in
-    read _ _ _ _ _ _ _ (rest (l .before .before .tail .ensures)) (l .le16 .ensures .0) (k .le162 .ensures .0) (b .before .byte .ensures) (b .byte2 .ensures) (d .key-by .ensures)
+    read _ _ _ _ _ _ _ (rest (l .before .before .tail .ensures)) (l .le16 .ensures .0) (k .le162 .ensures .0) (b .before .byte .ensures)
+    (b .byte2 .ensures) (d .key-by .ensures)
 
 tail-requires : tie.Need-tail-requires
 tail-requires c κs = search needs
@@ -72,10 +73,12 @@ zero-tail-requires : tie.Need-zero-tail-requires
 zero-tail-requires c κs = search needs
 
 -- what the test of the tail says of the bytes
-tail-of : (d : tie.After-zero-tail) → let a = d .before .before .before .before .before .before .before .before .before .before .before .args in
+tail-of : (d : tie.After-zero-tail)
+    → let a = d .before .before .before .before .before .before .before .before .before .before .before .args in
     d .zero-tail .result ≡ zeros (throttleTail (drop (a .at) (a .s .now)))
 tail-of d =
-    d .zero-tail .ensures ∙ ap (λ l. zeros (throttleTail l)) (rest (d .before .before .before .before .before .before .before .before .before .tail .ensures))
+    d .zero-tail .ensures
+    ∙ ap (λ l. zeros (throttleTail l)) (rest (d .before .before .before .before .before .before .before .before .before .tail .ensures))
 
 returns-4 : tie.Need-returns-4
 returns-4 c =

@@ -18,7 +18,9 @@ abbrev μ-loop : tie.MeasureT-loop
 
 -- the bytes that are read
 p-bytes : (c : tie.After-tail Inv-loop μ-loop) → Bytes (c .tail .result .now)
-p-bytes c = rw (rest (c .tail .ensures)) (bytes-drop (c .before .before .args .s .now) (c .before .before .args .i) (c .before .shared-slice-known .given))
+p-bytes c =
+    rw (rest (c .tail .ensures))
+    (bytes-drop (c .before .before .args .s .now) (c .before .before .args .i) (c .before .shared-slice-known .given))
 
 -- what is read after one byte more
 module _ (c : tie.After-byte Inv-loop μ-loop) where
@@ -45,7 +47,12 @@ sub-j : tie.Need-sub-j Inv-loop μ-loop
 sub-j c = search needs
 
 mul-n : tie.Need-mul-n Inv-loop μ-loop
-mul-n c = omega (arith, below 7 (c .before .before .before .before .args .k - c .before .loop .j) (c .before .before .tail .result .now) (c .before .loop .j) (p-bytes (c .before .before)) (omega arith))
+mul-n c =
+    omega (
+      arith,
+      below 7 (c .before .before .before .before .args .k - c .before .loop .j) (c .before .before .tail .result .now)
+          (c .before .loop .j) (p-bytes (c .before .before)) (omega arith),
+    )
 
 byte-requires : tie.Need-byte-requires Inv-loop μ-loop
 byte-requires c κs = search needs
@@ -54,7 +61,9 @@ wide-requires : tie.Need-wide-requires Inv-loop μ-loop
 wide-requires c κs = search needs
 
 add-n : tie.Need-add-n Inv-loop μ-loop
-add-n c = let b = c .before in omega (arith, more b, below 8 (k b - (j b - 1)) (s b) (j b - 1) (p-bytes (b .before .before .before)) (omega arith))
+add-n c =
+    let b = c .before in
+    omega (arith, more b, below 8 (k b - (j b - 1)) (s b) (j b - 1) (p-bytes (b .before .before .before)) (omega arith))
 
 loop-less : tie.Need-loop-less Inv-loop μ-loop
 loop-less c = search needs
@@ -68,8 +77,12 @@ returns c =
     let a = b .before .before .before .args in
     let e : b .loop .j ≡ 0 = omega arith in
     let f : a .k - b .loop .j ≡ a .k = omega arith in
-    let n : b .loop .n ≡ leAt (a .k) (b .before .tail .result .now) 0 = b .loop .inv .1 ∙ ap₂ (λ (k j : ℕ). leAt k (b .before .tail .result .now) j) f e in
-    (n ∙ rw (rest (b .before .tail .ensures)) (at-start (a .k) (a .s .now) (a .i)), rw n (below (a .k) (a .k) (b .before .tail .result .now) 0 (p-bytes (b .before)) (omega arith)))
+    let n : b .loop .n ≡ leAt (a .k) (b .before .tail .result .now) 0 =
+    b .loop .inv .1 ∙ ap₂ (λ (k j : ℕ). leAt k (b .before .tail .result .now) j) f e in (
+      n ∙ rw (rest (b .before .tail .ensures)) (at-start (a .k) (a .s .now) (a .i)),
+      rw n
+          (below (a .k) (a .k) (b .before .tail .result .now) 0 (p-bytes (b .before)) (omega arith)),
+    )
 
 pub number-spec : {M : Type 1} → statement M
 number-spec =

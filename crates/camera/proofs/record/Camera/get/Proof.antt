@@ -13,12 +13,14 @@ use Rattle.camera.proofs.record.Camera.get.Tie as tie
 
 -- the answer is as long as it may be
 fits : (c : tie.After-answer) → let a = c .before .before .before .before .before .args in
-    length (controlAnswer (a .self .profile) (a .self .settings) (c .before .before .selector .result) (c .before .code .result)) ≤ longestAnswer
+    length (controlAnswer (a .self .profile) (a .self .settings) (c .before .before .selector .result) (c .before .code .result))
+    ≤ longestAnswer
 fits c = answer-fits _ _ _ _
 
 -- and is the one that the setup asks for
 is-asked : (c : tie.After-answer) → let a = c .before .before .before .before .before .args in
-    controlAnswer (a .self .profile) (a .self .settings) (c .before .before .selector .result) (c .before .code .result) ≡ asked (table (a .self)) (a .setup .now)
+    controlAnswer (a .self .profile) (a .self .settings) (c .before .before .selector .result) (c .before .code .result)
+    ≡ asked (table (a .self)) (a .setup .now)
 unfolding controlAnswer fullAnswer
 is-asked c =
     let a = c .before .before .before .before .before .args in
@@ -54,10 +56,14 @@ returns c =
     let w = c .before .before .before .before in
     let k = w .before .before .before in
     let a = k .before .before .before .before .before .args in
-    let e : take (k .answer .result .len) (k .answer .result .bytes) ≡ asked (table (a .self)) (a .setup .now) = unpack _ (fits k) _ (k .answer .ensures) ∙ is-asked k in
+    let e : take (k .answer .result .len) (k .answer .result .bytes) ≡ asked (table (a .self)) (a .setup .now) =
+    unpack _ (fits k) _ (k .answer .ensures) ∙ is-asked k in
     let u = ap₂ (λ (l : List ℕ) (n : ℕ). sentOf l n (length (a .reply .now))) e (w .wlength .ensures .0) in
-    let v = ap₂ (λ (l : List ℕ) (n : ℕ). replyOf l n (a .reply .now)) e (w .wlength .ensures .0) in
-    (ap (λ (s : Sent). record { code = s .code; count = s .count; camera = a .self }) (c .before .before .send .ensures .0 ∙ u), c .before .before .send .ensures .1 ∙ v)
+    let v = ap₂ (λ (l : List ℕ) (n : ℕ). replyOf l n (a .reply .now)) e (w .wlength .ensures .0) in (
+      ap (λ (s : Sent). record { code = s .code; count = s .count; camera = a .self })
+          (c .before .before .send .ensures .0 ∙ u),
+      c .before .before .send .ensures .1 ∙ v,
+    )
 
 pub get-spec : {M : Type 1} → statement M
 get-spec =

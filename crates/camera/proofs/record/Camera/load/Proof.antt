@@ -32,13 +32,16 @@ returns-2 c =
     c .refuse2 .ensures ∙ load-malformed _ _ (d .before .check .ensures) (formed (d .before .before)) (d .if2 .taken)
 
 load-records-requires : tie.Need-load-records-requires
-load-records-requires c κs = load-formed (c .before .before .before .before .before .args .self) _ (c .before .check .ensures) (c .if2 .left)
+load-records-requires c κs =
+    load-formed (c .before .before .before .before .before .args .self) _ (c .before .check .ensures) (c .if2 .left)
 
 returns-3 : tie.Need-returns-3
 returns-3 c =
     let d = c .before in
     let k = d .before in
-    c .load-records .ensures ∙ load-records _ _ (formed (k .before)) (load-formed (k .before .before .before .before .args .self) _ (k .check .ensures) (d .if2 .left))
+    c .load-records .ensures
+    ∙ load-records _ _ (formed (k .before))
+    (load-formed (k .before .before .before .before .args .self) _ (k .check .ensures) (d .if2 .left))
 
 pub load-spec : {M : Type 1} → statement M
 load-spec =

@@ -40,7 +40,9 @@ returns c =
     let t = c .before .before in
     let i = t .before in
     let q = i .before .before in
-    c .refuse .ensures ∙ load-stops _ _ (q .before .before .loop .inv) (q .before .loop-test .taken) (q .record-length .ensures) (i .before .part-at .ensures .bytes) (i .record-item .ensures) (t .item-code .ensures) (c .before .if1 .taken)
+    c .refuse .ensures
+    ∙ load-stops _ _ (q .before .before .loop .inv) (q .before .loop-test .taken) (q .record-length .ensures)
+    (i .before .part-at .ensures .bytes) (i .record-item .ensures) (t .item-code .ensures) (c .before .if1 .taken)
 
 put-item-requires : tie.Need-put-item-requires Inv-loop μ-loop
 put-item-requires c κs = search needs
@@ -50,7 +52,13 @@ add-at c =
     let t = c .before .before in
     let i = t .before in
     let q = i .before .before in
-    omega (arith, q .before .before .before .before .before .before .good .1, load-within _ _ (q .before .before .loop .inv) (q .before .loop-test .taken) (q .record-length .ensures) (i .before .part-at .ensures .bytes) (i .record-item .ensures) (t .item-code .ensures))
+    omega (
+      arith,
+      q .before .before .before .before .before .before .good .1,
+      load-within _ _ (q .before .before .loop .inv)
+          (q .before .loop-test .taken) (q .record-length .ensures) (i .before .part-at .ensures .bytes) (i .record-item .ensures)
+          (t .item-code .ensures),
+    )
 
 key-at-requires-2 : tie.Need-key-at-requires-2 Inv-loop μ-loop
 key-at-requires-2 c κs = search needs
@@ -60,7 +68,11 @@ loop-less c =
     let t = c .before .before .before in
     let i = t .before in
     let q = i .before .before in
-    omega (arith, load-above _ _ (q .before .before .loop .inv) (q .before .loop-test .taken) (q .record-length .ensures) (i .before .part-at .ensures .bytes) (i .record-item .ensures) (t .item-code .ensures) (c .key-at2 .ensures))
+    omega (
+      arith,
+      load-above _ _ (q .before .before .loop .inv) (q .before .loop-test .taken) (q .record-length .ensures)
+          (i .before .part-at .ensures .bytes) (i .record-item .ensures) (t .item-code .ensures) (c .key-at2 .ensures),
+    )
 
 loop-again : tie.Need-loop-again Inv-loop μ-loop
 loop-again c =
@@ -68,7 +80,9 @@ loop-again c =
     let t = e .before in
     let i = t .before in
     let q = i .before .before in
-    load-next _ _ (q .before .before .loop .inv) (q .before .loop-test .taken) (q .record-length .ensures) (i .before .part-at .ensures .bytes) (i .record-item .ensures) (t .item-code .ensures) (e .if1 .left) (c .before .put-item .ensures) (c .key-at2 .ensures)
+    load-next _ _ (q .before .before .loop .inv) (q .before .loop-test .taken) (q .record-length .ensures)
+    (i .before .part-at .ensures .bytes) (i .record-item .ensures) (t .item-code .ensures) (e .if1 .left)
+    (c .before .put-item .ensures) (c .key-at2 .ensures)
 
 with-settings-requires : tie.Need-with-settings-requires Inv-loop μ-loop
 with-settings-requires c κs = search needs

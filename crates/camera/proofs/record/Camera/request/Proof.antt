@@ -11,11 +11,14 @@ use Rattle.camera.proofs.record.Camera.request.Statement.{statement}
 use Rattle.camera.proofs.record.Camera.request.Tie as tie
 
 -- past test 1
-formed : (c : tie.After-refusal) → recordWellFormed (c .before .before .before .before .before .before .before .before .before .args .self) ≡ true
+formed : (c : tie.After-refusal)
+    → recordWellFormed (c .before .before .before .before .before .before .before .before .before .args .self) ≡ true
 formed c = let w = c .before .before .before .before in sym (w .before .well-formed .ensures) ∙ not-false _ (w .if1 .left)
 
 -- the selector that was read
-chosen : (c : tie.After-refusal) → c .before .before .before .selector .result ≡ setupSelector (c .before .before .before .before .before .before .before .before .before .args .setup .now)
+chosen : (c : tie.After-refusal)
+    → c .before .before .before .selector .result
+    ≡ setupSelector (c .before .before .before .before .before .before .before .before .before .args .setup .now)
 chosen c = c .before .before .before .selector .ensures
 
 -- tests 2 to 6 over the camera's table
@@ -31,7 +34,8 @@ tests c =
     (c .before .before .control .ensures ∙ ap (λ (n : ℕ). profileControl (a .self .profile) n l) (chosen c))
 
 -- test 7
-state : (c : tie.After-state-refusal) → let a = c .before .before .before .before .before .before .before .before .before .before .before .before .args in
+state : (c : tie.After-state-refusal)
+    → let a = c .before .before .before .before .before .before .before .before .before .before .before .before .args in
     c .state-refusal .result ≡ stateRefusal (a .self .streaming) (setupSelector (a .setup .now)) (setupCode (a .setup .now))
 state c =
     let r = c .before .before .before in
@@ -47,7 +51,9 @@ refuse-requires c κs = search needs
 returns : tie.Need-returns
 returns c =
     let a = c .before .before .before .before .before .before .args in
-    let m = malformed (a .self) (a .setup .now) (a .payload .now) (a .reply .now) (sym (c .before .before .well-formed .ensures) ∙ not-true _ (c .before .if1 .taken)) in
+    let m =
+    malformed (a .self) (a .setup .now) (a .payload .now) (a .reply .now)
+    (sym (c .before .before .well-formed .ensures) ∙ not-true _ (c .before .if1 .taken)) in
     (c .refuse .ensures ∙ m .0, m .1)
 
 selector-requires : tie.Need-selector-requires
@@ -86,7 +92,9 @@ returns-3 c =
     let t = c .before .before in
     let r = t .before .before .before in
     let a = r .before .before .before .before .before .before .before .before .before .args in
-    let f = state-fails (a .self) (a .setup .now) (a .payload .now) (a .reply .now) (formed r) (sym (tests r) ∙ t .before .before .if2 .left) (λ z. c .before .if3 .taken (state t ∙ z)) in
+    let f =
+    state-fails (a .self) (a .setup .now) (a .payload .now) (a .reply .now) (formed r) (sym (tests r) ∙ t .before .before .if2 .left)
+    (λ z. c .before .if3 .taken (state t ∙ z)) in
     (c .refuse3 .ensures ∙ ap (λ (n : ℕ). refused n (a .self)) (state t) ∙ f .0, f .1)
 
 is-set-request-requires : tie.Need-is-set-request-requires
@@ -101,7 +109,9 @@ returns-4 c =
     let r = t .before .before .before in
     let a = r .before .before .before .before .before .before .before .before .before .args in
     let y = sym (state t) ∙ c .before .before .before .if3 .left in
-    let s = a-set (a .self) (a .setup .now) (a .payload .now) (a .reply .now) (formed r) (sym (tests r) ∙ t .before .before .if2 .left) y (sym (c .before .before .is-set-request .ensures) ∙ c .before .if4 .taken) in
+    let s =
+    a-set (a .self) (a .setup .now) (a .payload .now) (a .reply .now) (formed r) (sym (tests r) ∙ t .before .before .if2 .left) y
+    (sym (c .before .before .is-set-request .ensures) ∙ c .before .if4 .taken) in
     (c .set .ensures ∙ ap (λ (n : ℕ). setDone (a .self) n (a .payload .now)) (chosen r) ∙ s .0, s .1)
 
 get-requires : tie.Need-get-requires
@@ -117,7 +127,9 @@ returns-5 c =
     let r = t .before .before .before in
     let a = r .before .before .before .before .before .before .before .before .before .args in
     let y = sym (state t) ∙ g .before .before .before .before .if3 .left in
-    let s = a-get (a .self) (a .setup .now) (a .payload .now) (a .reply .now) (formed r) (sym (tests r) ∙ t .before .before .if2 .left) y (sym (g .before .before .before .is-set-request .ensures) ∙ g .before .before .if4 .left) in
+    let s =
+    a-get (a .self) (a .setup .now) (a .payload .now) (a .reply .now) (formed r) (sym (tests r) ∙ t .before .before .if2 .left) y
+    (sym (g .before .before .before .is-set-request .ensures) ∙ g .before .before .if4 .left) in
     (g .get .ensures .0 ∙ s .0, g .get .ensures .1 ∙ s .1)
 
 pub request-spec : {M : Type 1} → statement M

@@ -45,7 +45,8 @@ returns-3 c =
     let v = c .before .before in
     let d = v .before .before in
     let m = d .before in
-    write-done (m .before .before .before .before .args .self) _ (formed (m .before)) (m .measure .ensures) (d .if2 .left) (v .write .ensures)
+    write-done (m .before .before .before .before .args .self) _ (formed (m .before)) (m .measure .ensures) (d .if2 .left)
+    (v .write .ensures)
 
 pub write-spec : {M : Type 1} → statement M
 write-spec =

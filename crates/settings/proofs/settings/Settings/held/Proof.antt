@@ -39,7 +39,8 @@ returns-3 : tie.Need-returns-3
 unfolding settingsHeld
 returns-3 c =
     let e = c .before in
-    rw (ne-eqb _ _ (e .before .before .if1 .left), lt-leb _ _ (e .before .if2 .left), eq-eqb _ _ (e .if3 .taken)) (c .held-metadata .ensures)
+    rw (ne-eqb _ _ (e .before .before .if1 .left), lt-leb _ _ (e .before .if2 .left), eq-eqb _ _ (e .if3 .taken))
+    (c .held-metadata .ensures)
 
 held-hdr-requires : tie.Need-held-hdr-requires
 held-hdr-requires c κs = search needs

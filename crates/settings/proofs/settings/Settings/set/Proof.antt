@@ -26,7 +26,8 @@ returns-2 : tie.Need-returns-2
 returns-2 c =
     let i = c .before .before in
     let a = i .before .before .before .args in
-    rw (c .put-item .ensures, c .before .item-code .ensures, i .item .ensures) (one-item (a .p) (a .self) (a .selector) (a .payload .now) (i .before .if1 .left))
+    rw (c .put-item .ensures, c .before .item-code .ensures, i .item .ensures)
+    (one-item (a .p) (a .self) (a .selector) (a .payload .now) (i .before .if1 .left))
 
 pub set-spec : {M : Type 1} → statement M
 set-spec =

@@ -37,7 +37,8 @@ returns c =
       k .before .before .before .ev-kept .ensures,
       k .before .before .before .before .valid .ensures,
     )
-    (formed-controls (k .before .before .before .before .before .before .args .p) (k .before .before .before .before .before .before .args .self))
+    (formed-controls (k .before .before .before .before .before .before .args .p)
+    (k .before .before .before .before .before .before .args .self))
 
 pub well-formed-spec : {M : Type 1} → statement M
 well-formed-spec =
