@@ -4,7 +4,7 @@ use crate::print::code;
 use crate::print::end;
 use crate::print::label;
 use crate::print::number;
-use crate::print::text;
+use printing::text;
 
 fn row(name: &[u8], block: &[u8]) {
     label(name, 18);

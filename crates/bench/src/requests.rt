@@ -3,30 +3,18 @@ use crate::device::bench;
 use crate::print::bytes;
 use crate::print::code;
 use crate::print::end;
-use crate::print::fill;
 use crate::print::label;
 use crate::print::number;
-use crate::print::text;
+use crate::print::signed;
 use camera::Camera;
-use controls::EvSetting;
+use printing::fill;
+use printing::text;
 
 fn header(title: &[u8]) {
     text(title);
     text(
         b"request           setup                    payload                              number  count  twelfths  reply\n",
     );
-}
-
-// A signed number by its 32 bits, which stand in an EV payload behind the flags.
-fn twelfths(value: i32) {
-    let payload = exposure::bytes(EvSetting { flags: 0, value });
-    let bits = wire::le32(&payload, 7) as usize;
-    if bits < 0x8000_0000 {
-        number(bits, 10);
-        return;
-    }
-    text(b"-");
-    number(0x1_0000_0000 - bits, 9);
 }
 
 fn snapshot(c: Camera) {
@@ -49,7 +37,7 @@ fn rest(payload: &[u8]) {
 fn answered(c: Camera, answer: u8, count: usize, reply: &[u8]) {
     code(answer, 8);
     number(count, 7);
-    twelfths(c.sensor().value);
+    signed(c.sensor().value, 10);
     bytes(wire::head(reply, count), 0);
     end();
 }

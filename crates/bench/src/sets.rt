@@ -4,10 +4,10 @@ use crate::print::code;
 use crate::print::end;
 use crate::print::label;
 use crate::print::number;
-use crate::print::text;
 use crate::print::utf16;
 use descriptors::Interface;
 use descriptors::RegistryProperty;
+use printing::text;
 
 fn interface(i: Interface) {
     match i {

@@ -59,9 +59,9 @@ fn sensor(camera: Camera) -> Camera {
 fn fresh(call: &[u8]) -> Camera {
     let camera = record::fresh(call);
     if camera.profile.valid() {
-        print::text(b" = valid");
+        printing::text(b" = valid");
     } else {
-        print::text(b" = not valid");
+        printing::text(b" = not valid");
     }
     camera
 }

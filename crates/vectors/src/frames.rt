@@ -89,7 +89,7 @@ fn flag(flags: u8, f: Flag) {
 // Whether FID, EOF, PTS, SCR and ERR are set.
 fn flags(call: &[u8]) {
     let byte = octet(word(call, 1), 0);
-    print::text(b" =");
+    printing::text(b" =");
     flag(byte, Flag::Fid);
     flag(byte, Flag::Eof);
     flag(byte, Flag::Pts);

@@ -16,13 +16,13 @@ use wire::Part;
 
 // The camera after a row.
 fn row(camera: Camera, line: &[u8]) -> Camera {
-    print::text(line);
+    printing::text(line);
     let call = words::behind(line, b':');
     snapshots::run(call);
     frames::run(call);
     sets::run(call);
     let next = camera_calls::run(camera, call);
-    print::text(b"\n");
+    printing::text(b"\n");
     next
 }
 

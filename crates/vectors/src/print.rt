@@ -1,16 +1,11 @@
-// What a row's answer is written with.
-use controls::EvSetting;
-
-const STDOUT: i32 = 1;
-
-pub(crate) fn text(s: &[u8]) {
-    io::write_all(STDOUT, s);
-}
+// What a row's answer is written with: a blank, and behind it the answer.
+use printing::Case;
+use printing::text;
 
 // A number in so many digits of hex.
 pub(crate) fn hex(n: u64, digits: usize) {
     text(b" ");
-    io::print_hex(STDOUT, n, digits);
+    printing::hex(n, digits, Case::Lower);
 }
 
 // Document 01's number, with which an answer begins.
@@ -21,27 +16,19 @@ pub(crate) fn code(n: u8) {
 
 pub(crate) fn count(n: usize) {
     text(b" ");
-    io::print_decimal(STDOUT, n as u64);
+    printing::decimal(n as u64);
 }
 
-// A byte.
-fn pair(n: u8) {
-    io::print_hex(STDOUT, n as u64, 2);
-}
-
-fn digits(s: &[u8]) {
-    let mut i = 0;
-    while i < s.len() {
-        pair(s[i]);
-        i += 1;
-    }
+pub(crate) fn signed(value: i32) {
+    text(b" ");
+    printing::signed(value);
 }
 
 // The bytes of a lent buffer.
 pub(crate) fn bytes(s: &[u8]) {
     if s.len() != 0 {
         text(b" ");
-        digits(s);
+        printing::bytes(s, b"", Case::Lower);
     }
 }
 
@@ -52,17 +39,4 @@ pub(crate) fn part(s: &[u8]) {
         return;
     }
     bytes(s);
-}
-
-// A signed number, by the bytes that a payload has for it.
-pub(crate) fn signed(value: i32) {
-    let b = exposure::bytes(EvSetting { flags: 0, value });
-    let n = wire::le32(&b, 7);
-    if n < 0x8000_0000 {
-        text(b" ");
-        io::print_decimal(STDOUT, n as u64);
-    } else {
-        text(b" -");
-        io::print_decimal(STDOUT, (0xFFFF_FFFF - n) as u64 + 1);
-    }
 }

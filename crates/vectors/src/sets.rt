@@ -9,7 +9,7 @@ use descriptors::Interface;
 fn interface(i: Interface) {
     match i {
         Interface::Nowhere => {
-            print::text(b" -");
+            printing::text(b" -");
         }
         Interface::First(n) => {
             print::count(n as usize);
@@ -32,7 +32,7 @@ fn entry(set: &[u8], k: usize) -> bool {
 
 // A property on a line of its own.
 fn line(set: &[u8], k: usize) -> bool {
-    print::text(b"\n ");
+    printing::text(b"\n ");
     print::count(k);
     entry(set, k)
 }

@@ -24,9 +24,9 @@ fn form(call: &[u8]) {
     let n = decode(word(call, 1), &mut bytes);
     let s = wire::head(&bytes, n);
     print::code(snapshot::check(s));
-    print::text(b" first");
+    printing::text(b" first");
     print::count(snapshot::key_at(s, 0));
-    print::text(b" keys");
+    printing::text(b" keys");
     keys(s);
 }
 
@@ -44,7 +44,7 @@ fn key(call: &[u8]) {
     let n = decode(word(call, 2), &mut bytes);
     let s = wire::head(&bytes, n);
     let key = place(word(call, 1));
-    print::text(b" =");
+    printing::text(b" =");
     print::count(snapshot::record_length(key));
     print::count(passed(s, key));
     print::count(snapshot::record_of(s, key).len());

@@ -1,0 +1,2 @@
+-- How many columns printed text takes.
+pub mod Printing
