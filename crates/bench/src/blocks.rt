@@ -1,21 +1,17 @@
 // The metadata blocks of document 01: how many items each has, and its first item.
-use crate::print::bytes;
-use crate::print::code;
-use crate::print::end;
-use crate::print::label;
-use crate::print::number;
+use crate::print;
 use printing::text;
 
 fn row(name: &[u8], block: &[u8]) {
-    label(name, 18);
-    bytes(block, 49);
+    print::label(name, 18);
+    print::bytes(block, 49);
     let counted = frame::count(block);
-    code(counted.code, 8);
-    number(counted.items, 7);
+    print::code(counted.code, 8);
+    print::number(counted.items, 7);
     let first = frame::item(block, 0);
-    number(first.id as usize, 10);
-    bytes(wire::part_at(block, first.payload), 0);
-    end();
+    print::number(first.id as usize, 10);
+    print::bytes(wire::part_at(block, first.payload), 0);
+    print::end();
 }
 
 pub(crate) fn rows() {

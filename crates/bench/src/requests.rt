@@ -1,11 +1,6 @@
 // Requests to the bench camera, a line for what is sent and answered and a line for the snapshot then.
 use crate::device::bench;
-use crate::print::bytes;
-use crate::print::code;
-use crate::print::end;
-use crate::print::label;
-use crate::print::number;
-use crate::print::signed;
+use crate::print;
 use camera::Camera;
 use printing::fill;
 use printing::text;
@@ -20,32 +15,32 @@ fn header(title: &[u8]) {
 fn snapshot(c: Camera) {
     let mut out = [0u8; 159];
     let w = c.write(&mut out);
-    label(b"  snapshot", 18);
-    bytes(wire::head(&out, w.count), 0);
-    end();
+    print::label(b"  snapshot", 18);
+    print::bytes(wire::head(&out, w.count), 0);
+    print::end();
 }
 
 // The bytes of a payload behind the twelve that its column has room for.
 fn rest(payload: &[u8]) {
     if 12 < payload.len() {
         fill(0, 43);
-        bytes(wire::tail(payload, 12), 0);
-        end();
+        print::bytes(wire::tail(payload, 12), 0);
+        print::end();
     }
 }
 
 fn answered(c: Camera, answer: u8, count: usize, reply: &[u8]) {
-    code(answer, 8);
-    number(count, 7);
-    signed(c.sensor().value, 10);
-    bytes(wire::head(reply, count), 0);
-    end();
+    print::code(answer, 8);
+    print::number(count, 7);
+    print::signed(c.sensor().value, 10);
+    print::bytes(wire::head(reply, count), 0);
+    print::end();
 }
 
 fn send(c: Camera, name: &[u8], setup: &[u8], payload: &[u8]) -> Camera {
-    label(name, 18);
-    bytes(setup, 25);
-    bytes(wire::head(payload, 12), 37);
+    print::label(name, 18);
+    print::bytes(setup, 25);
+    print::bytes(wire::head(payload, 12), 37);
     let mut reply = [0u8; 65];
     let done = c.request(setup, payload, &mut reply);
     let next = done.camera;

@@ -1,10 +1,5 @@
 // 004's two descriptor sets, each with its check and, where that accepts it, its registry properties.
-use crate::print::bytes;
-use crate::print::code;
-use crate::print::end;
-use crate::print::label;
-use crate::print::number;
-use crate::print::utf16;
+use crate::print;
 use descriptors::Interface;
 use descriptors::RegistryProperty;
 use printing::text;
@@ -12,10 +7,10 @@ use printing::text;
 fn interface(i: Interface) {
     match i {
         Interface::Nowhere => {
-            label(b"-", 11);
+            print::label(b"-", 11);
         }
         Interface::First(n) => {
-            number(n as usize, 11);
+            print::number(n as usize, 11);
         }
     }
 }
@@ -23,21 +18,21 @@ fn interface(i: Interface) {
 // Data types 4 and 5 are numbers, the others here UTF-16 text.
 fn data(kind: usize, s: &[u8]) {
     if (kind == 4) | (kind == 5) {
-        bytes(s, 0);
+        print::bytes(s, 0);
     } else {
-        utf16(s, 0);
+        print::utf16(s, 0);
     }
 }
 
 fn property(p: RegistryProperty, name: &[u8], value: &[u8]) {
-    label(b"  property", 24);
-    number(p.offset, 8);
+    print::label(b"  property", 24);
+    print::number(p.offset, 8);
     let i = p.interface;
     interface(i);
-    number(p.kind, 6);
-    utf16(name, 36);
+    print::number(p.kind, 6);
+    print::utf16(name, 36);
     data(p.kind, value);
-    end();
+    print::end();
 }
 
 fn properties(set: &[u8]) {
@@ -53,12 +48,12 @@ fn properties(set: &[u8]) {
 }
 
 fn row(name: &[u8], set: &[u8]) {
-    label(name, 24);
-    number(set.len(), 8);
+    print::label(name, 24);
+    print::number(set.len(), 8);
     let f = descriptors::check(set);
-    code(f.code, 8);
-    number(f.offset, 0);
-    end();
+    print::code(f.code, 8);
+    print::number(f.offset, 0);
+    print::end();
     properties(set);
 }
 
@@ -94,13 +89,15 @@ pub(crate) fn second_row() {
             \x80\x00\x04\x00\x01\x00\x28\x00\
             U\x00V\x00C\x00-\x00F\x00S\x00S\x00e\x00n\x00s\x00o\x00r\x00G\x00r\x00o\x00u\x00p\x00I\x00D\x00\x00\x00\
             \x4E\x00\
-            {\x002\x000\x00C\x009\x004\x00C\x005\x00C\x00-\x00F\x004\x000\x002\x00-\x004\x00F\x001\x00F\x00-\x00B\x003\x002\x004\x00-\x000\x00C\x001\x00C\x00F\x000\x002\x005\x007\x008\x007\x000\x00}\x00\x00\x00\
+            {\x002\x000\x00C\x009\x004\x00C\x005\x00C\x00-\x00F\x004\x000\x002\x00-\x004\x00F\x001\x00F\x00-\x00B\x00\
+            3\x002\x004\x00-\x000\x00C\x001\x00C\x00F\x000\x002\x005\x007\x008\x007\x000\x00}\x00\x00\x00\
             \x56\x00\x04\x00\x01\x00\x2C\x00\
             U\x00V\x00C\x00-\x00F\x00S\x00S\x00e\x00n\x00s\x00o\x00r\x00G\x00r\x00o\x00u\x00p\x00N\x00a\x00m\x00e\x00\x00\x00\
             \x20\x00\
             Y\x00o\x00u\x00r\x00C\x00a\x00m\x00e\x00r\x00a\x00G\x00r\x00o\x00u\x00p\x00\x00\x00\
             \x54\x00\x04\x00\x04\x00\x46\x00\
-            U\x00V\x00C\x00-\x00E\x00n\x00a\x00b\x00l\x00e\x00D\x00e\x00p\x00e\x00n\x00d\x00e\x00n\x00t\x00S\x00t\x00i\x00l\x00l\x00P\x00i\x00n\x00C\x00a\x00p\x00t\x00u\x00r\x00e\x00\x00\x00\
+            U\x00V\x00C\x00-\x00E\x00n\x00a\x00b\x00l\x00e\x00D\x00e\x00p\x00e\x00n\x00d\x00e\x00n\x00t\x00\
+            S\x00t\x00i\x00l\x00l\x00P\x00i\x00n\x00C\x00a\x00p\x00t\x00u\x00r\x00e\x00\x00\x00\
             \x04\x00\x01\x00\x00\x00\
             \x3C\x00\x04\x00\x04\x00\x2E\x00\
             U\x00V\x00C\x00-\x00E\x00n\x00a\x00b\x00l\x00e\x00P\x00l\x00a\x00t\x00f\x00o\x00r\x00m\x00D\x00m\x00f\x00t\x00\x00\x00\
@@ -109,7 +106,8 @@ pub(crate) fn second_row() {
             \x80\x00\x04\x00\x01\x00\x28\x00\
             U\x00V\x00C\x00-\x00F\x00S\x00S\x00e\x00n\x00s\x00o\x00r\x00G\x00r\x00o\x00u\x00p\x00I\x00D\x00\x00\x00\
             \x4E\x00\
-            {\x002\x000\x00C\x009\x004\x00C\x005\x00C\x00-\x00F\x004\x000\x002\x00-\x004\x00F\x001\x00F\x00-\x00B\x003\x002\x004\x00-\x000\x00C\x001\x00C\x00F\x000\x002\x005\x007\x008\x007\x000\x00}\x00\x00\x00\
+            {\x002\x000\x00C\x009\x004\x00C\x005\x00C\x00-\x00F\x004\x000\x002\x00-\x004\x00F\x001\x00F\x00-\x00B\x00\
+            3\x002\x004\x00-\x000\x00C\x001\x00C\x00F\x000\x002\x005\x007\x008\x007\x000\x00}\x00\x00\x00\
             \x56\x00\x04\x00\x01\x00\x2C\x00\
             U\x00V\x00C\x00-\x00F\x00S\x00S\x00e\x00n\x00s\x00o\x00r\x00G\x00r\x00o\x00u\x00p\x00N\x00a\x00m\x00e\x00\x00\x00\
             \x20\x00\

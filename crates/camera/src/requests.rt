@@ -46,7 +46,8 @@ impl Camera {
     // Test 9 of a GET, then as much of its answer as wLength asks for.
     fn get(self, setup: &[u8], reply: &mut [u8]) -> Outcome
         ensures { λ r. ⌜ r ≡ getDone self (now (setup .entry)) (length (now (reply .entry))) ⌝ }
-        ensures { λ _. ⌜ now (reply .exit) ≡ replyOf (asked (table self) (now (setup .entry))) (setupWLength (now (setup .entry))) (now (reply .entry)) ⌝ }
+        ensures { λ _. ⌜ now (reply .exit)
+            ≡ replyOf (asked (table self) (now (setup .entry))) (setupWLength (now (setup .entry))) (now (reply .entry)) ⌝ }
     {
         let selector = request::selector(setup);
         let code = request::code(setup);

@@ -43,15 +43,15 @@ use Rattle.camera.specs.Requests.{stateRefusal, table, cameraAnswer, requestedC
 use Rattle.camera.specs.{Loading.{selectorAt, recordItem, loadGives}, Calls.{sensed, Call, request, load, outcome, left, next}}
 use Rattle.camera.proofs.Laws.Record.{formed-profile}
 use Rattle.demands.specs.{Runs.{acceptsSet, gives, run}, Cameras.{Ok, Typed, Same}}
-use Rattle.demands.specs.Answers.{NewSettings, Twelfths, SensorExact, CurrentIsHeld, SameAnswers, FaceLength, FaceReadsBack, ReadsBack, bytesBack, CameraSends, Gets, SnapshotReadsBack, WriteSuffices}
-use Rattle.demands.proofs.Laws.Longest.{snapshot-short}
-use Rattle.demands.proofs.Laws.Held.{none-never, none-held}
-use Rattle.demands.proofs.Laws.Kept.{control-there, held-good}
+use Rattle.demands.specs.Answers.{NewSettings, Twelfths, SensorExact, CurrentIsHeld, SameAnswers, FaceLength, FaceReadsBack}
+use Rattle.demands.specs.Answers.{ReadsBack, bytesBack, CameraSends, Gets, SnapshotReadsBack, WriteSuffices}
+use Rattle.demands.proofs.Laws.{Longest.{snapshot-short}, Held.{none-never, none-held}, Kept.{control-there, held-good}}
 use Rattle.demands.proofs.Laws.Current.{ev-current, face-current, face-default, metadata-current, hdr-current, throttle-current}
-use Rattle.demands.proofs.Laws.Same.{settings-same}
-use Rattle.demands.proofs.Laws.Sensor.{twelfths-whole, twelfths-exact, steps-below}
-use Rattle.demands.proofs.Laws.ReadBack.{answer-back, Taken, entry-taken, face-put, After, after, payload-entry, place-at, face-sized, current-entry, current-length, current-held, current-same, face-none}
-use Rattle.demands.proofs.Laws.Steps.{step, outcome-code, set-answer, load-answer, refused-none, request-next, accepted-control, accepted-length, accepted-values, set-control}
+use Rattle.demands.proofs.Laws.{Same.{settings-same}, Sensor.{twelfths-whole, twelfths-exact, steps-below}}
+use Rattle.demands.proofs.Laws.ReadBack.{answer-back, Taken, entry-taken, face-put, After, after, payload-entry, place-at}
+use Rattle.demands.proofs.Laws.ReadBack.{face-sized, current-entry, current-length, current-held, current-same, face-none}
+use Rattle.demands.proofs.Laws.Steps.{step, outcome-code, set-answer, load-answer, refused-none, request-next, accepted-control}
+use Rattle.demands.proofs.Laws.Steps.{accepted-length, accepted-values, set-control}
 use Rattle.demands.proofs.Lists.{writes, snapshot-decodes, snapshot-formed, written-item}
 
 -- new settings, of any call
@@ -341,7 +341,8 @@ round-trip c o s payload reply b i e m g buffer x q f h =
     get-after c o (request s payload reply) g buffer x q (bytesBack (c .profile) (setupSelector s) payload)
     (ap (λ (n : ℕ). cameraAnswer (next c (request s payload reply)) n getCur) f ∙ set-then-get c o s payload reply b i e .answer m) h
 
--- Of face authentication it sends the list of every endpoint, in which the eight bytes of each entry that was set stand at its endpoint's place.
+-- Of face authentication it sends the list of every endpoint, in which the eight bytes of each entry that was set stand at its endpoint's
+-- place.
 pub face-round-trip : (c : Camera) → Ok (c .profile) c → (s payload reply : List ℕ) → Bytes payload → isSetRequest s ≡ true
     → outcome c (request s payload reply) .code ≡ 0
     → setupSelector s ≡ selector.face → (g buffer : List ℕ) → Gets (c .profile) g → setupCode g ≡ getCur → setupSelector g ≡ selector.face

@@ -20,14 +20,11 @@ use Rattle.camera.specs.Calls.{Call, load}
 use Rattle.encoding.specs.Encoding.{recordOf}
 use Rattle.demands.specs.{Runs.{gives, leaves, flagAfter, given, snapshotAfter, run}, Cameras.{Ok, Typed, handedSnapshot, Written}}
 use Rattle.demands.specs.Lists.{MergesTo, Whole, LoadsMerged, AcceptedInTurn, Restores}
-use Rattle.demands.proofs.Laws.Held.{none-held}
-use Rattle.camera.proofs.Laws.{Record.{formed-profile}, Loading.{codeBy, givenBy}}
-use Rattle.demands.proofs.Laws.Kept.{held-good}
-use Rattle.demands.proofs.Laws.Fits.{held-fitting}
-use Rattle.demands.proofs.Laws.Steps.{step, outcome-code, gives-good}
+use Rattle.demands.proofs.Laws.{Held.{none-held}, Kept.{held-good}, Fits.{held-fitting}, Steps.{step, outcome-code, gives-good}}
 use Rattle.demands.proofs.Laws.Lists.{given-append, run-ok, fresh-ok, held-after, flag-after}
 use Rattle.demands.proofs.Laws.Cameras.{rows, held-records, record-of-taken}
 use Rattle.demands.proofs.Laws.Loads.{Accepted, load-settings, load-accepted, accepted-load, merged-accepted, merged-settings}
+use Rattle.camera.proofs.Laws.{Record.{formed-profile}, Loading.{codeBy, givenBy}}
 
 -- writing, where there is room
 pub writes : (c : Camera) (out : List ℕ) → recordWellFormed c ≡ true → length (snapshot c) ≤ length out → Written c (snapshot c) out

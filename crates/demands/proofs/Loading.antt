@@ -18,13 +18,11 @@ use Rattle.camera.specs.{Loading.{loadRefusal, loadTests, loadGives, loaded}, C
 use Rattle.encoding.specs.Encoding.{recordOf}
 use Rattle.camera.proofs.Laws.{Record.{formed-profile}, Loading.{codeBy, givenBy}}
 use Rattle.demands.specs.{Runs.{gives, given, run}, Cameras.{Ok, Typed}}
-use Rattle.demands.specs.Loading.{recordSet, setCode, AsSet, recordSets, firstFault, EachAccepted, CountsAsSets, OwnSet, KeepsSetRules}
-use Rattle.demands.proofs.Laws.Held.{Each}
-use Rattle.demands.proofs.Laws.Kept.{Good, good-kept, kept-formed, held-good}
-use Rattle.demands.proofs.Laws.Fits.{held-fitting}
-use Rattle.demands.proofs.Laws.Cameras.{record-of, record-of-taken}
+use Rattle.demands.specs.Loading.{recordSet, setCode, AsSet, recordSets, firstFault, EachAccepted, CountsAsSets, OwnSet}
+use Rattle.demands.specs.Loading.{KeepsSetRules}
+use Rattle.demands.proofs.Laws.{Held.{Each}, Kept.{Good, good-kept, kept-formed, held-good}, Fits.{held-fitting}}
+use Rattle.demands.proofs.Laws.{Cameras.{record-of, record-of-taken}, Steps.{step, load-answer, load-next, request-next, gives-good}}
 use Rattle.demands.proofs.Laws.Sets as sets
-use Rattle.demands.proofs.Laws.Steps.{step, load-answer, load-next, request-next, gives-good}
 use Rattle.wire.proofs.Laws.Rows.{answers-number}
 
 -- every record in form, of any key

@@ -22,15 +22,17 @@ use Rattle.encoding.specs.Encoding.{recordOf}
 use Rattle.demands.specs.{Runs.{gives, leaves}, Cameras.{Written}}
 
 -- New settings. What any call leaves of a record that is not refused 0x21: of each key the last setting that the call gives, else the one
--- held, and the streaming flag of a notice. An accepted SET gives its payload's settings, an accepted load its records', a refused call none.
+-- held, and the streaming flag of a notice. An accepted SET gives its payload's settings, an accepted load its records', a refused call
+-- none.
 pub record NewSettings (c : Camera) (call : Call) : Type 0 where
   pub settings : (k : ℕ) → held (next c call) k ≡ over (held c k) (lastOf (gives (c .profile) (c .streaming) call) k)
   pub streaming : next c call .streaming ≡ leaves (c .streaming) call
   pub profile : next c call .profile ≡ c .profile
   pub refused : (outcome c call .code ≡ 0 → ⊥) → gives (c .profile) (c .streaming) call ≡ []
 
--- The sensor's number of the EV setting s that is held, in twelfths of a stop. The setting has one flag, which is offered and says the step:
--- d = divisor place of them make a stop. The number is value · (12 / d), where d divides 12; so it is as many stops as the value, unrounded.
+-- The sensor's number of the EV setting s that is held, in twelfths of a stop. The setting has one flag, which is offered and says the
+-- step: d = divisor place of them make a stop. The number is value · (12 / d), where d divides 12; so it is as many stops as the value,
+-- unrounded.
 pub record Twelfths (c : Camera) (s : EvSetting) : Type 0 where
   pub place : ℕ
   pub offered : oneFlag (c .profile .ev .steps) (s .flags) ≡ At place
@@ -107,15 +109,15 @@ pub record FaceReadsBack (c d : Camera) (payload : List ℕ) : Type 0 where
   -- no entries set nothing
   pub empty : getD payload 0 0 ≡ 0 → d ≡ c
 
--- What an accepted SET of a control makes of the record c: d, whose full answer to GET_CUR is the bytes that were set; a throttle's last twelve
--- are the profile's limits.
+-- What an accepted SET of a control makes of the record c: d, whose full answer to GET_CUR is the bytes that were set; a throttle's last
+-- twelve are the profile's limits.
 pub record ReadsBack (c d : Camera) (control : ℕ) (payload : List ℕ) : Type 0 where
   pub known : KnownControl control
   pub answer : (control ≡ selector.face → ⊥) → cameraAnswer d control getCur ≡ bytesBack (c .profile) control payload
   pub of-face : control ≡ selector.face → FaceReadsBack c d payload
 
--- What is sent of a full answer: the first min(wLength, full length) bytes, reported and at the buffer's start; the rest of the buffer and the
--- record are as they were.
+-- What is sent of a full answer: the first min(wLength, full length) bytes, reported and at the buffer's start; the rest of the buffer and
+-- the record are as they were.
 pub record CameraSends (c : Camera) (s payload reply full : List ℕ) : Type 0 where
   pub count : outcome c (request s payload reply) .count ≡ min (setupWLength s) (length full)
   pub buffer : left c (request s payload reply) ≡ take (min (setupWLength s) (length full)) full
@@ -130,8 +132,8 @@ pub record Gets (p : Profile) (s : List ℕ) : Type 0 where
   pub low : setupValueLow s ≡ 0
   pub get : isGetRequest s ≡ true
 
--- A written snapshot reads back: it is well formed, has the record of every setting held and no other, and each record read as a SET is that
--- setting again. With room for it, writing leaves these bytes.
+-- A written snapshot reads back: it is well formed, has the record of every setting held and no other, and each record read as a SET is
+-- that setting again. With room for it, writing leaves these bytes.
 pub record SnapshotReadsBack (c : Camera) : Type 0 where
   pub formed : wellFormed (snapshot c) ≡ true
   pub records : (k : ℕ) → decode (snapshot c) k ≡ Option·map recordOf (held c k)

@@ -13,8 +13,8 @@ use Rattle.camera.specs.{Loading.{selectorAt, recordItem, loaded}, Calls.{Call,
 use Rattle.encoding.specs.Encoding.{recordOf}
 use Rattle.demands.specs.Runs.{acceptsSet, gives, given, run}
 
--- the setup of a record's SET: SET_CUR of the control of the key k, to the profile's interface and unit, which are bytes, with the length of
--- the record's payload, which is all behind its four bytes of length and kind
+-- the setup of a record's SET: SET_CUR of the control of the key k, to the profile's interface and unit, which are bytes, with the length
+-- of the record's payload, which is all behind its four bytes of length and kind
 abbrev pub recordSet : Profile → ℕ → List ℕ → List ℕ
 recordSet p k r = 0x21 ∷ setCur ∷ 0 ∷ selectorAt k ∷ p .interface ∷ p .unit ∷ bytesOf 2 (length (drop 4 r))
 
@@ -43,8 +43,8 @@ firstFault p streaming (e ∷ l) =
 abbrev pub EachAccepted : Profile → Bool → List KeyedRecord → Type 0
 EachAccepted p streaming = Each (λ k r. acceptsSet p streaming (recordSet p k r) (drop 4 r) ≡ true)
 
--- Loading a snapshot without a form fault, on a camera that is not refused 0x21: it counts as the SETs of its records, in ascending order of
--- their keys, as `recordsOf` has them.
+-- Loading a snapshot without a form fault, on a camera that is not refused 0x21: it counts as the SETs of its records, in ascending order
+-- of their keys, as `recordsOf` has them.
 pub record CountsAsSets (c : Camera) (s : List ℕ) : Type 0 where
   -- the first fault of any of them answers
   pub answer : loaded c s .code ≡ firstFault (c .profile) (c .streaming) (recordsOf s)

@@ -1,5 +1,5 @@
--- What is proved of every camera that a program holds, with nothing asked of it but 01's own words: the theorems that ask for what a record's
--- types say, without it. `of_program` promises it of its parameter, so the types' facts are the checker's and not a reader's.
+-- What is proved of every camera that a program holds, with nothing asked of it but 01's own words: the theorems that ask for what a
+-- record's types say, without it. `of_program` promises it of its parameter, so the types' facts are the checker's and not a reader's.
 use Prim.Native.Nat.{ℕ}
 use mathlib.Core.{Path.{_≡_}, List.{List}, Bool.{true}}
 use Rattle.wire.proofs.Laws.Numbers.{Bytes}

@@ -16,7 +16,8 @@ use Rattle.encoding.specs.Encoding.{recordOf}
 abbrev pub acceptsSet : Profile → Bool → List ℕ → List ℕ → Bool
 acceptsSet p streaming setup payload = setAccepted (rules p streaming) setup payload
 
--- the settings that a call gives, in order: an accepted SET's, or those of an accepted load's records; none where it is refused or sets nothing
+-- the settings that a call gives, in order: an accepted SET's, or those of an accepted load's records; none where it is refused or sets
+-- nothing
 unfoldable pub gives : Profile → Bool → Call → List (ℕ × Setting)
 gives p streaming (request setup payload reply) = cond (acceptsSet p streaming setup payload) (setGives p (setupSelector setup) payload) []
 gives p streaming (stream on) = []

@@ -11,7 +11,8 @@ use request::answer_by;
 use wire::uvc;
 ghost use mathlib.Core.Path.{_≡_};
 ghost use Rattle.request.specs.Answers.{packed};
-ghost use Rattle.exposure.specs.Exposure.{evValid, divisor, inRange, evRefusal, evItem, evBytes, evAttribute, evAnswer, scaled, sensorValue};
+ghost use Rattle.exposure.specs.Exposure.{evValid, divisor, inRange, evRefusal, evItem, evBytes, evAttribute, evAnswer, scaled};
+ghost use Rattle.exposure.specs.Exposure.{sensorValue};
 
 // How many of the sensor's units make a stop: twelfths.
 const UNITS_PER_STOP: u8 = 12;

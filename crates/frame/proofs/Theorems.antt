@@ -4,18 +4,16 @@ use mathlib.Core.{Path.{_≡_, refl, sym, ap, _∙_}, List.{List, [], _∷_, _++
 use native.Mathlib.Omega.{arith}
 use lib.ListN.{length, take, length-append, List·getD-append}
 use Rattle.frame.specs.{declared.{items.Found.{Found}, view.ItemView.{ItemView}}, Codes.{longestBlock}, View.{Views}}
-use Rattle.frame.specs.Items.{MetadataItem, absent, BlockReading, refused, sound, blockItems, nthItem, foundIn, blockItem, blockCount, blockPayload}
-use Rattle.frame.specs.{Writer.{layout, Writable}, Calls.{FrameCall, item, count, append, frameOutcome}}
+use Rattle.frame.specs.Items.{MetadataItem, absent, BlockReading, refused, sound, blockItems, nthItem, foundIn, blockItem, blockCount}
+use Rattle.frame.specs.Items.{blockPayload}
 use Rattle.frame.specs.Theorems.{FrameRefused, HandedOut, Viewed, AppendReadsBack, appending, afterwards}
+use Rattle.frame.specs.{Writer.{layout, Writable}, Calls.{FrameCall, item, count, append, frameOutcome}}
 use Rattle.wire.proofs.Laws.{Numbers.{Bytes}, Parts.{stands-at}}
 use denote.Ref.{RefT, now}
 use Rattle.wire.specs.Parts.{bytesAt, LiesIn}
-use Rattle.frame.proofs.Laws.Walk.{short-enough}
-use Rattle.frame.proofs.Laws.Located.{located, there, not-there}
-use Rattle.frame.proofs.Laws.Layout.{reads-all, written-again}
+use Rattle.frame.proofs.Laws.{Walk.{short-enough}, Located.{located, there, not-there}, Layout.{reads-all, written-again}}
 use Rattle.frame.proofs.Laws.Appended.{sound-block, before-it, last-item, last-of, new-length, new-items}
-use Rattle.frame.proofs.Laws.Append.{accepted, accepts, reports}
-use Rattle.frame.proofs.Laws.Refusals.{item-refused, count-refused, append-refused}
+use Rattle.frame.proofs.Laws.{Append.{accepted, accepts, reports}, Refusals.{item-refused, count-refused, append-refused}}
 
 -- Demand 1: what a refused call leaves.
 pub refusal-leaves-nothing : (c : FrameCall) → (frameOutcome c .code ≡ 0 → ⊥) → FrameRefused c (frameOutcome c)

@@ -1,5 +1,5 @@
--- Which items a metadata block holds, or its first fault, by document 01's tests of an item in its order; and what asking for item k and for
--- the number of items hand back.
+-- Which items a metadata block holds, or its first fault, by document 01's tests of an item in its order; and what asking for item k and
+-- for the number of items hand back.
 use Prim.Native.Nat.{ℕ, zero, suc, _-_, _+_}
 use mathlib.Core.{List.{List, [], _∷_}, Bool.{not, cond}}
 use lib.{ListN.{length, take, drop}, Dec.{ltb, eqb}}

@@ -10,7 +10,8 @@ use request::answer_by;
 use wire::uvc;
 ghost use mathlib.Core.Path.{_≡_};
 ghost use Rattle.request.specs.Answers.{packed};
-ghost use Rattle.metadata.specs.Metadata.{metadataValid, metadataRefusal, metadataItem, metadataAttribute, metadataInfo, metadataAnswer};
+ghost use Rattle.metadata.specs.Metadata.{metadataValid, metadataRefusal, metadataItem, metadataAttribute, metadataInfo};
+ghost use Rattle.metadata.specs.Metadata.{metadataAnswer};
 
 pub struct MetadataLimits {
     pub maximum: u32,

@@ -16,9 +16,10 @@ ghost use mathlib.Core.{Path.{_≡_}, Bool.{cond}};
 ghost use Prim.Native.Nat.{_≤_};
 ghost use Rattle.request.specs.Table.{hasControl};
 ghost use Rattle.profile.specs.Items.{profileItem};
-ghost use Rattle.profile.specs.Profile.{has, presenceValid, profileValid, isSettable, profileRefusal, setLength, extensionUnit, profileControl};
+ghost use Rattle.profile.specs.Profile.{has, presenceValid, profileValid, isSettable, profileRefusal, setLength, extensionUnit};
+ghost use Rattle.profile.specs.Profile.{profileControl};
 
-// `controls` has bit s - 1 for the control of selector s, which is its bit of bmControls.
+// `controls` has bit s - 1 for the control of selector s, as bmControls has.
 pub struct Profile {
     pub unit: u8,
     pub interface: u8,

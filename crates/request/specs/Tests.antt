@@ -4,7 +4,8 @@ use mathlib.Core.{List.{List, [], _∷_, _++_}, Option.{Option}, Bool.{Bool, con
 use lib.{Dec.{eqb, ltb}, ListN.{length}}
 use Rattle.wire.specs.Rows.{Row, _⇒_, answers, firstOf, firstFrom}
 use Rattle.wire.specs.Uvc.{setCur, invalidControl, invalidRequest, invalidUnit, malformedRecord, noRoom, unknown}
-use Rattle.request.specs.Setup.{setupValueLow, setupSelector, setupCode, setupInterface, setupUnit, setupWLength, isSetRequest, isGetRequest}
+use Rattle.request.specs.Setup.{setupValueLow, setupSelector, setupCode, setupInterface, setupUnit, setupWLength, isSetRequest}
+use Rattle.request.specs.Setup.{isGetRequest}
 use Rattle.request.specs.{Table.{Table}, Answers.{answerBy}, Reply.{sentLength}}
 
 -- test 3: wIndex's high byte is the unit, and its low byte the interface

@@ -22,7 +22,8 @@ settingSelector (S.Metadata n) = selector.metadata
 settingSelector (S.Hdr n) = selector.hdr
 settingSelector (S.Throttle s) = selector.throttle
 
--- The keys of settings are those of a snapshot's records: 0 EV, 1 to 15 face authentication at 0x81 to 0x8F, 16 metadata, 17 HDR, 18 throttle.
+-- The keys of settings are those of a snapshot's records: 0 EV, 1 to 15 face authentication at 0x81 to 0x8F, 16 metadata, 17 HDR, 18
+-- throttle.
 abbrev pub settingKey : Setting → ℕ
 settingKey (S.Ev s) = keyFor selector.ev 0
 settingKey (S.Face address flags) = keyFor selector.face address

@@ -12,9 +12,9 @@ zeros [] = true
 zeros (b ∷ s) = eqb b 0 && zeros s
 
 -- What a record's faults are told from, its place in the order aside: how many bytes are left from its start on, the length and the kind
--- that it states, its bytes 4 and 5 (of face authentication the count n of entries and the address), and whether the throttle's tail is zero.
--- None of these tests fails: 4 bytes are left; the length is not past the end; the kind is known; the length is the kind's; n is 1 and the
--- address within the first and the last; the tail is zero.
+-- that it states, its bytes 4 and 5 (of face authentication the count n of entries and the address), and whether the throttle's tail is
+-- zero. None of these tests fails: 4 bytes are left; the length is not past the end; the kind is known; the length is the kind's; n is 1
+-- and the address within the first and the last; the tail is zero.
 abbrev pub recordTests : ℕ → ℕ → ℕ → ℕ → ℕ → Bool → List Bool
 recordTests left len kind n address tail =
     leb 4 left

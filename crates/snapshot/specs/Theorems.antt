@@ -1,5 +1,5 @@
--- What is proved of a snapshot's form and records, over the definitions that the functions' promises equate their results to. Nothing here is
--- lent a buffer to write to. proofs/Theorems proves each.
+-- What is proved of a snapshot's form and records, over the definitions that the functions' promises equate their results to. Nothing here
+-- is lent a buffer to write to. proofs/Theorems proves each.
 use Prim.Native.Nat.{ℕ, _≤_, _<_}
 use mathlib.Core.{Path.{_≡_}, Bool.{true}, List.{List}, Option.{Option}}
 use lib.ListN.{length}

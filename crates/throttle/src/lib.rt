@@ -9,7 +9,8 @@ use request::answer_by;
 use wire::uvc;
 ghost use mathlib.Core.Path.{_≡_};
 ghost use Rattle.request.specs.Answers.{packed};
-ghost use Rattle.throttle.specs.Throttle.{divides, throttleValid, throttleRefusal, throttleItem, throttleAttribute, throttleBytes, throttleAnswer};
+ghost use Rattle.throttle.specs.Throttle.{divides, throttleValid, throttleRefusal, throttleItem, throttleAttribute, throttleBytes};
+ghost use Rattle.throttle.specs.Throttle.{throttleAnswer};
 
 pub struct ThrottleLimits {
     pub minimum: u32,

@@ -7,9 +7,7 @@ use Rattle.profile.specs.{declared.Profile.{Profile}, Profile.{profileValid}}
 use Rattle.settings.specs.{Settings.{noSettings}, Kept.{kept}}
 use Rattle.camera.specs.{declared.record.Camera.{Camera}, Record.{fresh, held}, Calls.{Call, next}}
 use Rattle.demands.specs.{Runs.{gives, leaves, flagAfter, given, settings, run}, Cameras.{Ok}}
-use Rattle.demands.proofs.Laws.Held.{none-held}
-use Rattle.demands.proofs.Laws.Kept.{kept-formed}
-use Rattle.demands.proofs.Laws.Steps.{step}
+use Rattle.demands.proofs.Laws.{Held.{none-held}, Kept.{kept-formed}, Steps.{step}}
 
 -- the settings and the flag of a list of two parts
 pub given-append : (p : Profile) (f : Bool) (xs ys : List Call) → given p f (xs ++ ys) ≡ given p f xs ++ given p (flagAfter f xs) ys

@@ -22,8 +22,7 @@ use Rattle.profile.specs.{declared.Profile.{Profile}, Items.{profileItem}, Know
 use Rattle.settings.specs.{Settings.{settingKey}, Items.{givenOf, allGiven}}
 use Rattle.camera.specs.{Requests.{controlRefusal}, Loading.{selectorAt, recordItem, loadRefusal, loadTests, loadGives}}
 use Rattle.camera.proofs.Laws.Loading.{codeBy, givenBy}
-use Rattle.demands.proofs.Laws.Sets.{is-kind}
-use Rattle.demands.proofs.Laws.Steps.{isGiven, key-control}
+use Rattle.demands.proofs.Laws.{Sets.{is-kind}, Steps.{isGiven, key-control}}
 
 -- settings under the number of what gives them
 abbrev Keyed : (ℕ → List (ℕ × Setting)) → Type 0

@@ -119,38 +119,38 @@ module _ (s : Settings) (old : List ℕ) {out after l : List ℕ} {n k : ℕ} (w
 
 -- a key's own record: by what it holds, or of a place by its address and flags
 module _ (s : Settings) (k : ℕ) {h : HeldSetting} (is-held : h ≡ heldSetting (settingsHeld s k)) where
-  held-row : recordHeld (settingHeld h) ≡ piece s k
-  held-row = ap (λ j. recordHeld (settingHeld j)) is-held ∙ ap recordHeld (setting-held (settingsHeld s k)) ∙ piece-held s k
+  held-record : recordHeld (settingHeld h) ≡ piece s k
+  held-record = ap (λ j. recordHeld (settingHeld j)) is-held ∙ ap recordHeld (setting-held (settingsHeld s k)) ∙ piece-held s k
 
   module _ {n len : ℕ} (is-len : len ≡ length (recordHeld (settingHeld h))) where
     pub held-measured : Measured s n k → Measured s (n + len) (k + 1)
-    held-measured w = measure-next s w (is-len ∙ ap length held-row)
+    held-measured w = measure-next s w (is-len ∙ ap length held-record)
 
     pub held-written : {old out after : List ℕ} → Progress s old out n k → after ≡ overlay out n (recordHeld (settingHeld h))
         → Progress s old after (n + len) (k + 1)
-    held-written w e = write-next s _ w held-row e (is-len ∙ ap length held-row)
+    held-written w e = write-next s _ w held-record e (is-len ∙ ap length held-record)
 
   pub held-last : {n : ℕ} {old out after : List ℕ} → Progress s old out n k → after ≡ overlay out n (recordHeld (settingHeld h))
       → after ≡ overlay old 0 (below s (k + 1))
-  held-last w e = write-turn s _ w held-row e
+  held-last w e = write-turn s _ w held-record e
 
 module _ (s : Settings) (i : ℕ) (h : i < places) {face : List ℕ} (is-face : face ≡ s .face) {len : ℕ}
     (is-len : len ≡ cond (eqb (getD face i 0) 0) 0 13) where
-  place-row : recordHeld (faceHeld (firstAddress + i) (getD face i 0)) ≡ piece s (i + 1)
-  place-row =
+  place-record : recordHeld (faceHeld (firstAddress + i) (getD face i 0)) ≡ piece s (i + 1)
+  place-record =
       ap (λ (l : List ℕ). recordHeld (faceHeld (firstAddress + i) (getD l i 0))) is-face
       ∙ ap recordHeld (sym (held-place s i h))
       ∙ piece-held s (i + 1)
 
   place-length-is : len ≡ length (piece s (i + 1))
-  place-length-is = is-len ∙ place-length (firstAddress + i) (getD face i 0) ∙ ap length place-row
+  place-length-is = is-len ∙ place-length (firstAddress + i) (getD face i 0) ∙ ap length place-record
 
   pub place-measured : {n : ℕ} → Measured s n (i + 1) → Measured s (n + len) (i + 1 + 1)
   place-measured w = measure-next s w place-length-is
 
   pub place-written : {n : ℕ} {old out after : List ℕ} → Progress s old out n (i + 1)
       → after ≡ overlay out n (recordHeld (faceHeld (firstAddress + i) (getD face i 0))) → Progress s old after (n + len) (i + 1 + 1)
-  place-written w e = write-next s _ w place-row e place-length-is
+  place-written w e = write-next s _ w place-record e place-length-is
 
 none-measured : (s : Settings) → Measured s 0 0
 unfolding records

@@ -7,7 +7,8 @@ use borrow.Author.Needs.{needs}
 use Rattle.wire.specs.{Endpoints.{places}, Writes.{overlay}}
 use Rattle.wire.proofs.Laws.Writes as laid
 use Rattle.encoding.specs.Encoding.{encoded}
-use Rattle.encoding.proofs.Laws.Encoding.{Measured, Progress, first-measured, first-written, place-measured, place-written, held-written, held-last, below-all}
+use Rattle.encoding.proofs.Laws.Encoding.{Measured, Progress, first-measured, first-written, place-measured, place-written}
+use Rattle.encoding.proofs.Laws.Encoding.{held-written, held-last, below-all}
 use Rattle.encoding.proofs.write.Statement.{statement}
 use Rattle.encoding.proofs.write.Tie as tie
 
@@ -143,7 +144,9 @@ put-held-requires-4 : tie.Need-put-held-requires-4 Inv-loop μ-loop
 put-held-requires-4 c κs = search needs
 
 written : (c : tie.After-slice-known6 Inv-loop μ-loop)
-    → let a = c .before .before .before .before .before .before .before .before .before .before .before .before .before .before .before .before .before .before .before .before .before .before .before .before .before .before .before .args in c .before .before .put-held4 .last .0 ≡ overlay (a .out .now) 0 (encoded (a .s))
+    → let a = c .before .before .before .before .before .before .before .before .before .before .before .before .before .before
+    .before .before .before .before .before .before .before .before .before .before .before .before .before .args in
+    c .before .before .put-held4 .last .0 ≡ overlay (a .out .now) 0 (encoded (a .s))
 written c =
     let p = c .before .before in
     held-last _ _ (p .before .held4 .ensures) (hdr-written (p .before .before .before)) (p .put-held4 .ensures)

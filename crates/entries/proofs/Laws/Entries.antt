@@ -11,7 +11,8 @@ use Rattle.controls.proofs.Laws.Controls as controls
 use Rattle.controls.proofs.Laws.Items.{none-refused, stops, passes}
 use Rattle.face.specs.{declared.limits.FaceLimits.{FaceLimits}, Limits.{addressAt, offersAt, offersOf, placeOf}}
 use Rattle.entries.specs.declared.FacesTaken.{FacesTaken}
-use Rattle.entries.specs.Entries.{entryAddress, entryFlags, seenIn, seenBefore, entryTests, entryRefusal, faceItem, putFace, entriesPut, facesTaken}
+use Rattle.entries.specs.Entries.{entryAddress, entryFlags, seenIn, seenBefore, entryTests, entryRefusal, faceItem, putFace}
+use Rattle.entries.specs.Entries.{entriesPut, facesTaken}
 use Rattle.face.proofs.Laws.Limits.{offers-none, offers-placed, address-placed}
 
 -- entry i by the number that its tests give

@@ -12,7 +12,8 @@ use Rattle.controls.specs.declared.Setting.the-variants as S
 use Rattle.controls.proofs.Laws.Controls.{given-is}
 use Rattle.face.specs.{declared.limits.FaceLimits.{FaceLimits}, Limits.{endpointsOf, faceValid, offersOf}, Answers.{entryOf}}
 use Rattle.face.proofs.Laws.Limits.{count-most}
-use Rattle.entries.specs.Entries.{faceSetLength, entryAddress, entryFlags, seenIn, seenBefore, isChoice, faceRefusal, entryRefusal, faceItem}
+use Rattle.entries.specs.Entries.{faceSetLength, entryAddress, entryFlags, seenIn, seenBefore, isChoice, faceRefusal, entryRefusal}
+use Rattle.entries.specs.Entries.{faceItem}
 
 -- the length that a payload must have, by its first byte
 pub set-length-empty : (l : FaceLimits) (s : List ℕ) → length s ≡ 0 → faceSetLength l s ≡ 1

@@ -12,7 +12,8 @@ use Rattle.flags.proofs.Laws.Bits.{chosen-below}
 use Rattle.wire.proofs.Laws.{Numbers.{Bytes, below}, Signed.{bits-below, signed-bits, bits-signed}}
 use Rattle.wire.proofs.Laws.Bytes.{number-bytes, bytes-at, first-part, second-part}
 use Rattle.exposure.specs.declared.EvLimits.{EvLimits}
-use Rattle.exposure.specs.Exposure.{evValid, divisor, inRange, refusalAt, evRefusal, evFlags, evValue, evItem, evBytes, unitsPerStop, scaledAt, scaled}
+use Rattle.exposure.specs.Exposure.{evValid, divisor, inRange, refusalAt, evRefusal, evFlags, evValue, evItem, evBytes, unitsPerStop}
+use Rattle.exposure.specs.Exposure.{scaledAt, scaled}
 use Rattle.controls.specs.{declared.EvSetting.{EvSetting}, Controls.{itemOf}}
 use Rattle.controls.specs.declared.Setting.the-variants as S
 use Rattle.exposure.proofs.Laws.Bounds.{mag-mul, between}

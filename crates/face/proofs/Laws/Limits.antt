@@ -7,7 +7,8 @@ use borrow.Author.Tests.{eq-eqb, ne-eqb, eqb-true, lt-ltb, le-ltb, ltb-true, leb
 use Rattle.wire.proofs.Laws.Below.{all-at}
 use Rattle.wire.specs.Endpoints.{firstAddress, lastAddress, endpointLimit}
 use Rattle.face.specs.declared.limits.FaceLimits.{FaceLimits}
-use Rattle.face.specs.Limits.{endpointsOf, addressAt, offersAt, offersValid, addressBefore, endpointValid, faceValid, offersFrom, offersOf, placeFrom, placeOf}
+use Rattle.face.specs.Limits.{endpointsOf, addressAt, offersAt, offersValid, addressBefore, endpointValid, faceValid, offersFrom}
+use Rattle.face.specs.Limits.{offersOf, placeFrom, placeOf}
 
 -- a place behind the first comes after the one before it
 pub before-next : (l : FaceLimits) (i : ℕ) → (i ≡ 0 → ⊥) → addressAt l (i - 1) ≡ addressBefore l i

@@ -8,9 +8,7 @@ use Rattle.frame.specs.Codes.{longestBlock, tooLong}
 use Rattle.frame.specs.Items.{MetadataItem, BlockReading, refused, sound, _before_, itemsFrom, blockItems, nthItem}
 use Rattle.frame.specs.Writer.{itemBytes, appendRefusal, writtenOf}
 use Rattle.wire.proofs.Laws.Writes as overlays
-use Rattle.frame.proofs.Laws.Fuel.{nothing-left}
-use Rattle.frame.proofs.Laws.Append.{accepted, writes}
-use Rattle.frame.proofs.Laws.Join.{_then_, Split, every, join}
+use Rattle.frame.proofs.Laws.{Fuel.{nothing-left}, Append.{accepted, writes}, Join.{_then_, Split, every, join}}
 use Rattle.frame.proofs.Laws.Layout.{length-item, reads}
 
 -- item k of the items before, and item k of those behind

@@ -6,9 +6,7 @@ use lib.{ListN.{length, drop, length-append, length-drop}, Dec.{ltb}, Seq.{take-
 use borrow.Author.Tests.{ltb-true, ltb-false}
 use Rattle.frame.specs.declared.{items.Head.{Head}, items.Head.the-variants.{Bad, Whole}}
 use Rattle.frame.specs.Items.{MetadataItem, BlockReading, refused, sound, firstItem, _before_, follow, itemsFrom, itemIn}
-use Rattle.frame.proofs.Laws.Heads.{Sound, sound-head, head-of}
-use Rattle.frame.proofs.Laws.Fuel.{nothing-left, one-then}
-use Rattle.frame.proofs.Laws.Bytes.{in-front}
+use Rattle.frame.proofs.Laws.{Heads.{Sound, sound-head, head-of}, Fuel.{nothing-left, one-then}, Bytes.{in-front}}
 
 -- items in front of what the bytes behind them hold
 infixr 30 _then_

@@ -7,10 +7,7 @@ use Rattle.frame.specs.{Codes.{longestBlock}, Ids.{isKnown}, Items.{Meta
 use Rattle.frame.specs.Writer.{itemBytes, layout, Writable}
 use Rattle.wire.specs.Numbers.{bytesOf}
 use Rattle.wire.proofs.Laws.{Numbers.{Bytes, bytes-drop, below}, Bytes.{length-bytes, bytes-at}}
-use Rattle.frame.proofs.Laws.Heads.{Sound}
-use Rattle.frame.proofs.Laws.Fuel.{nothing-left}
-use Rattle.frame.proofs.Laws.Bytes.{at-front, behind}
-use Rattle.frame.proofs.Laws.Join.{Split, every, front}
+use Rattle.frame.proofs.Laws.{Heads.{Sound}, Fuel.{nothing-left}, Bytes.{at-front, behind}, Join.{Split, every, front}}
 
 pub length-item : (id : ℕ) (payload : List ℕ) → length (itemBytes id payload) ≡ 8 + length payload
 unfolding itemBytes

@@ -5,8 +5,7 @@ use native.Mathlib.Omega.{arith}
 use lib.{ListN.{length, take, drop, getD, length-take, length-drop}, Seq.{drop-drop}}
 use Rattle.frame.specs.{Codes.{noItem}, Items.{MetadataItem, sound, itemsFrom, itemIn, absent, refusedItem, nthItem}}
 use Rattle.wire.specs.Parts.{bytesAt}
-use Rattle.frame.proofs.Laws.Heads.{Sound}
-use Rattle.frame.proofs.Laws.Join.{Split, every}
+use Rattle.frame.proofs.Laws.{Heads.{Sound}, Join.{Split, every}}
 
 pub record Located (s : List ℕ) (at k : ℕ) (is : List MetadataItem) : Type 0 where
   pub inside : nthItem at k is .payload .at + nthItem at k is .payload .len ≤ length s

@@ -4,7 +4,8 @@ use mathlib.Core.{Path.{_≡_, refl}, List.{List, [], _∷_}, Bool.{Bool, true, 
 use lib.{ListN.{length}, Dec.{eqb}}
 use Rattle.wire.specs.Writes.{overlay}
 use Rattle.frame.specs.declared.writer.Appended.{Appended}
-use Rattle.frame.specs.Items.{MetadataItem, BlockReading, refused, sound, blockItems, refusedItem, nthItem, foundIn, countIn, blockItem, blockCount}
+use Rattle.frame.specs.Items.{MetadataItem, BlockReading, refused, sound, blockItems, refusedItem, nthItem, foundIn, countIn}
+use Rattle.frame.specs.Items.{blockItem, blockCount}
 use Rattle.frame.specs.Writer.{itemBytes, endOf, appendRefusal, appendedOf, writtenOf}
 
 no-item : (at k : ℕ) (is : List MetadataItem) → (nthItem at k is .code ≡ 0 → ⊥) → nthItem at k is ≡ refusedItem (nthItem at k is .code)

@@ -6,10 +6,10 @@ use lib.{ListN.{length, drop, length-take, length-drop}, Seq.{drop-drop}}
 use borrow.Author.Tests.{eq-eqb, ne-eqb, lt-ltb, le-ltb}
 use Rattle.frame.specs.declared.{items.Head.{Head}, items.Head.the-variants.{Bad, Whole}, items.Found.{Found}, items.Survey.{Survey}}
 use Rattle.frame.specs.Codes.{noItem, tooLong, longestBlock}
-use Rattle.frame.specs.Items.{MetadataItem, BlockReading, refused, sound, firstItem, _before_, follow, itemsFrom, blockItems, itemIn, refusedItem, nthItem}
+use Rattle.frame.specs.Items.{MetadataItem, BlockReading, refused, sound, firstItem, _before_, follow, itemsFrom, blockItems, itemIn}
+use Rattle.frame.specs.Items.{refusedItem, nthItem}
 use Rattle.frame.specs.Steps.{surveyOf, stoppedAt, passItem, walkedOver, onward}
-use Rattle.frame.proofs.Laws.Heads.{sound-head}
-use Rattle.frame.proofs.Laws.Fuel.{nothing-left, one-then}
+use Rattle.frame.proofs.Laws.{Heads.{sound-head}, Fuel.{nothing-left, one-then}}
 
 -- one item is passed
 pub pass-hit : (k at n : ℕ) (found : Found) (id len : ℕ) → n ≡ k

@@ -6,7 +6,8 @@ use lib.ListN.{length}
 use borrow.Author.Needs.{needs}
 use Rattle.snapshot.specs.Keys.{keys, longestSnapshot}
 use Rattle.snapshot.proofs.Laws.Walk.{next-within}
-use Rattle.merging.proofs.Laws.Writing.{Written, unwritten, write-first, pass-first, write-second, step-above, write-length, write-short, write-end}
+use Rattle.merging.proofs.Laws.Writing.{Written, unwritten, write-first, pass-first, write-second, step-above, write-length}
+use Rattle.merging.proofs.Laws.Writing.{write-short, write-end}
 use Rattle.merging.proofs.write_merged.Statement.{statement}
 use Rattle.merging.proofs.write_merged.Tie as tie
 

@@ -1,8 +1,8 @@
 -- How many digits a number has, by the powers of the base between which it lies. Assumes nothing.
-use mathlib.Core.Path.{_≡_, refl, ap, _∙_}
-use mathlib.Core.Bool.{Bool, true, false}
+use mathlib.Core.{Path.{_≡_, refl, ap, _∙_}, Bool.{Bool, true, false}}
 use Prim.Native.Nat.{ℕ, zero, suc, _-_, _*_, _/_, _^_, _≤_, _<_, min, max}
-use native.Mathlib.Nat.{pow-zero, pow-suc, pow-le-pow-left, pow-le-pow-right, two-pow-succ, one-mul, le-trans, div-lt-iff-lt-mul, le-div-iff-mul-le}
+use native.Mathlib.Nat.{pow-zero, pow-suc, pow-le-pow-left, pow-le-pow-right, two-pow-succ, one-mul, le-trans, div-lt-iff-lt-mul}
+use native.Mathlib.Nat.{le-div-iff-mul-le}
 use native.Mathlib.Omega.{arith}
 use lib.Dec.{ltb, lit<}
 use borrow.Author.Tests.{lt-ltb, le-ltb, ltb-true, ltb-false}
@@ -80,7 +80,13 @@ unfolding hexColumns
 hex-counted n digits k f = go (ltb (min (max digits 1) 16) k) refl
   where
     go : (t : Bool) → ltb (min (max digits 1) 16) k ≡ t → max (digitCount 16 n) (min digits 16) ≡ k
-    go true e = omega (arith, ltb-true (min (max digits 1) 16) k e, counted 16 (lit< tt) n k (omega (arith, f .0), f .1, λ z. f .2 (ltb-true (min (max digits 1) 16) k e)))
+    go true e =
+        omega (
+          arith,
+          ltb-true (min (max digits 1) 16) k e,
+          counted 16 (lit< tt) n k
+              (omega (arith, f .0), f .1, λ z. f .2 (ltb-true (min (max digits 1) 16) k e)),
+        )
     go false e = omega (arith, ltb-false (min (max digits 1) 16) k e, below 16 (lit< tt) n k (f .1) (omega arith), some 16 (lit< tt) n)
 
 -- a number of 64 bits has at most 20 digits in decimal and 16 in hex

@@ -1,7 +1,7 @@
+-- `bytes` meets its contract. Assumes nothing.
 use mathlib.Core.Path.{_≡_, ap, ap₂, sym, _∙_}
 use Prim.Native.Nat.{ℕ, _+_, _-_, _*_, _≤_, min}
-use native.Mathlib.Nat.{add-mul}
-use native.Mathlib.Omega.{arith}
+use native.Mathlib.{Nat.{add-mul}, Omega.{arith}}
 use lib.ListN.{length}
 use borrow.Author.Needs.{needs}
 use Rattle.printing.specs.Printing.{saturated, bytesColumns}
@@ -58,7 +58,9 @@ loop-again c =
     let between = length (c .before .before .before .before .before .before .before .before .before .args .between .now) in
     let i = c .before .before .before .before .before .before .loop .i in
     let sum : c .before .before .before .sum .result ≡ saturated (bytesColumns i between + min i 1 * between) =
-    c .before .before .before .sum .ensures ∙ ap₂ (λ (m n : ℕ). saturated (m + n)) (c .before .before .before .before .before .before .loop .inv .1) (c .before .before .before .before .gap .ensures) in
+    c .before .before .before .sum .ensures
+    ∙ ap₂ (λ (m n : ℕ). saturated (m + n)) (c .before .before .before .before .before .before .loop .inv .1)
+    (c .before .before .before .before .gap .ensures) in
     (omega arith, c .sum2 .ensures ∙ ap₂ (λ (m n : ℕ). saturated (m + n)) sum (c .before .pair .ensures) ∙ next i between)
 
 returns : tie.Need-returns Inv-loop μ-loop

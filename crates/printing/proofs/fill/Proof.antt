@@ -1,3 +1,4 @@
+-- `fill` meets its contract. Assumes nothing.
 use mathlib.Core.Path.{_≡_}
 use Prim.Native.Nat.{_+_, _≤_, _-_, max}
 use borrow.Author.Needs.{needs}

@@ -1,7 +1,7 @@
+-- `gap` meets its contract. Assumes nothing.
 use mathlib.Core.Path.{_≡_, sym, _∙_}
 use Prim.Native.Nat.{min}
-use native.Mathlib.Nat.{zero-mul, one-mul}
-use native.Mathlib.Omega.{arith}
+use native.Mathlib.{Nat.{zero-mul, one-mul}, Omega.{arith}}
 use borrow.Author.Needs.{needs}
 use Rattle.printing.proofs.gap.Statement.{statement}
 use Rattle.printing.proofs.gap.Tie as tie

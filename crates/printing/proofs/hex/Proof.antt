@@ -1,8 +1,8 @@
+-- `hex` meets its contract. Assumes nothing.
 use mathlib.Core.Path.{_≡_, sym, _∙_}
 use Prim.Native.Nat.{_≤_, _<_, _^_}
 use native.Mathlib.Omega.{arith}
-use lib.ListN.{length}
-use lib.Seq.{length-take-le}
+use lib.{ListN.{length}, Seq.{length-take-le}}
 use borrow.Author.Needs.{needs}
 use Rattle.printing.specs.Printing.{hexColumns}
 use Rattle.printing.proofs.Laws.Digits.{hex-counted, hex-most}

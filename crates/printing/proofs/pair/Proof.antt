@@ -1,3 +1,4 @@
+-- `pair` meets its contract. Assumes nothing.
 use mathlib.Core.Path.{_∙_}
 use borrow.Author.Needs.{needs}
 use Rattle.printing.proofs.Laws.Digits.{byte-two}

@@ -1,8 +1,8 @@
+-- `signed` meets its contract. Assumes nothing.
 use mathlib.Core.Path.{_≡_, ap, sym, _∙_}
 use Prim.Native.Nat.{suc, _-_, _^_, _<_}
 use native.Mathlib.Omega.{arith}
-use lib.IntN.{ℤ, pos}
-use lib.Signed.{ltZ}
+use lib.{IntN.{ℤ, pos}, Signed.{ltZ}}
 use mir.Facts.{toZ-ofZ}
 use borrow.Author.Needs.{needs}
 use Rattle.wire.specs.Numbers.{bits32}
@@ -36,8 +36,10 @@ returns : tie.Need-returns
 unfolding bits32 signedColumns
 returns c =
     let start = c .before .before .before .before .before in
-    let d = lower (start .args .v) (ap (λ (z : ℤ). ltZ z (pos 0)) (sym (toZ-ofZ (start .fits .v))) ∙ c .before .before .before .if1 .taken) in
-    let n : c .before .before .before .before .bits32 .result ≡ 2 ^ 32 - suc (d .0) = c .before .before .before .before .bits32 .ensures ∙ ap bits32 (toZ-ofZ (start .fits .v) ∙ d .1) in
+    let d =
+    lower (start .args .v) (ap (λ (z : ℤ). ltZ z (pos 0)) (sym (toZ-ofZ (start .fits .v))) ∙ c .before .before .before .if1 .taken) in
+    let n : c .before .before .before .before .bits32 .result ≡ 2 ^ 32 - suc (d .0) =
+    c .before .before .before .before .bits32 .ensures ∙ ap bits32 (toZ-ofZ (start .fits .v) ∙ d .1) in
     let small : d .0 < 2 ^ 31 = rw (d .1) at (start .fits .v .sfits) in
     let m : 2 ^ 32 - c .before .before .before .before .bits32 .result ≡ suc (d .0) = omega arith in
     omega (arith, c .decimal .ensures .0 ∙ ap decimalColumns m, ap signedColumns (d .1))
@@ -50,7 +52,9 @@ unfolding bits32 signedColumns
 returns-2 c =
     let start = c .before .before .before in
     let u = upper (start .args .v) (ap (λ (z : ℤ). ltZ z (pos 0)) (sym (toZ-ofZ (start .fits .v))) ∙ c .before .if1 .left) in
-    c .decimal2 .ensures .0 ∙ ap decimalColumns (c .before .before .bits32 .ensures ∙ ap bits32 (toZ-ofZ (start .fits .v) ∙ u .1)) ∙ sym (ap signedColumns (u .1))
+    c .decimal2 .ensures .0
+    ∙ ap decimalColumns (c .before .before .bits32 .ensures ∙ ap bits32 (toZ-ofZ (start .fits .v) ∙ u .1))
+    ∙ sym (ap signedColumns (u .1))
 
 pub signed-spec : {M : Type 1} → statement M
 signed-spec =

@@ -1,3 +1,4 @@
+-- `space` meets its contract. Assumes nothing.
 use borrow.Author.Needs.{needs}
 use Rattle.printing.proofs.space.Statement.{statement}
 use Rattle.printing.proofs.space.Tie as tie

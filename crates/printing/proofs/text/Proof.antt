@@ -1,3 +1,4 @@
+-- `text` meets its contract. Assumes nothing.
 use borrow.Author.Needs.{needs}
 use Rattle.printing.proofs.text.Statement.{statement}
 use Rattle.printing.proofs.text.Tie as tie

@@ -8,9 +8,7 @@ use borrow.Author.Tests.{le-leb, lt-leb, lt-ltb, leb-true, ltb-true, eq-eqb, ne-
 use Rattle.wire.specs.{declared.parts.Part.{Part}, Parts.{nowhere}}
 use Rattle.snapshot.specs.{Keys.{keys, recordLength}, Form.{soundRecord, statedKey, isEmpty, wellFormed}}
 use Rattle.snapshot.specs.{Records.{stands, keyAt, passed, skip, from, recordAt, decode, recordBytes, recordPlace}, Steps.{EndsBelow}}
-use Rattle.snapshot.proofs.Laws.Sound.{and-left, and-right, stands-long}
-use Rattle.snapshot.proofs.Laws.Form.{formed-from}
-use Rattle.snapshot.proofs.Laws.Stay.{other-stands, stay}
+use Rattle.snapshot.proofs.Laws.{Sound.{and-left, and-right, stands-long}, Form.{formed-from}, Stay.{other-stands, stay}}
 
 passed-long : (k : ℕ) (s : List ℕ) → passed k s ≤ length s
 unfolding passed

@@ -5,7 +5,8 @@ use mathlib.Core.{Path.{_≡_, refl, sym, ap, _∙_}, Bool.{Bool, true, false}, 
 use lib.{ListN.{length, take, length-drop}, Dec.{leb, eqb}}
 use borrow.Author.Tests.{leb-true, leb-false, eqb-true, eqb-false, ne-eqb}
 use Rattle.snapshot.specs.{Keys.{keys, recordLength}, Form.{soundRecord, formed, wellFormed}}
-use Rattle.snapshot.specs.Records.{stands, skip, from, recordAt, decode, recordBytes, records, encode, KeyedRecord, split, recordsOf, find, Ascending, joined}
+use Rattle.snapshot.specs.Records.{stands, skip, from, recordAt, decode, recordBytes, records, encode, KeyedRecord, split, recordsOf}
+use Rattle.snapshot.specs.Records.{find, Ascending, joined}
 use Rattle.snapshot.proofs.Laws.Sound.{parts-sound, stands-sound, stands-size, stands-long, stands-some}
 use Rattle.snapshot.proofs.Laws.Maps.{skip-at, skip-not, decode-good, none-above}
 use Rattle.snapshot.proofs.Laws.Form.{empty-nil, formed-end, formed-at, formed-not, encode-decode}

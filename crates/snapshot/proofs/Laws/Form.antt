@@ -7,7 +7,8 @@ use lib.{ListN.{length, take, drop, length-drop, take-append-drop}, Dec.{leb}}
 use borrow.Author.Tests.{le-leb, lt-leb, leb-true, leb-false}
 use Rattle.snapshot.specs.{Keys.{keys, recordLength}, Form.{statedLength, soundRecord, statedKey, isEmpty, formed, wellFormed}}
 use Rattle.snapshot.specs.Records.{stands, skip, from, recordAt, decode, recordBytes, records, encode, Good}
-use Rattle.snapshot.proofs.Laws.Sound.{sound-parts, parts-sound, sound-of, stands-sound, sound-stands, stands-size, stands-long, stands-some}
+use Rattle.snapshot.proofs.Laws.Sound.{sound-parts, parts-sound, sound-of, stands-sound, sound-stands, stands-size, stands-long}
+use Rattle.snapshot.proofs.Laws.Sound.{stands-some}
 use Rattle.snapshot.proofs.Laws.Maps.{from-records}
 
 -- going through n keys from k on

@@ -187,7 +187,7 @@ stands-nil k = refl
 pub stands-below : (k : ℕ) (s : List ℕ) → stands k s ≡ true → k < keys
 stands-below k s e = let p = stands-sound k s e in rw (← (p .1)) (sound-of s (p .0) .key)
 
--- it is the first `sizeOf k` bytes
+-- it is the first `recordLength k` bytes
 pub stands-size : (k : ℕ) (s : List ℕ) → stands k s ≡ true → recordLength k ≡ statedLength s
 stands-size k s e = let p = stands-sound k s e in rw (p .1) at (sound-of s (p .0) .size)
 

@@ -5,8 +5,7 @@ use mathlib.Core.{Path.{_≡_, refl, ap, _∙_}, Bool.{Bool, true, false, cond},
 use lib.Dec.{leb}
 use borrow.Author.Tests.{leb-true, leb-false}
 use Rattle.snapshot.specs.{Keys.{keys}, Form.{soundRecord, statedKey}, Records.{stands, keyAt, skip, from}}
-use Rattle.snapshot.proofs.Laws.Sound.{sound-parts, parts-sound, sound-of, stands-sound, sound-stands}
-use Rattle.snapshot.proofs.Laws.Maps.{not-true, skip-not}
+use Rattle.snapshot.proofs.Laws.{Sound.{sound-parts, parts-sound, sound-of, stands-sound, sound-stands}, Maps.{not-true, skip-not}}
 
 pub key-few : (t : List ℕ) → keyAt t ≤ keys
 unfolding keyAt

@@ -8,10 +8,10 @@ use lib.{ListN.{length, getD, take, drop}, Seq.{take-add, drop-drop}, Dec.{leb, 
 use borrow.Author.Tests.{eqb-true, eqb-false, leb-true, ltb-true, le-leb, lt-ltb, eq-eqb, ne-eqb}
 use Rattle.wire.specs.{Endpoints.{firstAddress, lastAddress, places}, Numbers.{number, leAt}, Rows.{allOf}}
 use Rattle.wire.specs.Selectors as selectors
-use Rattle.snapshot.specs.Keys.{keys, recordLength, keyFor}
+use Rattle.snapshot.specs.{Keys.{keys, recordLength, keyFor}, Steps.{keyBy}}
 use Rattle.snapshot.specs.{Form.{zeros, recordTests, statedLength, statedKind, throttleTail, soundRecord, statedKey}, Records.{keyAt}}
-use Rattle.snapshot.specs.Steps.{keyBy}
-use Rattle.snapshot.proofs.Laws.Sound.{each, Sound, sound-parts, parts-sound, Kind, ev, face, metadata, hdr, throttle, kind-of, sound-address, sound-of}
+use Rattle.snapshot.proofs.Laws.Sound.{each, Sound, sound-parts, parts-sound, Kind, ev, face, metadata, hdr, throttle, kind-of}
+use Rattle.snapshot.proofs.Laws.Sound.{sound-address, sound-of}
 
 -- a record of its kind's length has no fewer than 4 bytes
 framed : (len size : ℕ) (b : Bool) → 4 ≤ size → (leb 4 len && (leb len len && (eqb len size && b))) ≡ (eqb len size && b)

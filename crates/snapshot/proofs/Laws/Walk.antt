@@ -1,13 +1,12 @@
--- Going through a well-formed snapshot from record to record: what code that reads one with `key_at` and `record_length` goes by. Assumes nothing.
+-- Going through a well-formed snapshot from record to record: what code that reads one with `key_at` and `record_length` goes by. Assumes
+-- nothing.
 use Prim.Native.Nat.{ℕ, suc, _+_, _≤_, _<_}
 use native.Mathlib.Omega.{arith}
 use mathlib.Core.{Path.{_≡_, refl, sym, ap, _∙_}, Bool.{Bool, true, false, true≢false}, List.{List, []}, Option.{none, some}}
 use lib.{ListN.{length, take, drop, length-drop}, Seq.{drop-drop}, Dec.{leb}}
 use borrow.Author.Tests.{leb-true, leb-false}
 use Rattle.snapshot.specs.{Keys.{keys, recordLength}, Form.{wellFormed}, Records.{stands, keyAt, skip, from, recordAt, decode}}
-use Rattle.snapshot.proofs.Laws.Sound.{stands-nil, stands-long}
-use Rattle.snapshot.proofs.Laws.Maps.{skip-at}
-use Rattle.snapshot.proofs.Laws.Form.{empty-nil, formed-from}
+use Rattle.snapshot.proofs.Laws.{Sound.{stands-nil, stands-long}, Maps.{skip-at}, Form.{empty-nil, formed-from}}
 use Rattle.snapshot.proofs.Laws.Stay.{key-few, key-stands, other-stands, stay}
 
 -- s is well formed, and behind the records of the keys below k stands, at `at`, the record of key k, or the end where k is no key

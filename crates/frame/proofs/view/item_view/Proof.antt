@@ -17,16 +17,18 @@ use prog.Wp.{Heap, Calls, Loops, WpFn, Tables}
 use ghost.Atoms.{Atoms, sem}
 use contract.Monad.{Fun, fact}
 use contract.Running.{givenOf, tables, tablesOf}
-use types.Kit.{Given, Item, ‵, raw, _⊛_, ⋆, some, later, _$_, _∵_, !, qed, by, move, drop, use1, use2, rewrite, split, join, pick, fsplit, fjoin, suffices, frame, await, done}
+use types.Kit.{Given, Item, ‵, raw, _⊛_, ⋆, some, later, _$_, _∵_, !, qed, by, move, drop, use1, use2, rewrite, split, join, pick, fsplit}
+use types.Kit.{fjoin, suffices, frame, await, done}
 use types.Part.{whole, sub, look-in, agg}
-use types.Run.{look, init, forget, stop, fld, from, load, and-then, no-more, assigns, land, returns, enter, alloc1, alloc0, params1, pass1, pass0, free1, free0}
+use types.Run.{look, init, forget, stop, fld, from, load, and-then, no-more, assigns, land, returns, enter, alloc1, alloc0, params1, pass1}
+use types.Run.{pass0, free1, free0}
 use sound.WpLaws.{FmC, fmOf, WpFn-mono}
 use denote.{RattleType.{RattleType, owns}, Laws.{Is, shows}, Plain.{uint-vals, uint-tells, uint-makes}, Builtin.{u8, u32, usize}}
 use denote.{Ref.{RefT, NamedLft, now}, Signature.{plain, namedLft}}
 use denote.Slice.{sliceTy, sliceVal, ShrSlice, slice-vals, shr-slice-tells, shr-slice-lawful, shr-slice-copy}
+use denote.Triple.Walked.{says, Stays, stay-none, stay-none-slice, walkOf, goes-none, goes-none-slice, Walks, ends-at, walked, walk-meets}
 use denote.{Steps.{only, owned, peeks, heard, nothing}, Struct.Rest.{own-shut}, Triple.Statement.{Contract, Triple}, Triple.Call.{calls-at}}
 use denote.{Triple.Entry.{Vals, onEntry}, Triple.Spec.{Meets, tripleOf}, Triple.Table.{entered, cited}}
-use denote.Triple.Walked.{says, Stays, stay-none, stay-none-slice, walkOf, goes-none, goes-none-slice, Walks, ends-at, walked, walk-meets}
 use denote.{Exit.{yes}, Triple.Clauses.{ensured, lasts}}
 use denote.Struct.Laws as LL
 use Rattle.wire.specs.{declared.parts.Part.{Part}, Parts.{PartOf}}

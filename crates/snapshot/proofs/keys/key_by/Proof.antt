@@ -5,8 +5,7 @@ use native.Mathlib.Omega.{arith}
 use lib.Dec.{leb, eqb}
 use borrow.Author.{Needs.{needs}, Tests.{ne-eqb, leb-true}}
 use Rattle.wire.specs.{Endpoints.{firstAddress, lastAddress, places}, Selectors.{ev, face, metadata, hdr, throttle}}
-use Rattle.snapshot.proofs.Laws.Sound.{and-left, and-right}
-use Rattle.snapshot.proofs.Laws.Told.{by-kind, by-address, no-address}
+use Rattle.snapshot.proofs.Laws.{Sound.{and-left, and-right}, Told.{by-kind, by-address, no-address}}
 use Rattle.snapshot.proofs.keys.key_by.Statement.{statement}
 use Rattle.snapshot.proofs.keys.key_by.Tie as tie
 
