@@ -1,7 +1,7 @@
 -- `scaled` meets its contract. Assumes nothing.
 use mathlib.Core.{Path.{_≡_, ap, ap₂, sym, _∙_}, Bool.{true}}
-use Prim.Native.Nat.{ℕ, _/_, _<_}
-use native.Mathlib.Nat.{div-le-self, lt-of-le-of-lt}
+use Prim.Native.Nat.{ℕ, _/_, _<_, _≤_}
+use native.Mathlib.Nat.{div-le-self, le-trans, lt-of-le-of-lt}
 use lib.{Dec.{lit<}, IntN.{ℤ, pos, _*ℤ_}, Signed.{mag}}
 use mir.Syntax.{w32}
 use mir.Val.{SFits, toZ, ofZ}
@@ -53,8 +53,11 @@ module _ (c : tie.Then2) where
   small : mag v < 1024
   small = range-small _ (is-valid (c .before)) (place (c .before)) v (sym (ranged (c .before)) ∙ c .if2 .taken)
 
-  times-fits : SFits w32 (toZ w32 (ofZ w32 v) *ℤ toZ w32 factor)
-  times-fits = product-fits w32 v factor 1024 unitsPerStop (fits (c .before)) small (div-le-self unitsPerStop _) (lit< tt) (lit< tt)
+  -- whatever the unit, up to the sensor's
+  times-fits : (n : ℕ) → n ≤ unitsPerStop → SFits w32 (toZ w32 (ofZ w32 v) *ℤ toZ w32 (n / c .before .before .before .divisor .result))
+  times-fits n h =
+      product-fits w32 v (n / c .before .before .before .divisor .result) 1024 unitsPerStop (fits (c .before)) small
+      (le-trans (div-le-self n _) h) (lit< tt) (lit< tt)
 
   times-is : toZ w32 (ofZ w32 (toZ w32 (ofZ w32 v) *ℤ toZ w32 factor)) ≡ v *ℤ pos factor
   times-is = product-is w32 v factor 1024 unitsPerStop (fits (c .before)) small (div-le-self unitsPerStop _) (lit< tt) (lit< tt)
@@ -90,7 +93,7 @@ cast-result : tie.Need-cast-result
 cast-result c = record { sfits = lt-of-le-of-lt (div-le-self _ _) (lit< tt) }
 
 mul-result : tie.Need-mul-result
-mul-result c = times-fits (c .before .before)
+mul-result c = search (times-fits (c .before .before), needs)
 
 returns-2 : tie.Need-returns-2
 returns-2 c =
