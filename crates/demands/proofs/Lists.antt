@@ -22,7 +22,7 @@ use Rattle.demands.specs.{Runs.{gives, leaves, flagAfter, given, snapsho
 use Rattle.demands.specs.Lists.{MergesTo, Whole, LoadsMerged, AcceptedInTurn, Restores}
 use Rattle.demands.proofs.Laws.{Held.{none-held}, Kept.{held-good}, Fits.{held-fitting}, Steps.{step, outcome-code, gives-good}}
 use Rattle.demands.proofs.Laws.Lists.{given-append, run-ok, fresh-ok, held-after, flag-after}
-use Rattle.demands.proofs.Laws.Cameras.{rows, held-records, record-of-taken}
+use Rattle.demands.proofs.Laws.Cameras.{each-record, held-records, record-of-taken}
 use Rattle.demands.proofs.Laws.Loads.{Accepted, load-settings, load-accepted, accepted-load, merged-accepted, merged-settings}
 use Rattle.camera.proofs.Laws.{Record.{formed-profile}, Loading.{codeBy, givenBy}}
 
@@ -59,7 +59,7 @@ module _ (p : Profile) (v : profileValid p ≡ true) where
   given-records : (f : Bool) (cs : List Call) → EachRecord recordOf (given p f cs)
   given-records f [] = tt
   given-records f (c ∷ cs) =
-      records-append recordOf (gives p f c) _ (rows p (gives p f c) (gives-good p v f c)) (given-records (leaves f c) cs)
+      records-append recordOf (gives p f c) _ (each-record p (gives p f c) (gives-good p v f c)) (given-records (leaves f c) cs)
 
   snapshot-after : (f : Bool) (cs : List Call) → snapshot (run (fresh p f) cs) ≡ snapshotAfter p f cs
   unfolding snapshot
@@ -214,11 +214,11 @@ module _ (c : Camera) (w : recordWellFormed c ≡ true) (t : Typed c) where
   abbrev p : Profile
   p = c .profile
 
-  rows-accepted : Accepted p true (snapshot c)
-  rows-accepted = record { formed = snapshot-formed c w; each = λ k. rw (snapshot-decodes c w) (written-code c w t k) }
+  records-accepted : Accepted p true (snapshot c)
+  records-accepted = record { formed = snapshot-formed c w; each = λ k. rw (snapshot-decodes c w) (written-code c w t k) }
 
   loads : Load (fresh p true) (snapshot c)
-  loads = record { formed = fresh-ok p (formed-profile c w) true .formed; tests = accepted-load p true (snapshot c) rows-accepted }
+  loads = record { formed = fresh-ok p (formed-profile c w) true .formed; tests = accepted-load p true (snapshot c) records-accepted }
 
   restores : (k : ℕ) → held (loaded (fresh p true) (snapshot c) .camera) k ≡ held c k
   restores k =

@@ -40,9 +40,9 @@ record-of k (S.Metadata n) e p = subst (λ j. IsRecord j (recordOf (S.Metadata n
 record-of k (S.Hdr n) e p = subst (λ j. IsRecord j (recordOf (S.Hdr n))) e (record-hdr _ _ _ _)
 record-of k (S.Throttle s) e p = subst (λ j. IsRecord j (recordOf (S.Throttle s))) e (record-throttle _ _ _ _ _ _ _ _)
 
-pub rows : (p : Profile) (l : List (ℕ × Setting)) → Each (Good p) l → EachRecord recordOf l
-rows p [] g = tt
-rows p (x ∷ l) g = (record-of (x .0) (x .1) (sym (g .0)) (g .1 .proper), rows p l (g .2))
+pub each-record : (p : Profile) (l : List (ℕ × Setting)) → Each (Good p) l → EachRecord recordOf l
+each-record p [] g = tt
+each-record p (x ∷ l) g = (record-of (x .0) (x .1) (sym (g .0)) (g .1 .proper), each-record p l (g .2))
 
 -- the records of what a well-formed camera holds are records of their keys
 pub held-records : (c : Camera) → recordWellFormed c ≡ true → records.Good (λ k. Option·map recordOf (held c k))

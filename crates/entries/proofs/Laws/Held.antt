@@ -4,10 +4,9 @@ use Prim.Native.Nat.{ℕ, suc, _+_, _-_, _≤_, _<_}
 use native.Mathlib.Omega.{arith}
 use lib.{Dec.{leb, eqb}, ListN.{length, getD, set, length-set}, Seq.{getD-set-same, getD-set-other}}
 use borrow.Author.Tests.{eqb-true, eqb-false, leb-true, leb-false}
-use Rattle.wire.specs.Endpoints.{firstAddress, places}
+use Rattle.wire.specs.Endpoints.{firstAddress}
 use Rattle.face.specs.{declared.limits.FaceLimits.{FaceLimits}, Limits.{addressAt, offersAt, offersFrom, offersOf}}
-use Rattle.wire.proofs.Laws.Below.{all-at, all-of}
-use Rattle.entries.specs.Entries.{flagsKept, settingRefusal, faceKept, facesKept, putFace}
+use Rattle.entries.specs.Entries.{flagsKept, settingRefusal, faceKept, putFace}
 
 -- settings with one more
 pub length-put : (held : List ℕ) (address flags : ℕ) → length (putFace held address flags) ≡ length held
@@ -52,13 +51,3 @@ pub kept-place : (present : Bool) (l : FaceLimits) (held : List ℕ) (i offers :
 unfolding faceKept settingRefusal
 kept-place true l held i offers e = rw e
 kept-place false l held i offers e = rw e
-
--- settings that keep their rules, place by place
-module _ (present : Bool) (l : FaceLimits) (held : List ℕ) where
-  pub kept-at : facesKept present l held ≡ true → (i : ℕ) → i < places → faceKept present l held i ≡ true
-  unfolding facesKept
-  kept-at = all-at places (faceKept present l held)
-
-  pub kept-all : ((i : ℕ) → i < places → faceKept present l held i ≡ true) → facesKept present l held ≡ true
-  unfolding facesKept
-  kept-all = all-of places (faceKept present l held)

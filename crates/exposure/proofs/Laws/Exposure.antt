@@ -106,11 +106,7 @@ module _ (l : EvLimits) (s : EvSetting) where
       unfolding scaled scaledAt
       scaled-is r = rw (h, e, r)
 
--- a setting's payload, eleven bytes, reads back as the setting
-pub ev-length : (s : EvSetting) → length (evBytes s) ≡ 11
-unfolding evBytes bytesOf
-ev-length s = refl
-
+-- a setting's payload reads back as the setting
 module _ (s : EvSetting) (h : s .flags < 256) (f : SFits w32 (s .value)) where
   pub ev-flags : evFlags (evBytes s) ≡ s .flags
   unfolding evBytes bytesOf

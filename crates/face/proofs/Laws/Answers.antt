@@ -3,10 +3,10 @@ use mathlib.Core.{Path.{_≡_, refl, ap}, List.{List, [], _∷_}, Bool.{Bool, tr
 use Prim.Native.Nat.{ℕ, zero, suc, _+_, _*_, _≤_, _<_}
 use native.Mathlib.{Numerals.{add-one}, Omega.{arith}}
 use lib.{Dec.{eqb, lit≤}, ListN.{length, length-append}}
-use Rattle.wire.specs.{Endpoints.{endpointLimit}, Numbers.{bytesOf}, Writes.{overlay}, Uvc.{getCur, getDef, getLen, getMin, getRes}}
+use Rattle.wire.specs.{Endpoints.{endpointLimit}, Numbers.{bytesOf}, Writes.{overlay}, Uvc.{getCur, getDef, getMin, getRes}}
 use Rattle.wire.proofs.Laws.{Bytes.{bytes-byte}, Writes.{append}}
 use Rattle.request.specs.Answers.{answerBy, longestAnswer}
-use Rattle.request.proofs.Laws.{Answers.{answer-len, answer-length}, Packed.{blank}}
+use Rattle.request.proofs.Laws.{Answers.{answer-length}, Packed.{blank}}
 use Rattle.face.specs.{declared.limits.FaceLimits.{FaceLimits}, Limits.{endpointsOf, addressAt}}
 use Rattle.face.specs.Answers.{entryOf, heldAt, flagsAt, entriesOf, faceValue, faceAnswer}
 
@@ -56,8 +56,3 @@ module _ (l : FaceLimits) (held : List ℕ) (none : (address : ℕ) → heldAt h
   pub fresh-answer : faceAnswer l held getCur ≡ faceAnswer l held getDef
   unfolding faceAnswer answerBy faceValue
   fresh-answer = rw (fresh-entries (endpointsOf l))
-
--- LEN's answer is the length of the longest SET
-pub len-answer : (l : FaceLimits) (held : List ℕ) → faceAnswer l held getLen ≡ bytesOf 2 (1 + 8 * endpointsOf l)
-unfolding faceAnswer
-len-answer l held = answer-len getLen (1 + 8 * endpointsOf l) 0x03 (faceValue l held getLen) refl

@@ -42,12 +42,6 @@ quiet-own [] c e = tt
 quiet-own ((true ⇒ code) ∷ rows) c e = absurd (c .0 refl e)
 quiet-own ((false ⇒ code) ∷ rows) c e = (refl, quiet-own rows (c .1) e)
 
--- and back
-pub all-quiet : (rows : List Row) → Quiet rows → firstOf rows ≡ 0
-all-quiet [] q = refl
-all-quiet ((true ⇒ code) ∷ rows) q = cc
-all-quiet ((false ⇒ code) ∷ rows) q = all-quiet rows (q .1)
-
 -- a test that comes to its own number
 pub own-coded : (code : ℕ) → not (eqb code 0) ≡ true → code ≡ 0 → ⊥
 own-coded code t e = true≢false (sym t ∙ ap not (eq-eqb code 0 e))
