@@ -110,7 +110,7 @@ uint8_t camera_sensor(const struct camera *c, int32_t *value)
     if (!well_formed(c))
         return BAD_RECORD;
     if (c->held.ev_held)
-        *value = c->held.ev_value * (12 / divisors[__builtin_ctz(c->held.ev_flags)]);
+        *value = c->held.ev_value * (120 / divisors[__builtin_ctz(c->held.ev_flags)]);
     return 0;
 }
 

@@ -1,5 +1,5 @@
 // The bench camera of document 01, and the tables of what it answers: each request of the paper's rows with its number, its
-// count, the sensor's twelfths, the reply and the snapshot (01's settings sheet); the paper's metadata blocks; and 004's two
+// count, what the sensor is handed, the reply and the snapshot (01's settings sheet); the paper's metadata blocks; and 004's two
 // descriptor sets. `demands` has the rows marked (p) as a theorem over the definitions.
 mod blocks;
 mod device;

@@ -8,7 +8,7 @@ use printing::text;
 fn header(title: &[u8]) {
     text(title);
     text(
-        b"request           setup                    payload                              number  count  twelfths  reply\n",
+        b"request           setup                    payload                              number  count  sensor    reply\n",
     );
 }
 

@@ -12,7 +12,7 @@ pub struct Outcome {
     pub camera: Camera,
 }
 
-// The number that the sensor is handed, in twelfths of a stop; 0 on a refusal.
+// The number that the sensor is handed, in its units; 0 on a refusal.
 pub struct Sensed {
     pub code: u8,
     pub value: i32,

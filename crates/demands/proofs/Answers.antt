@@ -1,53 +1,51 @@
--- The owner's demand 2 on the camera: new settings, the sensor's number, GET_CUR, LEN, and what is written reads back. Assumes nothing.
+-- The owner's demand 2 on the camera: new settings, GET_CUR, LEN, and what is written reads back. Assumes nothing.
 use mathlib.Core.{Path.{_≡_, refl, ap, ap₂, sym, _∙_, subst}, List.{List, []}, Option.{none, Option·map}}
 use mathlib.Core.Bool.{Bool, true, false, cond, not, _&&_, and-eq-true-iff}
 use Prim.Native.Nat.{ℕ, _+_, _*_, _≤_, _<_, min}
 use native.Mathlib.Omega.{arith}
-use lib.{Dec.{eqb}, IntN.{pos, _*ℤ_}, ListN.{length, getD}}
+use lib.{Dec.{eqb}, ListN.{length, getD}}
 use borrow.Author.Tests.{eq-eqb, ne-eqb, eqb-true, le-ltb, leb-true}
 use Rattle.snapshot.specs.Keys.{metadataKey, hdrKey, throttleKey}
 use Rattle.wire.specs.{Endpoints.{firstAddress, places}, Numbers.{bytesOf}, Rows.{firstOf}}
 use Rattle.wire.specs.Uvc.{setCur, getCur, getLen, getDef, wrongState}
 use Rattle.wire.specs.Selectors as selector
 use Rattle.wire.proofs.Laws.Numbers.{Bytes}
-use Rattle.flags.proofs.Laws.Bits.{chosen-is}
 use Rattle.request.specs.Setup.{setupType, setupCode, setupValueLow, setupSelector, setupWLength, isSetRequest, isGetRequest}
 use Rattle.request.specs.{Answers.{answerBy}, Tests.{fullAnswer, asked, requestTests, sentCount}}
 use Rattle.request.proofs.Laws.Tests.{at-get}
 use Rattle.request.proofs.Theorems.{len-answers}
 use Rattle.request.proofs.Theorems as requests
-use Rattle.controls.specs.{declared.{EvSetting.{EvSetting}, HeldNumber.{HeldNumber}}, Controls.{numberOr}}
+use Rattle.controls.specs.{declared.HeldNumber.{HeldNumber}, Controls.{numberOr}}
 use Rattle.controls.specs.declared.HeldNumber.the-variants as N
 use Rattle.controls.specs.declared.Setting.the-variants as S
 use Rattle.throttle.specs.{declared.HeldThrottle.{HeldThrottle}, Throttle.{throttleAttribute, throttleBytes, throttleCurrent}}
 use Rattle.throttle.specs.declared.HeldThrottle.the-variants as T
-use Rattle.exposure.specs.{declared.HeldEv.{HeldEv}, Exposure.{sensorValue, divisor, evAttribute, evBytes, evCurrent, scaled}}
+use Rattle.exposure.specs.{declared.HeldEv.{HeldEv}, Exposure.{evAttribute, evBytes, evCurrent}}
 use Rattle.exposure.specs.declared.HeldEv.the-variants as E
 use Rattle.face.specs.{declared.limits.FaceLimits.{FaceLimits}, Limits.{endpointsOf, addressAt}}
 use Rattle.face.specs.Answers.{entryOf, heldAt, flagsAt, faceAnswer}
 use Rattle.entries.specs.Entries.{entryAddress, entryFlags, entriesPut}
 use Rattle.metadata.specs.Metadata.{metadataAttribute}
 use Rattle.hdr.specs.Hdr.{hdrAttribute}
-use Rattle.exposure.proofs.Laws.Exposure.{accepts, scaled-is}
 use Rattle.face.proofs.Laws.{Limits.{place-listed}, Answers.{fresh-answer}}
 use Rattle.entries.proofs.Laws.Payload.{len-taken, len-longest}
 use Rattle.profile.specs.{declared.Profile.{Profile}, KnownControl.{KnownControl}, Profile.{has, setLength, profileRefusal}}
 use Rattle.profile.specs.Items.{setRefusal}
 use Rattle.profile.specs.KnownControl as selectors
-use Rattle.settings.specs.{Held.{evHeld, metadataHeld, hdrHeld, throttleHeld, settingsHeld}, Kept.{valueRefusal}, Settings.{noSettings}}
+use Rattle.settings.specs.{Held.{evHeld, metadataHeld, hdrHeld, throttleHeld, settingsHeld}, Settings.{noSettings}}
 use Rattle.settings.specs.Items.{allGiven, setGives, putAll}
 use Rattle.answering.specs.Answering.{valueOf}
-use Rattle.profile.proofs.Laws.{Profile.{valid-presence, valid-ev, valid-face}, KnownControl.{control-known}}
+use Rattle.profile.proofs.Laws.{Profile.{valid-presence, valid-face}, KnownControl.{control-known}}
 use Rattle.camera.specs.{declared.record.Camera.{Camera}, Record.{fresh, held, puts, recordWellFormed}}
 use Rattle.camera.specs.Requests.{stateRefusal, table, cameraAnswer, requestedCode, requestDone, requested}
 use Rattle.camera.specs.{Loading.{selectorAt, recordItem, loadGives}, Calls.{sensed, Call, request, load, outcome, left, next}}
 use Rattle.camera.proofs.Laws.Record.{formed-profile}
 use Rattle.demands.specs.{Runs.{acceptsSet, gives, run}, Cameras.{Ok, Typed, Same}}
-use Rattle.demands.specs.Answers.{NewSettings, Twelfths, SensorExact, CurrentIsHeld, SameAnswers, FaceLength, FaceReadsBack}
+use Rattle.demands.specs.Answers.{NewSettings, CurrentIsHeld, SameAnswers, FaceLength, FaceReadsBack}
 use Rattle.demands.specs.Answers.{ReadsBack, bytesBack, CameraSends, Gets, SnapshotReadsBack, WriteSuffices}
-use Rattle.demands.proofs.Laws.{Longest.{snapshot-short}, Held.{none-never, none-held}, Kept.{control-there, held-good}}
+use Rattle.demands.proofs.Laws.{Longest.{snapshot-short}, Held.{none-never, none-held}, Kept.{control-there}}
 use Rattle.demands.proofs.Laws.Current.{ev-current, face-current, face-default, metadata-current, hdr-current, throttle-current}
-use Rattle.demands.proofs.Laws.{Same.{settings-same}, Sensor.{twelfths-whole, twelfths-exact, steps-below}}
+use Rattle.demands.proofs.Laws.Same.{settings-same}
 use Rattle.demands.proofs.Laws.ReadBack.{answer-back, Taken, entry-taken, face-put, After, after, payload-entry, place-at}
 use Rattle.demands.proofs.Laws.ReadBack.{face-sized, current-entry, current-length, current-held, current-same, face-none}
 use Rattle.demands.proofs.Laws.Steps.{step, outcome-code, set-answer, load-answer, refused-none, request-next, accepted-control}
@@ -70,29 +68,6 @@ module _ (c : Camera) (w : recordWellFormed c ≡ true) where
       → gives (c .profile) (c .streaming) (load s) ≡ loadGives (c .profile) (c .streaming) s
   unfolding gives
   load-gives s e = rw (eq-eqb _ 0 (sym (load-answer c s w) ∙ e))
-
--- The sensor's number is exact.
-pub sensor-exact : (c : Camera) → recordWellFormed c ≡ true → SensorExact c
-unfolding sensed sensorValue settingsHeld valueRefusal
-sensor-exact c w = record { code = rw w; held = twelfths; unset = λ e. rw (w, e) }
-  where
-    twelfths : (s : EvSetting) → c .settings .ev ≡ E.Held s → Twelfths c s
-    twelfths s e =
-        let l = c .profile .ev in
-        let g = held-good (c .profile) (c .settings) w 0 (S.Ev s) (rw e) .1 in
-        let v = valid-ev (c .profile) (formed-profile c w) (control-there (c .profile) selector.ev (g .control)) in
-        let a = accepts l (s .flags) (s .value) (g .value) in
-        let place = a .0 in
-        let n : sensed c .value ≡ scaled l s = rw (w, e) in
-        let x = n ∙ scaled-is l s v place (a .1 .0) (a .1 .1) in
-        record {
-          place = place;
-          offered = a .1 .0;
-          flag = λ h. chosen-is 5 (l .steps) (s .flags) place (steps-below l v) h (a .1 .0);
-          value = x;
-          whole = twelfths-whole place;
-          exact = ap (λ z. z *ℤ pos (divisor place)) x ∙ twelfths-exact place (s .value);
-        }
 
 -- GET_CUR is DEF while no setting is held of the selector's control.
 module _ (c : Camera) (l : length (c .settings .face) ≡ places) where

@@ -2,6 +2,7 @@
 pub mod Laws
 pub mod Refusals
 pub mod Answers
+pub mod Sensor
 pub mod Lists
 pub mod Loading
 pub mod Programs

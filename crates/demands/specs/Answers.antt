@@ -1,16 +1,15 @@
--- What the owner's demand 2 says of the camera: new settings, the sensor's number, GET_CUR, LEN, and what is written reads back.
-use Prim.Native.Nat.{ℕ, _+_, _*_, _/_, _^_, _≤_, _<_, min}
+-- What the owner's demand 2 says of the camera: new settings, GET_CUR, LEN, and what is written reads back. Of the sensor's number it is
+-- in Sensor.
+use Prim.Native.Nat.{ℕ, _+_, _*_, _≤_, _<_, min}
 use mathlib.Core.{Path.{_≡_}, List.{List, [], _∷_, _++_}, Option.{none, some, Option·map}, Bool.{true, cond}}
-use lib.{Dec.{eqb}, IntN.{pos, _*ℤ_}, ListN.{length, getD, take, drop}}
+use lib.{Dec.{eqb}, ListN.{length, getD, take, drop}}
 use Rattle.wire.specs.{Endpoints.{firstAddress}, Numbers.{bytesOf}, Uvc.{getCur, getDef, getLen}}
 use Rattle.wire.specs.Selectors as selector
-use Rattle.flags.specs.{declared.Choice.the-variants.{At}, Flags.{oneFlag}}
 use Rattle.request.specs.{Setup.{setupValueLow, setupSelector, setupWLength, isGetRequest}, Tests.{isAddressed}}
 use Rattle.snapshot.specs.{Keys.{keyFor}, Form.{wellFormed}, Records.{decode}, Given.{over, lastOf}}
 use Rattle.controls.specs.declared.{EvSetting.{EvSetting}, ThrottleSetting.{ThrottleSetting}, Item.the-variants.{Given}}
-use Rattle.exposure.specs.declared.HeldEv.the-variants as E
 use Rattle.controls.specs.declared.Setting.the-variants as S
-use Rattle.exposure.specs.Exposure.{divisor, evBytes, unitsPerStop}
+use Rattle.exposure.specs.Exposure.{evBytes}
 use Rattle.face.specs.{Limits.{endpointsOf, addressAt}, Answers.{entryOf, heldAt, flagsAt}}
 use Rattle.entries.specs.Entries.{entryAddress, entryFlags}
 use Rattle.throttle.specs.Throttle.{throttleBytes}
@@ -29,23 +28,6 @@ pub record NewSettings (c : Camera) (call : Call) : Type 0 where
   pub streaming : next c call .streaming ≡ leaves (c .streaming) call
   pub profile : next c call .profile ≡ c .profile
   pub refused : (outcome c call .code ≡ 0 → ⊥) → gives (c .profile) (c .streaming) call ≡ []
-
--- The sensor's number of the EV setting s that is held, in twelfths of a stop. The setting has one flag, which is offered and says the
--- step: d = divisor place of them make a stop. The number is value · (12 / d), where d divides 12; so it is as many stops as the value,
--- unrounded.
-pub record Twelfths (c : Camera) (s : EvSetting) : Type 0 where
-  pub place : ℕ
-  pub offered : oneFlag (c .profile .ev .steps) (s .flags) ≡ At place
-  pub flag : s .flags < 2 ^ 56 → (s .flags ≡ 2 ^ place) × (place < 5)
-  pub value : sensed c .value ≡ s .value *ℤ pos (unitsPerStop / divisor place)
-  pub whole : divisor place * (unitsPerStop / divisor place) ≡ unitsPerStop
-  pub exact : sensed c .value *ℤ pos (divisor place) ≡ s .value *ℤ pos unitsPerStop
-
--- What the sensor is handed, exactly; 0 while no setting is held.
-pub record SensorExact (c : Camera) : Type 0 where
-  pub code : sensed c .code ≡ 0
-  pub held : (s : EvSetting) → c .settings .ev ≡ E.Held s → Twelfths c s
-  pub unset : c .settings .ev ≡ E.Unset → sensed c .value ≡ pos 0
 
 -- the eight bytes of entry i, in a payload as in an answer that lists every endpoint
 abbrev pub entryBytes : List ℕ → ℕ → List ℕ

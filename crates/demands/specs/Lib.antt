@@ -3,6 +3,7 @@ pub mod Runs
 pub mod Cameras
 pub mod Refusals
 pub mod Answers
+pub mod Sensor
 pub mod Lists
 pub mod Loading
 pub mod Programs

@@ -1,5 +1,5 @@
 -- Document 01, "The bench camera": the rows marked (p), in the paper's order, each a pair of answers: what the definitions of `camera`,
--- `request` and `frame` come to, and what the paper says.
+-- `request` and `frame` come to, and what the paper says, the sensor's numbers in #103's units.
 use Prim.Native.Nat.{ℕ, _+_}
 use mathlib.Core.{Bool.{Bool, true}, List.{List, [], _∷_, map}}
 use lib.{ListN.{length, replicate}, IntN.{ℤ, pos, negsuc}}
@@ -12,8 +12,8 @@ use Rattle.demands.specs.{Runs.{run}, Bench.{bench}}
 
 -- what a row tells
 pub data Told : Type 0 where
-  -- of a request: its number and count, and then the sensor's twelfths and the snapshot
-  answer : (number count : ℕ) (twelfths : ℤ) (saved : List ℕ) → Told
+  -- of a request: its number and count, and then what the sensor is handed and the snapshot
+  answer : (number count : ℕ) (sensor : ℤ) (saved : List ℕ) → Told
   -- of a setup packet: whether it is a SET, and its selector, unit, interface and wLength
   setup : Bool → (control unit interface wLength : ℕ) → Told
   -- of a list of requests: the snapshot that it leaves
@@ -57,8 +57,8 @@ after r =
     answer (done .code) (done .count) (sensed (done .camera) .value) (snapshot (done .camera))
 
 -- it is accepted, and its payload is then the one record of the snapshot
-abbrev pub accepts : Request → (twelfths : ℤ) → Line
-accepts r twelfths = after r is answer 0 0 twelfths ((4 + length (r .1)) ∷ 0 ∷ setupSelector (r .0) ∷ 0 ∷ r .1)
+abbrev pub accepts : Request → (sensor : ℤ) → Line
+accepts r sensor = after r is answer 0 0 sensor ((4 + length (r .1)) ∷ 0 ∷ setupSelector (r .0) ∷ 0 ∷ r .1)
 
 -- it is refused, and nothing is set
 abbrev pub refuses : Request → (number : ℕ) → Line
@@ -97,14 +97,14 @@ item size payload = 0x06 ∷ 0x00 ∷ 0x00 ∷ 0x00 ∷ size ∷ 0x00 ∷ 0x00 �
 abbrev pub rows : List Line
 rows =
     -- EV, -3 steps of 1/4 stop
-    accepts firstCase (negsuc 8)
+    accepts firstCase (negsuc 89)
     -- D1 with 8 and with 9
-    ∷ accepts (setEv 0x02 0x08 0x00) (pos 24)
+    ∷ accepts (setEv 0x02 0x08 0x00) (pos 240)
     ∷ refuses (setEv 0x02 0x09 0x00) 0x04
     -- two flags
     ∷ refuses (setEv 0x11 0x00 0x00) 0x08
     -- D0 with -12 and with -13
-    ∷ accepts (setEv 0x01 0xF4 0xFF) (negsuc 23)
+    ∷ accepts (setEv 0x01 0xF4 0xFF) (negsuc 239)
     ∷ refuses (setEv 0x01 0xF3 0xFF) 0x04
     -- HDR 2 and 3
     ∷ refuses (setHdr 2) 0x08

@@ -68,9 +68,9 @@ evAttribute l held code =
 unfoldable pub evAnswer : EvLimits → HeldEv → ℕ → List ℕ
 evAnswer l held code = answerBy code 11 0x13 (evBytes (evAttribute l held code))
 
--- the sensor's unit: twelfths of a stop
+-- how many of the sensor's units make a stop (#103)
 abbrev pub unitsPerStop : ℕ
-unitsPerStop = 12
+unitsPerStop = 120
 
 unfoldable pub scaledAt : EvLimits → ℤ → Choice → ℤ
 scaledAt l v Refused = pos 0

@@ -14,8 +14,8 @@ ghost use Rattle.request.specs.Answers.{packed};
 ghost use Rattle.exposure.specs.Exposure.{evValid, divisor, inRange, evRefusal, evItem, evBytes, evAttribute, evAnswer, scaled};
 ghost use Rattle.exposure.specs.Exposure.{sensorValue};
 
-// How many of the sensor's units make a stop: twelfths.
-const UNITS_PER_STOP: u8 = 12;
+// How many of the sensor's units make a stop. Every step is a whole number of them.
+const UNITS_PER_STOP: i32 = 120;
 
 // Whole stops, and the steps offered as flags D0 to D4.
 pub struct EvLimits {
@@ -145,7 +145,7 @@ pub fn answer(l: EvLimits, held: HeldEv, code: u8) -> Answer
     answer_by(code, 11, 0x13, &b)
 }
 
-// A setting in twelfths of a stop, exactly.
+// A setting in the sensor's units, exactly.
 fn scaled(l: EvLimits, s: EvSetting) -> i32
     ensures { λ r. ⌜ r ≡ scaled l s ⌝ }
 {
@@ -156,8 +156,9 @@ fn scaled(l: EvLimits, s: EvSetting) -> i32
         Choice::Refused => 0,
         Choice::At(place) => {
             let d = divisor(place);
-            if in_range(l, d, s.value) {
-                s.value * ((UNITS_PER_STOP / d) as i32)
+            let v = s.value;
+            if in_range(l, d, v) {
+                v * (UNITS_PER_STOP / (d as i32))
             } else {
                 0
             }
@@ -165,7 +166,7 @@ fn scaled(l: EvLimits, s: EvSetting) -> i32
     }
 }
 
-// What the sensor is handed, in twelfths of a stop: 0 where no setting that SET accepts is held.
+// What the sensor is handed, in its units: 0 where no setting that SET accepts is held.
 pub fn sensor_value(l: EvLimits, held: HeldEv) -> i32
     ensures { λ r. ⌜ r ≡ sensorValue l held ⌝ }
 {

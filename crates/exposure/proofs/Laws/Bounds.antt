@@ -1,32 +1,30 @@
 -- Signed numbers between bounds, and products that fit. Assumes nothing.
-use mathlib.Core.{Path.{_≡_, ap₂, _∙_}, Bool.{true, false≢true}}
-use Prim.Native.Nat.{ℕ, zero, suc, _*_, _^_, _≤_, _<_}
-use native.Mathlib.{Nat.{le-refl, le-trans, le-suc, lt-of-le-of-lt, mul-le-mul}, Omega.{arith}}
-use lib.{IntN.{ℤ, pos, negsuc, negℤ, _*ℤ_}, Signed.{mag, leZ}}
+use mathlib.Core.{Path.{_≡_}, Bool.{true, false≢true}}
+use Prim.Native.Nat.{ℕ, zero, suc, _*_, _/_, _^_, _≤_, _<_, zero-le}
+use native.Mathlib.{Nat.{le-trans, le-suc, le-of-lt, div-le-self, lt-of-le-of-lt, mul-le-mul}, Omega.{arith}}
+use lib.{IntN.{ℤ, pos, negsuc, negℤ, _*ℤ_}, Signed.{mag, leZ, quotZ}}
 use mir.Syntax.{Width}
-use mir.Val.{SFits, toZ, ofZ, hbits}
-use mir.Facts.{toZ-pos, toZ-ofZ}
+use mir.Val.{SFits, hbits}
 use borrow.Author.Tests.{leb-true}
 
--- a product is no larger than the product of the bounds
-mag-neg : (n : ℕ) → mag (negℤ (pos n)) ≤ n
-mag-neg zero = le-refl 0
-mag-neg (suc n) = le-suc n
+-- a product is no larger than the product of the bounds, a quotient no larger than what is divided
+mag-neg : (n m : ℕ) → n ≤ suc m → mag (negℤ (pos n)) ≤ m
+mag-neg zero m h = zero-le
+mag-neg (suc n) m h = omega arith
 
-pub mag-mul : (z : ℤ) (k a b : ℕ) → mag z < a → k ≤ b → mag (z *ℤ pos k) ≤ a * b
-mag-mul (pos n) k a b h g = mul-le-mul (omega arith) g
-mag-mul (negsuc n) k a b h g = le-trans (mag-neg (suc n * k)) (mul-le-mul h g)
+pub mag-mul : (x y : ℤ) (a b : ℕ) → mag x < a → mag y < b → mag (x *ℤ y) ≤ a * b
+mag-mul (pos n) (pos m) a b h g = mul-le-mul (le-of-lt h) (le-of-lt g)
+mag-mul (pos n) (negsuc m) a b h g = mag-neg _ _ (le-trans (mul-le-mul (le-of-lt h) g) (le-suc _))
+mag-mul (negsuc n) (pos m) a b h g = mag-neg _ _ (le-trans (mul-le-mul h (le-of-lt g)) (le-suc _))
+mag-mul (negsuc n) (negsuc m) a b h g = mul-le-mul h g
 
--- the machine's product of a signed z and an unsigned k at a width, where the product of their bounds fits
-module _ (w : Width) (z : ℤ) (k a b : ℕ) (f : SFits w z) (h : mag z < a) (g : k ≤ b) (r : a * b < 2 ^ hbits w) (p : b < 2 ^ hbits w) where
-  product : toZ w (ofZ w z) *ℤ toZ w k ≡ z *ℤ pos k
-  product = ap₂ _*ℤ_ (toZ-ofZ f) (toZ-pos w (lt-of-le-of-lt g p))
+pub mag-quot : (z : ℤ) (d : ℕ) → mag (quotZ z (pos d)) ≤ mag z
+mag-quot (pos n) d = div-le-self n d
+mag-quot (negsuc n) d = mag-neg (suc n / d) n (div-le-self (suc n) d)
 
-  pub product-fits : SFits w (toZ w (ofZ w z) *ℤ toZ w k)
-  product-fits = rw product (record { sfits = lt-of-le-of-lt (mag-mul z k a b h g) r })
-
-  pub product-is : toZ w (ofZ w (toZ w (ofZ w z) *ℤ toZ w k)) ≡ z *ℤ pos k
-  product-is = toZ-ofZ product-fits ∙ product
+-- so a product fits where that of the bounds does
+pub product-fits : (w : Width) (x y : ℤ) (a b : ℕ) → mag x < a → mag y < b → a * b < 2 ^ hbits w → SFits w (x *ℤ y)
+product-fits w x y a b h g r = record { sfits = lt-of-le-of-lt (mag-mul x y a b h g) r }
 
 -- what lies between two numbers is no larger than they are
 pub between : (m : ℕ) (a z b : ℤ) → leZ a z ≡ true → leZ z b ≡ true → mag a < m → mag b < m → mag z < m

@@ -26,12 +26,12 @@ divisor-pos (suc (suc zero)) = lit< tt
 divisor-pos (suc (suc (suc zero))) = lit< tt
 divisor-pos (suc (suc (suc (suc n)))) = lit< tt
 
-divisor-small : (place : ℕ) → divisor place ≤ 6
-divisor-small zero = lit≤ tt
-divisor-small (suc zero) = lit≤ tt
-divisor-small (suc (suc zero)) = lit≤ tt
-divisor-small (suc (suc (suc zero))) = lit≤ tt
-divisor-small (suc (suc (suc (suc n)))) = lit≤ tt
+pub divisor-small : (place : ℕ) → divisor place < 7
+divisor-small zero = lit< tt
+divisor-small (suc zero) = lit< tt
+divisor-small (suc (suc zero)) = lit< tt
+divisor-small (suc (suc (suc zero))) = lit< tt
+divisor-small (suc (suc (suc (suc n)))) = lit< tt
 
 -- SET's value tests, by the first that fails
 module _ (l : EvLimits) (flags : ℕ) (v : ℤ) where
@@ -83,8 +83,8 @@ module _ (l : EvLimits) (h : evValid l ≡ true) where
       let d = divisor place in
       let p = and-eq-true-iff (leZ (l .minimum *ℤ pos d) v) (leZ v (l .maximum *ℤ pos d)) .0 r in
       between 1024 (l .minimum *ℤ pos d) v (l .maximum *ℤ pos d) (p .0) (p .1)
-      (lt-of-le-of-lt (mag-mul (l .minimum) d 128 6 low-small (divisor-small place)) (lit< tt))
-      (lt-of-le-of-lt (mag-mul (l .maximum) d 128 6 high-small (divisor-small place)) (lit< tt))
+      (lt-of-le-of-lt (mag-mul (l .minimum) (pos d) 128 7 low-small (divisor-small place)) (lit< tt))
+      (lt-of-le-of-lt (mag-mul (l .maximum) (pos d) 128 7 high-small (divisor-small place)) (lit< tt))
 
 -- the sensor's number
 module _ (l : EvLimits) (s : EvSetting) where

@@ -5,10 +5,10 @@ use native.Mathlib.Omega.{arith}
 use lib.{Dec.{lit<}, IntN.{ℤ, pos, _*ℤ_}, Signed.{leZ}}
 use mir.Syntax.{w32, w64, w8}
 use mir.Val.{Fits, SFits, toZ, ofZ}
-use mir.Facts.{toZ-ofZ, sfits-widen}
+use mir.Facts.{toZ-ofZ, toZ-pos, sfits-widen}
 use borrow.Author.Needs.{needs}
 use Rattle.exposure.specs.Exposure.{inRange}
-use Rattle.exposure.proofs.Laws.Bounds.{product-fits, product-is}
+use Rattle.exposure.proofs.Laws.Bounds.{product-fits}
 use Rattle.exposure.proofs.in_range.Statement.{statement}
 use Rattle.exposure.proofs.in_range.Tie as tie
 
@@ -25,11 +25,14 @@ module _ (z : ℤ) (f : SFits w32 z) where
 
   -- and, a limit, times d
   module _ (d : ℕ) (g : Fits w8 d) where
+    times-d : toZ w64 (ofZ w64 (toZ w32 (ofZ w32 z))) *ℤ toZ w64 d ≡ z *ℤ pos d
+    times-d = ap₂ _*ℤ_ widened-is (toZ-pos w64 (omega arith))
+
     limit-fits : SFits w64 (toZ w64 (ofZ w64 (toZ w32 (ofZ w32 z))) *ℤ toZ w64 d)
-    limit-fits = rw (toZ-ofZ f) (product-fits w64 z d (2 ^ 31) 255 wide-fits (f .sfits) (omega arith) (lit< tt) (lit< tt))
+    limit-fits = rw times-d (product-fits w64 z (pos d) (2 ^ 31) 256 (f .sfits) (omega arith) (lit< tt))
 
     limit-is : toZ w64 (ofZ w64 (toZ w64 (ofZ w64 (toZ w32 (ofZ w32 z))) *ℤ toZ w64 d)) ≡ z *ℤ pos d
-    limit-is = rw (toZ-ofZ f) (product-is w64 z d (2 ^ 31) 255 wide-fits (f .sfits) (omega arith) (lit< tt) (lit< tt))
+    limit-is = toZ-ofZ limit-fits ∙ times-d
 
 cast-v : tie.Need-cast-v
 cast-v c = widened-fits (c .args .value) (search needs)

@@ -1,17 +1,17 @@
 -- `scaled` meets its contract. Assumes nothing.
 use mathlib.Core.{Path.{_≡_, ap, ap₂, sym, _∙_}, Bool.{true}}
-use Prim.Native.Nat.{ℕ, _/_, _<_, _≤_}
-use native.Mathlib.Nat.{div-le-self, le-trans, lt-of-le-of-lt}
-use lib.{Dec.{lit<}, IntN.{ℤ, pos, _*ℤ_}, Signed.{mag}}
+use Prim.Native.Nat.{ℕ, _/_, _<_}
+use native.Mathlib.{Nat.{lt-of-le-of-lt}, Omega.{arith}}
+use lib.{Dec.{lit<}, IntN.{ℤ, pos, _*ℤ_}, Signed.{mag, quotZ}}
 use mir.Syntax.{w32}
 use mir.Val.{SFits, toZ, ofZ}
-use mir.Facts.{toZ-ofZ}
+use mir.Facts.{toZ-ofZ, toZ-pos}
 use borrow.Author.{Needs.{needs}, Tests.{not-true, not-false}}
 use Rattle.flags.specs.{declared.Choice.the-variants.{At}, Flags.{oneFlag}}
-use Rattle.exposure.specs.{declared.EvLimits.{EvLimits}, Exposure.{evValid, divisor, inRange, unitsPerStop}}
+use Rattle.exposure.specs.{declared.EvLimits.{EvLimits}, Exposure.{evValid, divisor, inRange, scaled, unitsPerStop}}
 use Rattle.controls.specs.declared.EvSetting.{EvSetting}
-use Rattle.exposure.proofs.Laws.Bounds.{product-fits, product-is}
-use Rattle.exposure.proofs.Laws.Exposure.{divisor-pos, range-small, scaled-invalid, scaled-flags, scaled-value, scaled-is}
+use Rattle.exposure.proofs.Laws.{Bounds.{mag-quot, product-fits}, Exposure.{divisor-pos, divisor-small, range-small}}
+use Rattle.exposure.proofs.Laws.Exposure.{scaled-invalid, scaled-flags, scaled-value, scaled-is}
 use Rattle.exposure.proofs.scaled.Statement.{statement}
 use Rattle.exposure.proofs.scaled.Tie as tie
 
@@ -42,25 +42,53 @@ module _ (c : tie.After-in-range) where
   ranged : c .in-range .result ≡ inRange l (divisor place) (s .value)
   ranged = c .in-range .ensures ∙ ap₂ (inRange l) (c .before .before .divisor .ensures) (toZ-ofZ fits)
 
--- a value in range is small enough to be multiplied
+-- a number below 1024 in a register, its quotient by d, and the product of two such
+module _ (z : ℤ) (h : mag z < 1024) where
+  small-fits : SFits w32 z
+  small-fits = record { sfits = omega arith }
+
+  small-held : mag (toZ w32 (ofZ w32 z)) < 1024
+  small-held = rw (toZ-ofZ small-fits) h
+
+  quotient-small : (d : ℕ) → d < 7 → mag (quotZ z (toZ w32 d)) < 1024
+  quotient-small d g = rw (toZ-pos w32 {n = d} (omega arith)) (lt-of-le-of-lt (mag-quot z d) h)
+
+small-product : (x y : ℤ) → mag x < 1024 → mag y < 1024 → SFits w32 (x *ℤ y)
+small-product x y h g = product-fits w32 x y 1024 1024 h g (lit< tt)
+
+-- a value in range is below 1024
 module _ (c : tie.Then2) where
   abbrev v : ℤ
   v = s (c .before) .value
 
-  abbrev factor : ℕ
-  factor = unitsPerStop / c .before .before .before .divisor .result
+  abbrev d : ℕ
+  d = c .before .before .before .divisor .result
+
+  d-above : 0 < d
+  d-above = rw (c .before .before .before .divisor .ensures) (divisor-pos (place (c .before)))
+
+  d-below : d < 7
+  d-below = rw (c .before .before .before .divisor .ensures) (divisor-small (place (c .before)))
 
   small : mag v < 1024
   small = range-small _ (is-valid (c .before)) (place (c .before)) v (sym (ranged (c .before)) ∙ c .if2 .taken)
 
-  -- whatever the unit, up to the sensor's
-  times-fits : (n : ℕ) → n ≤ unitsPerStop → SFits w32 (toZ w32 (ofZ w32 v) *ℤ toZ w32 (n / c .before .before .before .divisor .result))
-  times-fits n h =
-      product-fits w32 v (n / c .before .before .before .divisor .result) 1024 unitsPerStop (fits (c .before)) small
-      (le-trans (div-le-self n _) h) (lit< tt) (lit< tt)
+  -- the units of a step, and the value times them
+  abbrev factor : ℤ
+  factor = quotZ (pos unitsPerStop) (toZ w32 d)
 
-  times-is : toZ w32 (ofZ w32 (toZ w32 (ofZ w32 v) *ℤ toZ w32 factor)) ≡ v *ℤ pos factor
-  times-is = product-is w32 v factor 1024 unitsPerStop (fits (c .before)) small (div-le-self unitsPerStop _) (lit< tt) (lit< tt)
+  factor-fits : SFits w32 factor
+  factor-fits = small-fits _ (quotient-small (pos unitsPerStop) (lit< tt) d d-below)
+
+  factor-is : factor ≡ pos (unitsPerStop / divisor (place (c .before)))
+  factor-is =
+      ap (quotZ (pos unitsPerStop)) (toZ-pos w32 (omega (arith, d-below)) ∙ ap pos (c .before .before .before .divisor .ensures))
+
+  number-is : toZ w32 (ofZ w32 (toZ w32 (ofZ w32 v) *ℤ toZ w32 (ofZ w32 factor))) ≡ scaled (l (c .before)) (s (c .before))
+  number-is =
+      toZ-ofZ (search (small-product, small-held, quotient-small, small, d-below, lit<))
+      ∙ ap₂ _*ℤ_ (toZ-ofZ (fits (c .before))) (toZ-ofZ factor-fits ∙ factor-is)
+      ∙ sym (scaled-is _ _ (is-valid (c .before)) _ (chosen (c .before)) (sym (ranged (c .before)) ∙ c .if2 .taken))
 
 valid-requires : tie.Need-valid-requires
 valid-requires c κs = search needs
@@ -86,25 +114,21 @@ divisor-requires c κs = search needs
 in-range-requires : tie.Need-in-range-requires
 in-range-requires c κs = search needs
 
-div-result : tie.Need-div-result
-div-result c = rw (c .before .before .before .divisor .ensures) (divisor-pos (place (c .before)))
-
 cast-result : tie.Need-cast-result
-cast-result c = record { sfits = lt-of-le-of-lt (div-le-self _ _) (lit< tt) }
+cast-result c = search needs
+
+div-result : tie.Need-div-result
+div-result c = (d-above c, search (small-fits, small-held, quotient-small, small c, d-below c, lit<))
 
 mul-result : tie.Need-mul-result
-mul-result c = search (times-fits (c .before .before), needs)
+mul-result c = search (small-product, small-held, quotient-small, small c, d-below c, lit<)
 
 returns-2 : tie.Need-returns-2
 returns-2 c =
     sym (scaled-flags _ _ (valid (c .before .before .before .before)) (sym (c .before .before .one-flag .ensures) ∙ c .enum-told .given .1))
 
 returns-3 : tie.Need-returns-3
-returns-3 c =
-    let t = c .before .before in
-    let b = t .before in
-    times-is t ∙ ap (λ (d : ℕ). v t *ℤ pos (unitsPerStop / d)) (b .before .before .divisor .ensures)
-    ∙ sym (scaled-is _ _ (is-valid b) _ (chosen b) (sym (ranged b) ∙ t .if2 .taken))
+returns-3 c = number-is c
 
 returns-4 : tie.Need-returns-4
 returns-4 c = sym (scaled-value _ _ (is-valid (c .before)) _ (chosen (c .before)) (sym (ranged (c .before)) ∙ c .if2 .left))
@@ -121,8 +145,8 @@ scaled-spec =
     enum-known-place
     divisor-requires
     in-range-requires
-    div-result
     cast-result
+    div-result
     mul-result
     returns-2
     returns-3
