@@ -1,5 +1,5 @@
--- What the owner's demand 2 says of the camera: new settings, GET_CUR, LEN, and what is written reads back. Of the sensor's number it is
--- in Sensor.
+-- What the owner's demand 2 says of the camera: new settings, GET_CUR, LEN, and what is written reads back. What it says
+-- of the sensor's number is in Sensor.
 use Prim.Native.Nat.{ℕ, _+_, _*_, _≤_, _<_, min}
 use mathlib.Core.{Path.{_≡_}, List.{List, [], _∷_, _++_}, Option.{none, some, Option·map}, Bool.{true, cond}}
 use lib.{Dec.{eqb}, ListN.{length, getD, take, drop}}
