@@ -12,7 +12,7 @@ use Rattle.controls.specs.declared.Setting.the-variants as S
 use Rattle.exposure.specs.{declared.{EvLimits.{EvLimits}, HeldEv.{HeldEv}}, Exposure.{evValid, divisor, inRange, refusalAt}}
 use Rattle.exposure.specs.declared.HeldEv.the-variants as E
 use Rattle.exposure.specs.Exposure.{evRefusal, evItem, unitsPerStop, scaledAt, scaled, sensorValue}
-use Rattle.exposure.proofs.Laws.Exposure.{accepts, scaled-is}
+use Rattle.exposure.proofs.Laws.Exposure.{accepts, steps-below, scaled-is}
 use Rattle.face.specs.Limits.{addressBefore, endpointValid, faceValid}
 use Rattle.profile.specs.{Profile.{presenceValid, profileValid, profileRefusal}, Items.{profileItem, setRefusal}}
 use Rattle.profile.proofs.Laws.Profile.{valid-ev}
@@ -22,7 +22,7 @@ use Rattle.camera.specs.{declared.record.Camera.{Camera}, Record.{recordWellFor
 use Rattle.camera.proofs.Laws.Record.{formed-profile}
 use Rattle.demands.specs.{Bench.{benchProfile}, Sensor.{StepUnits, Unrounded, SensorExact, SensorRange, SensorEnds}}
 use Rattle.demands.proofs.Laws.Kept.{control-there, held-good}
-use Rattle.demands.proofs.Laws.Sensor.{units-whole, units-exact, steps-below, least-units, most-units}
+use Rattle.demands.proofs.Laws.Sensor.{units-whole, units-exact, least-units, most-units}
 
 -- the units of each step
 pub step-units : StepUnits

@@ -1,10 +1,11 @@
 -- The sensor's number: as many of its units as the value has steps, for steps of which some number makes a stop. Assumes nothing.
-use mathlib.Core.{Path.{_≡_, refl, ap, _∙_, subst}, Bool.{true, false≢true, and-eq-true-iff}}
-use Prim.Native.Nat.{ℕ, zero, suc, _*_, _/_, _<_, _≤_}
+use mathlib.Core.{Path.{_≡_, refl, ap, _∙_, subst}, Bool.{true, false≢true}}
+use Prim.Native.Nat.{ℕ, zero, suc, _*_, _/_, _≤_}
 use native.Mathlib.{Nat.{mul-assoc, mul-comm, mul-le-mul, le-refl}, Omega.{arith}}
 use lib.{IntN.{ℤ, pos, negsuc, negℤ, _*ℤ_}, Signed.{leZ}}
-use borrow.Author.Tests.{ltb-true, leb-true, le-leb}
+use borrow.Author.Tests.{leb-true, le-leb}
 use Rattle.exposure.specs.{declared.EvLimits.{EvLimits}, Exposure.{evValid, divisor, inRange, unitsPerStop}}
+use Rattle.exposure.proofs.Laws.Exposure.{range-between, minimum-from, maximum-to}
 
 -- every step is a whole number of units
 pub units-whole : (place : ℕ) → divisor place * (unitsPerStop / divisor place) ≡ unitsPerStop
@@ -59,36 +60,21 @@ times-ordered k (pos a) (negsuc b) h = absurd (false≢true h)
 times-ordered k (negsuc a) (pos b) h = below-zero (suc a * k) (b * k)
 times-ordered k (negsuc a) (negsuc b) h = negated (suc a * k) (suc b * k) (mul-le-mul (omega (arith, leb-true b a h)) (le-refl k))
 
-module _ (l : EvLimits) (h : evValid l ≡ true) where
-  -- the limits of a valid profile: no other step, and stops from -128 to 127
-  pub steps-below : l .steps < 32
-  steps-below = let q = simp and-eq-true-iff at h in ltb-true (l .steps) 32 (q .1)
+-- in units, a value in range of valid limits lies between -128 and 127 stops
+module _ (l : EvLimits) (h : evValid l ≡ true) (place : ℕ) (v : ℤ) (r : inRange l (divisor place) v ≡ true) where
+  abbrev number : ℤ
+  number = v *ℤ pos (unitsPerStop / divisor place)
 
-  minimum-from : leZ (negsuc 127) (l .minimum) ≡ true
-  minimum-from = let q = simp and-eq-true-iff at h in q .0 .0 .0 .0 .0
+  pub least-units : leZ (negsuc 127 *ℤ pos unitsPerStop) number ≡ true
+  least-units =
+      chain (negsuc 127 *ℤ pos unitsPerStop) (l .minimum *ℤ pos unitsPerStop) number
+      (times-ordered unitsPerStop (negsuc 127) (l .minimum) (minimum-from l h))
+      (subst (λ z. leZ z number ≡ true) (stops-exact place (l .minimum))
+      (times-ordered (unitsPerStop / divisor place) (l .minimum *ℤ pos (divisor place)) v (range-between l (divisor place) v r .0)))
 
-  maximum-to : leZ (l .maximum) (pos 127) ≡ true
-  maximum-to = let q = simp and-eq-true-iff at h in q .0 .0 .1
-
-  -- so a value in range, in units, lies between these in units
-  module _ (place : ℕ) (v : ℤ) (r : inRange l (divisor place) v ≡ true) where
-    abbrev number : ℤ
-    number = v *ℤ pos (unitsPerStop / divisor place)
-
-    ranged : (leZ (l .minimum *ℤ pos (divisor place)) v ≡ true) × (leZ v (l .maximum *ℤ pos (divisor place)) ≡ true)
-    unfolding inRange
-    ranged = and-eq-true-iff (leZ (l .minimum *ℤ pos (divisor place)) v) (leZ v (l .maximum *ℤ pos (divisor place))) .0 r
-
-    pub least-units : leZ (negsuc 127 *ℤ pos unitsPerStop) number ≡ true
-    least-units =
-        chain (negsuc 127 *ℤ pos unitsPerStop) (l .minimum *ℤ pos unitsPerStop) number
-        (times-ordered unitsPerStop (negsuc 127) (l .minimum) minimum-from)
-        (subst (λ z. leZ z number ≡ true) (stops-exact place (l .minimum))
-        (times-ordered (unitsPerStop / divisor place) (l .minimum *ℤ pos (divisor place)) v (ranged .0)))
-
-    pub most-units : leZ number (pos 127 *ℤ pos unitsPerStop) ≡ true
-    most-units =
-        chain number (l .maximum *ℤ pos unitsPerStop) (pos 127 *ℤ pos unitsPerStop)
-        (subst (λ z. leZ number z ≡ true) (stops-exact place (l .maximum))
-        (times-ordered (unitsPerStop / divisor place) v (l .maximum *ℤ pos (divisor place)) (ranged .1)))
-        (times-ordered unitsPerStop (l .maximum) (pos 127) maximum-to)
+  pub most-units : leZ number (pos 127 *ℤ pos unitsPerStop) ≡ true
+  most-units =
+      chain number (l .maximum *ℤ pos unitsPerStop) (pos 127 *ℤ pos unitsPerStop)
+      (subst (λ z. leZ number z ≡ true) (stops-exact place (l .maximum))
+      (times-ordered (unitsPerStop / divisor place) v (l .maximum *ℤ pos (divisor place)) (range-between l (divisor place) v r .1)))
+      (times-ordered unitsPerStop (l .maximum) (pos 127) (maximum-to l h))

@@ -6,6 +6,7 @@ use lib.{Dec.{lit<, lit≤}, ListN.{length, take, drop, length-drop, take-append
 use lib.Signed.{mag, leZ}
 use mir.Syntax.{w32}
 use mir.Val.{SFits}
+use borrow.Author.Tests.{ltb-true}
 use Rattle.wire.specs.{Uvc.{invalidValue, outOfRange}, Numbers.{leAt, bytesOf, signed32, bits32}}
 use Rattle.flags.specs.{declared.{Choice.{Choice}, Choice.the-variants.{At, Refused}}, Flags.{oneFlag}}
 use Rattle.flags.proofs.Laws.Bits.{chosen-below}
@@ -66,25 +67,39 @@ module _ (l : EvLimits) (flags : ℕ) (v : ℤ) where
     pub accepted-below : l .steps < 256 → flags < 2 ^ 56 → flags < 256
     accepted-below s g = chosen-below 8 (l .steps) flags (accepts .0) s g (accepts .1 .0)
 
--- the value of a setting in range of valid limits is small
-module _ (l : EvLimits) (h : evValid l ≡ true) where
-  low-small : mag (l .minimum) < 128
-  low-small =
-      let p = simp and-eq-true-iff at h in
-      between 128 (negsuc 127) (l .minimum) (pos 0) (p .0 .0 .0 .0 .0) (p .0 .0 .0 .0 .1) (lit< tt) (lit< tt)
+-- a value in range lies between the limits, each times d
+pub range-between : (l : EvLimits) (d : ℕ) (v : ℤ) → inRange l d v ≡ true
+    → (leZ (l .minimum *ℤ pos d) v ≡ true) × (leZ v (l .maximum *ℤ pos d) ≡ true)
+unfolding inRange
+range-between l d v r = and-eq-true-iff (leZ (l .minimum *ℤ pos d) v) (leZ v (l .maximum *ℤ pos d)) .0 r
 
-  high-small : mag (l .maximum) < 128
-  high-small =
-      let p = simp and-eq-true-iff at h in between 128 (pos 0) (l .maximum) (pos 127) (p .0 .0 .0 .1) (p .0 .0 .1) (lit< tt) (lit< tt)
+-- valid limits: stops from -128..0 to 0..127, and no step beyond D4; a value in their range is small
+module _ (l : EvLimits) (h : evValid l ≡ true) where
+  pub minimum-from : leZ (negsuc 127) (l .minimum) ≡ true
+  minimum-from = let p = simp and-eq-true-iff at h in p .0 .0 .0 .0 .0
+
+  pub maximum-to : leZ (l .maximum) (pos 127) ≡ true
+  maximum-to = let p = simp and-eq-true-iff at h in p .0 .0 .1
+
+  pub steps-below : l .steps < 32
+  steps-below = let p = simp and-eq-true-iff at h in ltb-true (l .steps) 32 (p .1)
+
+  minimum-small : mag (l .minimum) < 128
+  minimum-small =
+      let p = simp and-eq-true-iff at h in
+      between 128 (negsuc 127) (l .minimum) (pos 0) minimum-from (p .0 .0 .0 .0 .1) (lit< tt) (lit< tt)
+
+  maximum-small : mag (l .maximum) < 128
+  maximum-small =
+      let p = simp and-eq-true-iff at h in between 128 (pos 0) (l .maximum) (pos 127) (p .0 .0 .0 .1) maximum-to (lit< tt) (lit< tt)
 
   pub range-small : (place : ℕ) (v : ℤ) → inRange l (divisor place) v ≡ true → mag v < 1024
-  unfolding inRange
   range-small place v r =
       let d = divisor place in
-      let p = and-eq-true-iff (leZ (l .minimum *ℤ pos d) v) (leZ v (l .maximum *ℤ pos d)) .0 r in
+      let p = range-between l d v r in
       between 1024 (l .minimum *ℤ pos d) v (l .maximum *ℤ pos d) (p .0) (p .1)
-      (lt-of-le-of-lt (mag-mul (l .minimum) (pos d) 128 7 low-small (divisor-small place)) (lit< tt))
-      (lt-of-le-of-lt (mag-mul (l .maximum) (pos d) 128 7 high-small (divisor-small place)) (lit< tt))
+      (lt-of-le-of-lt (mag-mul (l .minimum) (pos d) 128 7 minimum-small (divisor-small place)) (lit< tt))
+      (lt-of-le-of-lt (mag-mul (l .maximum) (pos d) 128 7 maximum-small (divisor-small place)) (lit< tt))
 
 -- the sensor's number
 module _ (l : EvLimits) (s : EvSetting) where

@@ -77,8 +77,8 @@ module _ (c : tie.Then2) where
   abbrev factor : ℤ
   factor = quotZ (pos unitsPerStop) (toZ w32 d)
 
-  factor-fits : SFits w32 factor
-  factor-fits = small-fits _ (quotient-small (pos unitsPerStop) (lit< tt) d d-below)
+  factor-small : mag factor < 1024
+  factor-small = quotient-small (pos unitsPerStop) (lit< tt) d d-below
 
   factor-is : factor ≡ pos (unitsPerStop / divisor (place (c .before)))
   factor-is =
@@ -86,8 +86,8 @@ module _ (c : tie.Then2) where
 
   number-is : toZ w32 (ofZ w32 (toZ w32 (ofZ w32 v) *ℤ toZ w32 (ofZ w32 factor))) ≡ scaled (l (c .before)) (s (c .before))
   number-is =
-      toZ-ofZ (search (small-product, small-held, quotient-small, small, d-below, lit<))
-      ∙ ap₂ _*ℤ_ (toZ-ofZ (fits (c .before))) (toZ-ofZ factor-fits ∙ factor-is)
+      toZ-ofZ (small-product (toZ w32 (ofZ w32 v)) (toZ w32 (ofZ w32 factor)) (small-held v small) (small-held factor factor-small))
+      ∙ ap₂ _*ℤ_ (toZ-ofZ (fits (c .before))) (toZ-ofZ (small-fits factor factor-small) ∙ factor-is)
       ∙ sym (scaled-is _ _ (is-valid (c .before)) _ (chosen (c .before)) (sym (ranged (c .before)) ∙ c .if2 .taken))
 
 valid-requires : tie.Need-valid-requires
@@ -117,6 +117,7 @@ in-range-requires c κs = search needs
 cast-result : tie.Need-cast-result
 cast-result c = search needs
 
+-- every number here is below 1024, whichever is divided and which are multiplied
 div-result : tie.Need-div-result
 div-result c = (d-above c, search (small-fits, small-held, quotient-small, small c, d-below c, lit<))
 
