@@ -3,6 +3,7 @@ pub mod Laws
 pub mod Refusals
 pub mod Answers
 pub mod Sensor
+pub mod Flags
 pub mod Lists
 pub mod Loading
 pub mod Programs

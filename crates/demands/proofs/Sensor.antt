@@ -45,7 +45,7 @@ sensor-exact c w = record { code = rw w; held = unrounded; unset = λ e. rw (w, 
         record {
           place = place;
           offered = a .1 .0;
-          flag = λ h. chosen-is 5 (l .steps) (s .flags) place (steps-below l v) h (a .1 .0);
+          flag = λ h. chosen-is (l .steps) (s .flags) place (a .1 .0) 5 (steps-below l v) h;
           value = x;
           whole = units-whole place;
           exact = ap (λ z. z *ℤ pos (divisor place)) x ∙ units-exact place (s .value);

@@ -4,6 +4,7 @@ pub mod Cameras
 pub mod Refusals
 pub mod Answers
 pub mod Sensor
+pub mod Flags
 pub mod Lists
 pub mod Loading
 pub mod Programs

@@ -37,7 +37,7 @@ returns-3 c =
     let chosen = sym (f .one-flag .ensures) ∙ c .enum-told .given .1 in
     let e : 0 ≡ entryTests (a .args .offers) (a .args .seen) (a .args .flags) =
     rw (ne-eqb _ _ (f .before .before .if1 .left), f .before .if2 .left, chosen) in
-    (e, λ z small. chosen-below 8 (a .args .offers) (a .args .flags) _ (a .fits .offers .fits) small chosen)
+    (e, λ z small. chosen-below (a .args .offers) (a .args .flags) _ chosen 8 (a .fits .offers .fits) small)
 
 returns-4 : tie.Need-returns-4
 unfolding isChoice

@@ -65,7 +65,7 @@ module _ (l : EvLimits) (flags : ℕ) (v : ℤ) where
     accepts = taken (oneFlag (l .steps) flags) h
 
     pub accepted-below : l .steps < 256 → flags < 2 ^ 56 → flags < 256
-    accepted-below s g = chosen-below 8 (l .steps) flags (accepts .0) s g (accepts .1 .0)
+    accepted-below s g = chosen-below (l .steps) flags (accepts .0) (accepts .1 .0) 8 s g
 
 -- a value in range lies between the limits, each times d
 pub range-between : (l : EvLimits) (d : ℕ) (v : ℤ) → inRange l d v ≡ true

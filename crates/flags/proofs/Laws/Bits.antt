@@ -30,7 +30,7 @@ value-bits (suc k) n h =
     let ih : value (bitsOf k (n / 2)) ≡ n / 2 = value-bits k (n / 2) (omega (arith, pow-succ' 2 k)) in
     omega (arith, digit-of n)
 
-length-bits : (k n : ℕ) → length (bitsOf k n) ≡ k
+pub length-bits : (k n : ℕ) → length (bitsOf k n) ≡ k
 unfolding bitsOf
 length-bits zero n = refl
 length-bits (suc k) n = ap suc (length-bits k (n / 2))
@@ -69,15 +69,22 @@ high-clear w n k h p =
     let small : n < 2 ^ k = lt-of-lt-of-le h (pow-mono p) in
     rw (div-eq-of-lt small)
 
+-- a number with more above its k lowest bits, and with a bit more
+module _ (k r q : ℕ) where
+  abbrev twice : 2 ^ suc k * q ≡ 2 * (2 ^ k * q)
+  twice = ap (λ (m : ℕ). m * q) (pow-succ' 2 k) ∙ mul-assoc 2 (2 ^ k) q
+
+  pub more-lowest : (r + 2 ^ suc k * q) % 2 ≡ r % 2
+  more-lowest = rw twice (omega arith)
+
+  pub more-half : (r + 2 ^ suc k * q) / 2 ≡ r / 2 + 2 ^ k * q
+  more-half = rw twice (omega arith)
+
 -- the k lowest bits are those of the remainder
-more-bits : (k r q : ℕ) → bitsOf k (r + 2 ^ k * q) ≡ bitsOf k r
+pub more-bits : (k r q : ℕ) → bitsOf k (r + 2 ^ k * q) ≡ bitsOf k r
 unfolding bitsOf
 more-bits zero r q = refl
-more-bits (suc k) r q =
-    let e : 2 ^ suc k * q ≡ 2 * (2 ^ k * q) = ap (λ (m : ℕ). m * q) (pow-succ' 2 k) ∙ mul-assoc 2 (2 ^ k) q in
-    let m : (r + 2 * (2 ^ k * q)) % 2 ≡ r % 2 = omega arith in
-    let d : (r + 2 * (2 ^ k * q)) / 2 ≡ r / 2 + 2 ^ k * q = omega arith in
-    rw (e, m, d, more-bits k (r / 2) q)
+more-bits (suc k) r q = rw (more-lowest k r q, more-half k r q, more-bits k (r / 2) q)
 
 low-bits : (k n : ℕ) → bitsOf k (n % 2 ^ k) ≡ bitsOf k n
 low-bits k n = sym (more-bits k (n % 2 ^ k) (n / 2 ^ k)) ∙ ap (bitsOf k) (mod-add-div n (2 ^ k))
@@ -129,22 +136,42 @@ set-below w n k h e = go (ltb k w) refl
     go true f = ltb-true k w f
     go false f = let clear = high-clear w n k h (ltb-false k w f) in let z : _≡_ {A = ℕ} 0 1 = cc in absurd (omega arith)
 
--- a word that chooses is the power of the place it chooses, and that is within the width of what is offered
-module _ (w offered word p : ℕ) (h : offered < 2 ^ w) (g : word < 2 ^ 56) (e : oneFlag offered word ≡ At p) where
+-- a word that chooses p: one of its 56 bits is set, the first of them at p, and that is offered
+module _ (offered word p : ℕ) (e : oneFlag offered word ≡ At p) where
   abbrev bits : List Bool
   bits = bitsOf 56 word
 
   tested : (a b : Bool) → eqb (count bits) 1 ≡ a → isSet offered (first bits) ≡ b → cond (a && b) (At (first bits)) Refused ≡ At p
-      → (word ≡ 2 ^ p) × (p < w)
-  tested true true m n f =
-      let q : first bits ≡ p = cc in
-      rw (← q) (sym (value-bits 56 word g) ∙ one-value bits (eqb-true (count bits) 1 m), set-below w offered (first bits) h n)
+      → (count bits ≡ 1) × ((first bits ≡ p) × (isSet offered (first bits) ≡ true))
+  tested true true m n f = (eqb-true (count bits) 1 m, (cc, n))
   tested true false m n f = let z : _≡_ {A = ℕ} 0 1 = cc in absurd (omega arith)
   tested false b m n f = let z : _≡_ {A = ℕ} 0 1 = cc in absurd (omega arith)
 
-  pub chosen-is : (word ≡ 2 ^ p) × (p < w)
+  parts : (count bits ≡ 1) × ((first bits ≡ p) × (isSet offered (first bits) ≡ true))
   unfolding oneFlag
-  chosen-is = tested (eqb (count bits) 1) (isSet offered (first bits)) refl refl e
+  parts = tested (eqb (count bits) 1) (isSet offered (first bits)) refl refl e
 
-  pub chosen-below : word < 2 ^ w
-  chosen-below = rw (chosen-is .0) (pow-lt (chosen-is .1))
+  pub chosen-one : count bits ≡ 1
+  chosen-one = parts .0
+
+  pub chosen-first : first bits ≡ p
+  chosen-first = parts .1 .0
+
+  pub chosen-offered : isSet offered p ≡ true
+  chosen-offered = rw (← chosen-first) (parts .1 .1)
+
+  -- the word is the power of p, and p is within the width of what is offered
+  pub chosen-power : word < 2 ^ 56 → word ≡ 2 ^ p
+  chosen-power g = rw (← chosen-first) (sym (value-bits 56 word g) ∙ one-value bits chosen-one)
+
+  pub chosen-is : (w : ℕ) → offered < 2 ^ w → word < 2 ^ 56 → (word ≡ 2 ^ p) × (p < w)
+  chosen-is w h g = (chosen-power g, set-below w offered p h chosen-offered)
+
+  pub chosen-below : (w : ℕ) → offered < 2 ^ w → word < 2 ^ 56 → word < 2 ^ w
+  chosen-below w h g = rw (chosen-power g) (pow-lt (chosen-is w h g .1))
+
+-- one bit of the 56, that is offered, is chosen
+pub chooses : (offered word : ℕ) → count (bitsOf 56 word) ≡ 1 → isSet offered (first (bitsOf 56 word)) ≡ true
+    → oneFlag offered word ≡ At (first (bitsOf 56 word))
+unfolding oneFlag
+chooses offered word e h = rw (eq-eqb (count (bitsOf 56 word)) 1 e, h)
