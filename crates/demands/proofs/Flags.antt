@@ -77,8 +77,10 @@ module _ (c : Camera) (s payload reply : List ℕ) (j : Judged c selectors.face 
 
   pub face-set-by-flags : FaceSetByFlags c s payload reply
   face-set-by-flags = record {
-    accepted = (λ e i h. entry-by-flags (c .profile .face) payload b i .taken .0 (none-refused code _ (sym face-number ∙ e) i h),
-        λ all. face-number ∙ passes code _ (λ i h. passed i (all i h)));
+    accepted = (
+      λ e i h. entry-by-flags (c .profile .face) payload b i .taken .0 (none-refused code _ (sym face-number ∙ e) i h),
+      λ all. face-number ∙ passes code _ (λ i h. passed i (all i h)),
+    );
     refused = λ i h before new none.
         let e = entry-by-flags (c .profile .face) payload b i .refused new .1 none in
         face-number ∙ stops code _ i (λ j g. passed j (before j g)) h (λ z. absurd (omega arith)) ∙ e;

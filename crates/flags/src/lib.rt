@@ -2,7 +2,8 @@
 // Document 01, "The five controls": exposure compensation and face authentication choose by such a word. `wire::flag_word` gathers it.
 // The flag is found by the processor's count of ones and of trailing zeros.
 ghost use mathlib.Core.Path.{_≡_};
-ghost use Rattle.flags.specs.Flags.{isSet, oneFlag};
+ghost use lib.Dec.{eqb};
+ghost use Rattle.flags.specs.Flags.{isSet, bitsOf, count, oneFlag};
 
 // The place of the one flag that is set, D0 being 0; or no choice that is offered.
 pub enum Choice {
@@ -20,15 +21,24 @@ pub fn is_set(word: u64, place: u8) -> bool
     (word >> place) % 2 == 1
 }
 
+// The first bit above the 56 flags.
+const ABOVE: u64 = 0x100_0000_0000_0000;
+
+// Whether exactly one of the 56 is set.
+fn has_one(word: u64) -> bool
+    ensures { λ r. ⌜ r ≡ eqb (count (bitsOf 56 word)) 1 ⌝ }
+{
+    u64::count_ones(word % ABOVE) == 1
+}
+
 // The flag that a gathered word of 56 bits chooses.
 pub fn one_flag(word: u64, offered: u8) -> Choice
     ensures { λ r. ⌜ r ≡ oneFlag offered word ⌝ }
 {
-    let n = word % 0x100_0000_0000_0000;
-    if u64::count_ones(n) != 1 {
+    if !has_one(word) {
         return Choice::Refused;
     }
-    let place = u64::trailing_zeros(n) as u8;
+    let place = u64::trailing_zeros(word % ABOVE) as u8;
     if is_set(offered as u64, place) {
         return Choice::At(place);
     }

@@ -3,7 +3,7 @@ use mathlib.Core.{Path.{_≡_, refl, ap, ap₂, sym, _∙_}, List.{List, [], _�
 use Prim.Native.Nat.{ℕ, zero, suc, _+_, _*_, _/_, _%_, _^_, _≤_, _<_}
 use native.Mathlib.{Nat.{pow-succ', lt-of-lt-of-le, div-eq-of-lt, mod-lt, mod-add-div, mul-assoc}, Omega.{arith}}
 use lib.{Pow.{pow-mono, pow-lt}, Dec.{eqb, ltb, lit<}, ListN.{length}, Count.{ones, ones-step, ones-ones, trailingZeros, under}}
-use borrow.Author.Tests.{ltb-true, ltb-false, eqb-true, eqb-false, eq-eqb, ne-eqb}
+use borrow.Author.Tests.{ltb-true, ltb-false, eqb-true, eqb-false, eq-eqb}
 use Rattle.flags.specs.{declared.Choice.the-variants.{At, Refused}, Flags.{isSet, bitsOf, count, first, oneFlag}}
 
 -- the number that bits stand for, D0 first
@@ -90,30 +90,31 @@ low-bits : (k n : ℕ) → bitsOf k (n % 2 ^ k) ≡ bitsOf k n
 low-bits k n = sym (more-bits k (n % 2 ^ k) (n / 2 ^ k)) ∙ ap (bitsOf k) (mod-add-div n (2 ^ k))
 
 -- `oneFlag`, by what the machine counts in the 56 lowest bits of a word
-module _ (offered word : ℕ) where
-  abbrev n : ℕ
-  n = word % 2 ^ 56
+module _ (word : ℕ) where
+  abbrev low : ℕ
+  low = word % 2 ^ 56
 
-  small : n < 2 ^ 56
+  small : low < 2 ^ 56
   small = mod-lt word (lit< tt)
 
-  ones-bits : ones n ≡ count (bitsOf 56 word)
-  ones-bits = ap ones (sym (value-bits 56 n small)) ∙ ones-value (bitsOf 56 n) ∙ ap count (low-bits 56 word)
+  pub ones-bits : ones low ≡ count (bitsOf 56 word)
+  ones-bits = ap ones (sym (value-bits 56 low small)) ∙ ones-value (bitsOf 56 low) ∙ ap count (low-bits 56 word)
 
-  zeros-bits : ones n ≡ 1 → trailingZeros 64 n ≡ first (bitsOf 56 word)
-  zeros-bits p =
-      let q : 0 < count (bitsOf 56 n) = omega (arith, ones-bits, ap count (low-bits 56 word)) in
-      ap (trailingZeros 64) (sym (value-bits 56 n small))
-      ∙ zeros-value 64 (bitsOf 56 n) q (omega (arith, length-bits 56 n))
-      ∙ ap first (low-bits 56 word)
+  module _ (p : eqb (count (bitsOf 56 word)) 1 ≡ true) where
+    zeros-bits : trailingZeros 64 low ≡ first (bitsOf 56 word)
+    zeros-bits =
+        let q : 0 < count (bitsOf 56 low) = omega (arith, eqb-true (count (bitsOf 56 word)) 1 p, ap count (low-bits 56 word)) in
+        ap (trailingZeros 64) (sym (value-bits 56 low small))
+        ∙ zeros-value 64 (bitsOf 56 low) q (omega (arith, length-bits 56 low))
+        ∙ ap first (low-bits 56 word)
 
-  pub not-one : (ones n ≡ 1 → ⊥) → oneFlag offered word ≡ Refused
+    pub one : (offered : ℕ) → oneFlag offered word ≡ cond (isSet offered (trailingZeros 64 low)) (At (trailingZeros 64 low)) Refused
+    unfolding oneFlag
+    one offered = rw (p, zeros-bits)
+
+  pub not-one : eqb (count (bitsOf 56 word)) 1 ≡ false → (offered : ℕ) → oneFlag offered word ≡ Refused
   unfolding oneFlag
-  not-one p = rw (ne-eqb (count (bitsOf 56 word)) 1 (λ q. p (ones-bits ∙ q)))
-
-  pub one : ones n ≡ 1 → oneFlag offered word ≡ cond (isSet offered (trailingZeros 64 n)) (At (trailingZeros 64 n)) Refused
-  unfolding oneFlag
-  one p = rw (eq-eqb (count (bitsOf 56 word)) 1 (sym ones-bits ∙ p), zeros-bits p)
+  not-one p offered = rw p
 
 -- bits of which one is set stand for the power of its place
 none-value : (bs : List Bool) → count bs ≡ 0 → value bs ≡ 0

@@ -6,7 +6,7 @@ use lib.{Dec.{eqb, ltb, lit<}, ListN.{length, getD, List·getD-eq-default}}
 use borrow.Author.Tests.{ltb-true, ltb-false}
 use Rattle.wire.specs.Numbers.{leAt}
 use Rattle.wire.proofs.Laws.Numbers.{Bytes, front}
-use Rattle.flags.specs.{Flags.{isSet, bitsOf, count, first}, Theorems.{flagAt}}
+use Rattle.flags.specs.Flags.{isSet, bitsOf, count, first}
 use Rattle.flags.proofs.Laws.Bits.{length-bits, more-bits, more-half}
 
 -- bit k of half a number is the one above
@@ -40,14 +40,15 @@ high-bit (suc w) r q k h =
     rw (suc-add w k, ← half (r + 2 ^ suc w * q) (w + k), more-half w r q) (high-bit w (r / 2) q k (omega (arith, pow-succ' 2 w)))
 
 -- bit k of the m bytes from i on, gathered: bit k % 8 of byte k / 8
-pub gathered : (m : ℕ) (s : List ℕ) (i k : ℕ) → Bytes s → k < 8 * m → isSet (leAt m s i) k ≡ flagAt s i k
+pub gathered : (m : ℕ) (s : List ℕ) (i k : ℕ) → Bytes s → k < 8 * m → isSet (leAt m s i) k ≡ isSet (getD s (i + k / 8) 0) (k % 8)
 gathered zero s i k b h = absurd (omega arith)
 gathered (suc m) s i k b h = rw (front m s i) (go (ltb k 8) refl (λ p. gathered m s (suc i) (k - 8) b (omega arith)))
   where
     rest : ℕ
     rest = leAt m s (suc i)
 
-    go : (c : Bool) → ltb k 8 ≡ c → (8 ≤ k → isSet rest (k - 8) ≡ flagAt s (suc i) (k - 8)) → isSet (getD s i 0 + 256 * rest) k ≡ flagAt s i k
+    go : (c : Bool) → ltb k 8 ≡ c → (8 ≤ k → isSet rest (k - 8) ≡ isSet (getD s (suc i + (k - 8) / 8) 0) ((k - 8) % 8))
+        → isSet (getD s i 0 + 256 * rest) k ≡ isSet (getD s (i + k / 8) 0) (k % 8)
     go true e later =
         let p = ltb-true k 8 e in
         let place : i + k / 8 ≡ i = omega arith in
@@ -56,12 +57,12 @@ gathered (suc m) s i k b h = rw (front m s i) (go (ltb k 8) refl (λ p. gathered
     go false e later =
         let p = ltb-false k 8 e in
         let above : k ≡ 8 + (k - 8) = omega arith in
-        let place : i + k / 8 ≡ suc i + (k - 8) / 8 = omega arith in
-        let bit : k % 8 ≡ (k - 8) % 8 = omega arith in
+        let place : suc i + (k - 8) / 8 ≡ i + k / 8 = omega arith in
+        let bit : (k - 8) % 8 ≡ k % 8 = omega arith in
         ap (isSet (getD s i 0 + 256 * rest)) above
         ∙ high-bit 8 (getD s i 0) rest (k - 8) (b i .fits)
         ∙ later p
-        ∙ sym (ap₂ (λ (x y : ℕ). isSet (getD s x 0) y) place bit)
+        ∙ ap₂ (λ (x y : ℕ). isSet (getD s x 0) y) place bit
 
 -- no bit is counted where none is set
 clear : (bs : List Bool) → count bs ≡ 0 → (j : ℕ) → getD bs j false ≡ true → ⊥
