@@ -23,7 +23,7 @@ pub record Listed (address offers : ℕ) : Type 0 where
   pub least : 2 ≤ offers
   pub most : offers ≤ 5
 
-offers-between : (o : ℕ) → offersValid o ≡ true → (2 ≤ o) × (o ≤ 5)
+pub offers-between : (o : ℕ) → offersValid o ≡ true → (2 ≤ o) × (o ≤ 5)
 offers-between o h = go (eqb (o / 2) 1) (eqb (o / 2) 2) refl refl h
   where
     go : (a b : Bool) → eqb (o / 2) 1 ≡ a → eqb (o / 2) 2 ≡ b → a || b ≡ true → (2 ≤ o) × (o ≤ 5)

@@ -1,0 +1,21 @@
+-- What an endpoint offers, and its default, by the places of flags. proofs/Theorems proves each.
+use Prim.Native.Nat.{ℕ, _<_}
+use mathlib.Core.{Path.{_≡_}, Bool.{true, false, not, cond}, Logic.{_↔_}}
+use Rattle.flags.specs.{declared.Choice.the-variants.{At}, Flags.{isSet, oneFlag}}
+use Rattle.face.specs.{Limits.{offersValid}, Answers.{defaultOf}}
+
+-- one of D1 and D2 and not both, D0 or not, and no flag above
+pub record OneMode (offers : ℕ) : Type 0 where
+  pub one : isSet offers 1 ≡ not (isSet offers 2)
+  pub above : (k : ℕ) → 2 < k → isSet offers k ≡ false
+
+abbrev pub OffersByFlags : Type 0
+OffersByFlags = (offers : ℕ) → offers < 256 → (offersValid offers ≡ true) ↔ OneMode offers
+
+-- The default is exactly one flag, and offered, by the function that judges a SET's: D0 if that is offered, else the one of D1 and D2 that
+-- is.
+abbrev pub DefaultChosen : ℕ → Type 0
+DefaultChosen offers = oneFlag offers (defaultOf offers) ≡ At (cond (isSet offers 0) 0 (cond (isSet offers 1) 1 2))
+
+abbrev pub DefaultsChosen : Type 0
+DefaultsChosen = (offers : ℕ) → offersValid offers ≡ true → DefaultChosen offers
