@@ -1,26 +1,25 @@
 -- What the seven flag bytes of a SET answer, by what they choose (`flags`' theorem). Assumes nothing.
-use Prim.Native.Nat.{ℕ, _<_}
+use Prim.Native.Nat.{ℕ}
 use mathlib.Core.{Path.{_≡_, refl, ap, sym, _∙_}, List.{List}, Bool.{Bool, true, false, cond}}
 use native.Mathlib.Omega.{arith}
-use lib.{Dec.{eqb}, ListN.{length, getD}}
+use lib.ListN.{length, getD}
 use borrow.Author.Tests.{ne-eqb}
 use Rattle.wire.specs.Uvc.{invalidValue, outOfRange}
 use Rattle.wire.specs.Selectors as selectors
 use Rattle.wire.proofs.Laws.Numbers.{Bytes}
 use Rattle.request.specs.Setup.{setupSelector, setupCode}
 use Rattle.request.proofs.Laws.Tests.{at-set}
-use Rattle.flags.specs.Theorems.{OnlyFlag}
 use Rattle.controls.specs.{declared.{Setting.{Setting}, Item.{Item}, Item.the-variants.{Refused, Given}}, Controls.{itemCode, firstRefusal}}
 use Rattle.controls.proofs.Laws.Items.{stops, passes, none-refused}
 use Rattle.exposure.specs.Exposure.{divisor, inRange, evValue, evItem}
 use Rattle.exposure.proofs.Theorems.{ev-by-flags}
-use Rattle.entries.specs.{Entries.{entryRefusal}, Theorems.{NewEndpoint, EntryNoFlag}}
+use Rattle.entries.specs.{Entries.{entryRefusal}, Theorems.{EntryTaken}}
 use Rattle.entries.proofs.Theorems.{entry-by-flags}
-use Rattle.profile.specs.{declared.Profile.{Profile}, Items.{profileItem, setRefusal}}
+use Rattle.profile.specs.Items.{profileItem, setRefusal}
 use Rattle.settings.specs.{Settings.{noSettings}, Items.{setTaken}}
 use Rattle.settings.proofs.Laws.Items.{one-item, face-refusal}
 use Rattle.camera.specs.{declared.record.Camera.{Camera}, Requests.{requestDone, requested, table, stateRefusal}, Calls.{request, outcome}}
-use Rattle.demands.specs.Flags.{Judged, EvSetByFlags, EntryTaken, FaceSetByFlags}
+use Rattle.demands.specs.Flags.{Judged, EvSetByFlags, FaceSetByFlags}
 use Rattle.demands.proofs.Laws.Steps.{outcome-code}
 
 -- past tests 1 to 6 a SET of another control than the throttle answers by its payload
@@ -72,7 +71,7 @@ module _ (c : Camera) (s payload reply : List ℕ) (j : Judged c selectors.face 
   face-number : outcome c (request s payload reply) .code ≡ firstRefusal (getD payload 0 0) 0 code
   face-number = set-number c selectors.face s payload reply j (λ e. absurd (omega arith)) ∙ face-refusal (c .profile) payload
 
-  passed : (i : ℕ) → EntryTaken c payload i → code i ≡ 0
+  passed : (i : ℕ) → EntryTaken (c .profile .face) payload i → code i ≡ 0
   passed i t = entry-by-flags (c .profile .face) payload b i .taken .1 t
 
   pub face-set-by-flags : FaceSetByFlags c s payload reply

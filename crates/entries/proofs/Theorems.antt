@@ -11,7 +11,7 @@ use Rattle.flags.proofs.{Laws.Bits.{chosen-power}, Theorems.{all-choose}}
 use Rattle.controls.specs.declared.{Item.the-variants.{Given}, Setting.the-variants.{Face}}
 use Rattle.face.specs.{declared.limits.FaceLimits.{FaceLimits}, Limits.{offersOf}}
 use Rattle.entries.specs.Entries.{entryAddress, entryFlags, isChoice, faceRefusal, entryRefusal, faceItem}
-use Rattle.entries.specs.Theorems.{NewEndpoint, EntryFlag, EntryNoFlag, EntryByFlags, AllEntriesByFlags}
+use Rattle.entries.specs.Theorems.{NewEndpoint, EntryFlag, EntryNoFlag, EntryTaken, AllEntriesByFlags}
 use Rattle.entries.proofs.Laws.{Entries.{entry-given}, Payload.{accepted}}
 
 module _ (l : FaceLimits) (payload : List ℕ) (b : Bytes payload) (i : ℕ) where
@@ -42,7 +42,7 @@ module _ (l : FaceLimits) (payload : List ℕ) (b : Bytes payload) (i : ℕ) whe
   no-flag : NewEndpoint l payload i → entryRefusal l payload i ≡ invalidValue → EntryNoFlag l payload i
   no-flag a e k o = let z = passes a k o in absurd (omega arith)
 
-  one-flag : entryRefusal l payload i ≡ 0 → NewEndpoint l payload i × ((k : ℕ) × EntryFlag l payload i k)
+  one-flag : entryRefusal l payload i ≡ 0 → EntryTaken l payload i
   unfolding faceRefusal isChoice
   one-flag e =
       let t = accepted l payload i _ _ (entry-given l payload i 0 (sym e) refl) in

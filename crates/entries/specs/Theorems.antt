@@ -20,11 +20,15 @@ EntryFlag l payload i = OnlyFlag payload (2 + 8 * i) (offersOf l (entryAddress p
 abbrev pub EntryNoFlag : FaceLimits → List ℕ → ℕ → Type 0
 EntryNoFlag l payload i = NoFlag payload (2 + 8 * i) (offersOf l (entryAddress payload i))
 
+-- it is past the tests of its address, and has such a flag
+abbrev pub EntryTaken : FaceLimits → List ℕ → ℕ → Type 0
+EntryTaken l payload i = NewEndpoint l payload i × ((k : ℕ) × EntryFlag l payload i k)
+
 -- Past the tests of its address an entry is 0x08 exactly where it has no such flag. It is taken exactly where it is past them and has one,
 -- and gives its endpoint that flag.
 pub record EntryByFlags (l : FaceLimits) (payload : List ℕ) (i : ℕ) : Type 0 where
   pub refused : NewEndpoint l payload i → (entryRefusal l payload i ≡ invalidValue) ↔ EntryNoFlag l payload i
-  pub taken : (entryRefusal l payload i ≡ 0) ↔ NewEndpoint l payload i × ((k : ℕ) × EntryFlag l payload i k)
+  pub taken : (entryRefusal l payload i ≡ 0) ↔ EntryTaken l payload i
   pub given : (k : ℕ) → NewEndpoint l payload i → EntryFlag l payload i k
       → faceItem l payload i ≡ Given (Face (entryAddress payload i) (2 ^ k))
 

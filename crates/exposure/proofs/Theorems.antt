@@ -10,7 +10,7 @@ use Rattle.flags.proofs.{Laws.Bits.{chosen-power}, Theorems.{all-choose}}
 use Rattle.controls.specs.declared.{Item.{Item}, Item.the-variants.{Refused, Given}, Setting.the-variants.{Ev}}
 use Rattle.controls.proofs.Laws.Controls.{item-given, item-refused}
 use Rattle.exposure.specs.{declared.EvLimits.{EvLimits}, Exposure.{divisor, inRange, evFlags, evValue, evItem}}
-use Rattle.exposure.specs.Theorems.{EvByFlags, AllEvByFlags}
+use Rattle.exposure.specs.Theorems.{AllEvByFlags}
 use Rattle.exposure.proofs.Laws.Exposure.{refused-flags, refused-value, accepted}
 
 module _ (l : EvLimits) (payload : List ℕ) (b : Bytes payload) where

@@ -7,8 +7,8 @@ use Rattle.flags.specs.Theorems.{OnlyFlag, NoFlag}
 use Rattle.controls.specs.declared.{Item.the-variants.{Refused, Given}, Setting.the-variants.{Ev}}
 use Rattle.exposure.specs.{declared.EvLimits.{EvLimits}, Exposure.{divisor, inRange, evValue, evItem}}
 
--- A SET is 0x08 exactly where its first seven bytes have no one flag that is offered. Where they have flag k, the value answers: at the step
--- of k it is in range, and the setting is that flag and the value, or 0x04.
+-- A SET is 0x08 exactly where its first seven bytes have no one flag that is offered. Where they have flag k, the value answers: it is in
+-- range at the step of k, and the setting is that flag and the value, or 0x04.
 pub record EvByFlags (l : EvLimits) (payload : List ℕ) : Type 0 where
   pub refused : (evItem l payload ≡ Refused invalidValue) ↔ NoFlag payload 0 (l .steps)
   pub ranged : (k : ℕ) → OnlyFlag payload 0 (l .steps) k

@@ -1,6 +1,6 @@
 -- What an endpoint offers, and its default; specs/Theorems says what the words of it mean. Assumes nothing.
 use Prim.Native.Nat.{ℕ, zero, suc, _+_, _≤_, _<_}
-use mathlib.Core.{Path.{_≡_, refl, sym, _∙_}, Bool.{Bool, true, false, not, cond, _&&_, _||_}}
+use mathlib.Core.{Path.{_≡_, refl}, Bool.{Bool, true, false, not, cond, _||_}}
 use native.Mathlib.Omega.{arith}
 use lib.Dec.{lit<}
 use Rattle.wire.specs.Rows.{allBelow}
@@ -37,10 +37,13 @@ mode-low o m = all-of 5 _ (λ k h. rw (m .above (3 + k) (omega arith)))
 
 pub offers-by-flags : OffersByFlags
 unfolding isSet
-offers-by-flags o h = (λ v. record {
-  one = valid-four (λ o. isSet o 1 ≡ not (isSet o 2)) refl refl refl refl o v;
-  above = λ k g. high-clear 3 o k (valid-four (λ o. o < 8) (lit< tt) (lit< tt) (lit< tt) (lit< tt) o v) (omega arith);
-}, λ m. go (isSet o 2) (offersValid o) (rw (mode-low o m, m .one) at (all-at 256 _ computed o h)))
+offers-by-flags o h = (
+  λ v. record {
+    one = valid-four (λ o. isSet o 1 ≡ not (isSet o 2)) refl refl refl refl o v;
+    above = λ k g. high-clear 3 o k (valid-four (λ o. o < 8) (lit< tt) (lit< tt) (lit< tt) (lit< tt) o v) (omega arith);
+  },
+  λ m. go (isSet o 2) (offersValid o) (rw (mode-low o m, m .one) at (all-at 256 _ computed o h)),
+)
   where
     go : (c d : Bool) → cond (not c) c (not c) || d ≡ true → d ≡ true
     go true d g = g

@@ -1,12 +1,12 @@
 -- What flag bytes choose; specs/Theorems says what the words of it mean. Assumes nothing.
-use Prim.Native.Nat.{ℕ, _*_, _<_}
+use Prim.Native.Nat.{ℕ, _<_}
 use mathlib.Core.{Path.{_≡_, refl, ap, sym, _∙_}, List.{List}, Bool.{Bool, true, false}}
 use native.Mathlib.Omega.{arith}
 use lib.ListN.{getD}
 use Rattle.wire.specs.Numbers.{leAt}
 use Rattle.wire.proofs.Laws.Numbers.{Bytes}
-use Rattle.flags.specs.{declared.{Choice.{Choice}, Choice.the-variants.{At, Refused}}, Flags.{isSet, bitsOf, count, first, oneFlag}}
-use Rattle.flags.specs.Theorems.{flagAt, OnlyFlag, NoFlag, Chooses, AllChoose}
+use Rattle.flags.specs.{declared.{Choice.{Choice}, Choice.the-variants.{At, Refused}}, Flags.{bitsOf, oneFlag}}
+use Rattle.flags.specs.Theorems.{flagAt, OnlyFlag, NoFlag, AllChoose}
 use Rattle.flags.proofs.Laws.Bits.{chosen-one, chosen-first, chosen-offered, chooses}
 use Rattle.flags.proofs.Laws.Places.{bit-at, bit-within, gathered, one-set, one-alone, only-counted}
 
@@ -50,7 +50,6 @@ module _ (s : List ℕ) (b : Bytes s) (i offers : ℕ) where
   no-flag : oneFlag offers word ≡ Refused → NoFlag s i offers
   no-flag e k o = let z : _≡_ {A = ℕ} 0 1 = cc (sym e ∙ choice k o) in absurd (omega arith)
 
--- 01, "exactly one of all 56 flag bits set and that one offered"; #104, "for any seven bytes"
 pub all-choose : AllChoose
 all-choose s b i offers = record {
   chosen = λ k. (only s b i offers k, choice s b i offers k);

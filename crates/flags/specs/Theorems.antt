@@ -1,5 +1,5 @@
--- What flag bytes choose, said of every place and with no count: 01's "exactly one of all 56 flag bits set and that one offered", and #104's
--- "for any seven bytes". proofs/Theorems proves it.
+-- What flag bytes choose, said of every place and with no count: 01's one flag of all 56, and that one offered, for any seven bytes (#104).
+-- proofs/Theorems proves it.
 use Prim.Native.Nat.{ℕ, _+_, _/_, _%_, _<_}
 use mathlib.Core.{Path.{_≡_}, List.{List}, Bool.{Bool, true}, Logic.{_↔_}}
 use lib.ListN.{getD}
@@ -22,7 +22,8 @@ pub record OnlyFlag (s : List ℕ) (i offers k : ℕ) : Type 0 where
 abbrev pub NoFlag : List ℕ → ℕ → ℕ → Type 0
 NoFlag s i offers = (k : ℕ) → OnlyFlag s i offers k → ⊥
 
--- what the word gathered from these bytes chooses: k exactly where k is that flag, and nothing exactly where there is none
+-- What the word gathered from these bytes chooses: k exactly where k is that flag, and nothing exactly where there is none. Seven bytes by
+-- themselves are s, with i = 0.
 pub record Chooses (s : List ℕ) (i offers : ℕ) : Type 0 where
   pub chosen : (k : ℕ) → (oneFlag offers (leAt 7 s i) ≡ At k) ↔ OnlyFlag s i offers k
   pub refused : (oneFlag offers (leAt 7 s i) ≡ Refused) ↔ NoFlag s i offers

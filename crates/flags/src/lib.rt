@@ -1,6 +1,6 @@
 // Flag words: 56 bits, gathered from seven bytes, of which exactly one is to be set, and that one offered.
 // Document 01, "The five controls": exposure compensation and face authentication choose by such a word. `wire::flag_word` gathers it.
-// The flag is found by the processor's count of ones and of trailing zeros.
+// The flag is found by the processor's count of ones and of trailing zeros (#104); specs/Theorems says what that chooses with no count.
 ghost use mathlib.Core.Path.{_≡_};
 ghost use lib.Dec.{eqb};
 ghost use Rattle.flags.specs.Flags.{isSet, bitsOf, count, oneFlag};

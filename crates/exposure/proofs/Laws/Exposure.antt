@@ -1,6 +1,6 @@
 -- Laws of exposure compensation. Assumes nothing.
 use mathlib.Core.{Path.{_≡_, refl, ap, ap₂, _∙_}, Bool.{Bool, true, false, cond, and-eq-true-iff}, List.{List, _++_}}
-use Prim.Native.Nat.{ℕ, zero, suc, _<_, _≤_, _^_, _/_}
+use Prim.Native.Nat.{ℕ, zero, suc, _<_, _^_, _/_}
 use native.Mathlib.{Nat.{lt-of-le-of-lt}, Omega.{arith}}
 use lib.{Dec.{lit<, lit≤}, ListN.{length, take, drop, length-drop, take-append-drop}, Seq.{take-all}, IntN.{ℤ, pos, negsuc, _*ℤ_}}
 use lib.Signed.{mag, leZ}

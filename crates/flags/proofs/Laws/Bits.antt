@@ -69,7 +69,7 @@ high-clear w n k h p =
     let small : n < 2 ^ k = lt-of-lt-of-le h (pow-mono p) in
     rw (div-eq-of-lt small)
 
--- a number with more above its k lowest bits, and with a bit more
+-- a number with more above its k + 1 lowest bits: its lowest, and its half
 module _ (k r q : ℕ) where
   abbrev twice : 2 ^ suc k * q ≡ 2 * (2 ^ k * q)
   twice = ap (λ (m : ℕ). m * q) (pow-succ' 2 k) ∙ mul-assoc 2 (2 ^ k) q
