@@ -25,8 +25,12 @@ first [] = 0
 first (true ∷ bs) = 0
 first (false ∷ bs) = suc (first bs)
 
--- exactly one of the 56 bits is set, and it is one of those offered
+-- exactly one of the 56 bits is set
+abbrev pub hasOne : ℕ → Bool
+hasOne flags = eqb (count (bitsOf 56 flags)) 1
+
+-- the one that is set, if it is one of those offered
 unfoldable pub oneFlag : ℕ → ℕ → Choice
 oneFlag offered flags =
-    let bits = bitsOf 56 flags in
-    cond (eqb (count bits) 1 && isSet offered (first bits)) (At (first bits)) Refused
+    let place = first (bitsOf 56 flags) in
+    cond (hasOne flags && isSet offered place) (At place) Refused

@@ -2,8 +2,7 @@
 // Document 01, "The five controls": exposure compensation and face authentication choose by such a word. `wire::flag_word` gathers it.
 // The flag is found by the processor's count of ones and of trailing zeros (#104); specs/Theorems says what that chooses with no count.
 ghost use mathlib.Core.Path.{_≡_};
-ghost use lib.Dec.{eqb};
-ghost use Rattle.flags.specs.Flags.{isSet, bitsOf, count, oneFlag};
+ghost use Rattle.flags.specs.Flags.{isSet, hasOne, oneFlag};
 
 // The place of the one flag that is set, D0 being 0; or no choice that is offered.
 pub enum Choice {
@@ -26,7 +25,7 @@ const ABOVE: u64 = 0x100_0000_0000_0000;
 
 // Whether exactly one of the 56 is set.
 fn has_one(word: u64) -> bool
-    ensures { λ r. ⌜ r ≡ eqb (count (bitsOf 56 word)) 1 ⌝ }
+    ensures { λ r. ⌜ r ≡ hasOne word ⌝ }
 {
     u64::count_ones(word % ABOVE) == 1
 }

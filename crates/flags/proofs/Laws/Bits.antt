@@ -4,7 +4,7 @@ use Prim.Native.Nat.{ℕ, zero, suc, _+_, _*_, _/_, _%_, _^_, _≤_, _<_}
 use native.Mathlib.{Nat.{pow-succ', lt-of-lt-of-le, div-eq-of-lt, mod-lt, mod-add-div, mul-assoc}, Omega.{arith}}
 use lib.{Pow.{pow-mono, pow-lt}, Dec.{eqb, ltb, lit<}, ListN.{length}, Count.{ones, ones-step, ones-ones, trailingZeros, under}}
 use borrow.Author.Tests.{ltb-true, ltb-false, eqb-true, eqb-false, eq-eqb}
-use Rattle.flags.specs.{declared.Choice.the-variants.{At, Refused}, Flags.{isSet, bitsOf, count, first, oneFlag}}
+use Rattle.flags.specs.{declared.Choice.the-variants.{At, Refused}, Flags.{isSet, bitsOf, count, first, hasOne, oneFlag}}
 
 -- the number that bits stand for, D0 first
 digit : Bool → ℕ
@@ -100,7 +100,7 @@ module _ (word : ℕ) where
   pub ones-bits : ones low ≡ count (bitsOf 56 word)
   ones-bits = ap ones (sym (value-bits 56 low small)) ∙ ones-value (bitsOf 56 low) ∙ ap count (low-bits 56 word)
 
-  module _ (p : eqb (count (bitsOf 56 word)) 1 ≡ true) where
+  module _ (p : hasOne word ≡ true) where
     zeros-bits : trailingZeros 64 low ≡ first (bitsOf 56 word)
     zeros-bits =
         let q : 0 < count (bitsOf 56 low) = omega (arith, eqb-true (count (bitsOf 56 word)) 1 p, ap count (low-bits 56 word)) in
@@ -112,7 +112,7 @@ module _ (word : ℕ) where
     unfolding oneFlag
     one offered = rw (p, zeros-bits)
 
-  pub not-one : eqb (count (bitsOf 56 word)) 1 ≡ false → (offered : ℕ) → oneFlag offered word ≡ Refused
+  pub not-one : hasOne word ≡ false → (offered : ℕ) → oneFlag offered word ≡ Refused
   unfolding oneFlag
   not-one p offered = rw p
 
@@ -142,7 +142,7 @@ module _ (offered word p : ℕ) (e : oneFlag offered word ≡ At p) where
   abbrev bits : List Bool
   bits = bitsOf 56 word
 
-  tested : (a b : Bool) → eqb (count bits) 1 ≡ a → isSet offered (first bits) ≡ b → cond (a && b) (At (first bits)) Refused ≡ At p
+  tested : (a b : Bool) → hasOne word ≡ a → isSet offered (first bits) ≡ b → cond (a && b) (At (first bits)) Refused ≡ At p
       → (count bits ≡ 1) × ((first bits ≡ p) × (isSet offered (first bits) ≡ true))
   tested true true m n f = (eqb-true (count bits) 1 m, (cc, n))
   tested true false m n f = let z : _≡_ {A = ℕ} 0 1 = cc in absurd (omega arith)
@@ -150,7 +150,7 @@ module _ (offered word p : ℕ) (e : oneFlag offered word ≡ At p) where
 
   parts : (count bits ≡ 1) × ((first bits ≡ p) × (isSet offered (first bits) ≡ true))
   unfolding oneFlag
-  parts = tested (eqb (count bits) 1) (isSet offered (first bits)) refl refl e
+  parts = tested (hasOne word) (isSet offered (first bits)) refl refl e
 
   pub chosen-one : count bits ≡ 1
   chosen-one = parts .0
