@@ -6,20 +6,19 @@ use lib.ListN.{length, getD}
 use borrow.Author.Tests.{ne-eqb}
 use Rattle.wire.specs.Uvc.{invalidValue, outOfRange}
 use Rattle.wire.specs.Selectors as selectors
-use Rattle.wire.proofs.Laws.Numbers.{Bytes}
 use Rattle.request.specs.Setup.{setupSelector, setupCode}
 use Rattle.request.proofs.Laws.Tests.{at-set}
 use Rattle.controls.specs.{declared.{Setting.{Setting}, Item.{Item}, Item.the-variants.{Refused, Given}}, Controls.{itemCode, firstRefusal}}
 use Rattle.controls.proofs.Laws.Items.{stops, passes, none-refused}
 use Rattle.exposure.specs.Exposure.{divisor, inRange, evValue, evItem}
 use Rattle.exposure.proofs.Theorems.{ev-by-flags}
-use Rattle.entries.specs.{Entries.{entryRefusal}, Theorems.{EntryTaken}}
+use Rattle.entries.specs.Entries.{entryRefusal}
 use Rattle.entries.proofs.Theorems.{entry-by-flags}
 use Rattle.profile.specs.Items.{profileItem, setRefusal}
 use Rattle.settings.specs.{Settings.{noSettings}, Items.{setTaken}}
 use Rattle.settings.proofs.Laws.Items.{one-item, face-refusal}
 use Rattle.camera.specs.{declared.record.Camera.{Camera}, Requests.{requestDone, requested, table, stateRefusal}, Calls.{request, outcome}}
-use Rattle.demands.specs.Flags.{Judged, EvSetByFlags, FaceSetByFlags}
+use Rattle.demands.specs.Flags.{Judged, EvSetsByFlags, FaceSetsByFlags}
 use Rattle.demands.proofs.Laws.Steps.{outcome-code}
 
 -- past tests 1 to 6 a SET of another control than the throttle answers by its payload
@@ -40,47 +39,37 @@ unfolding itemCode
 refused-by (Refused code) e = ap Refused e
 refused-by (Given s) e = absurd (omega arith)
 
-module _ (c : Camera) (s payload reply : List ℕ) (j : Judged c selectors.ev s payload) (b : Bytes payload) where
-  ev-number : outcome c (request s payload reply) .code ≡ itemCode (evItem (c .profile .ev) payload)
-  unfolding profileItem setTaken
-  ev-number =
-      set-number c selectors.ev s payload reply j (λ e. absurd (omega arith))
-      ∙ sym (ap (λ t. t .code) (one-item (c .profile) noSettings selectors.ev payload (λ e. absurd (omega arith))))
+-- the number of an item by whether its value is in range
+value-number : (s : Setting) (r : Bool) → itemCode (cond r (Given s) (Refused outOfRange)) ≡ cond r 0 outOfRange
+unfolding itemCode
+value-number s true = refl
+value-number s false = refl
 
-  abbrev within : ℕ → Bool
-  within k = inRange (c .profile .ev) (divisor k) (evValue payload)
+pub ev-set-by-flags : EvSetsByFlags
+unfolding itemCode profileItem setTaken
+ev-set-by-flags c s payload reply j b =
+    let item = ev-by-flags (c .profile .ev) payload b in
+    let number : outcome c (request s payload reply) .code ≡ itemCode (evItem (c .profile .ev) payload) =
+    set-number c selectors.ev s payload reply j (λ e. absurd (omega arith))
+    ∙ sym (ap (λ t. t .code) (one-item (c .profile) noSettings selectors.ev payload (λ e. absurd (omega arith)))) in
+    record {
+      refused = (λ e. item .refused .0 (refused-by _ (sym number ∙ e)), λ none. number ∙ ap itemCode (item .refused .1 none));
+      ranged = λ k o.
+          number ∙ ap itemCode (item .ranged k o) ∙ value-number _ (inRange (c .profile .ev) (divisor k) (evValue payload));
+    }
 
-  value-number : (s : Setting) (r : Bool) → itemCode (cond r (Given s) (Refused outOfRange)) ≡ cond r 0 outOfRange
-  unfolding itemCode
-  value-number s true = refl
-  value-number s false = refl
-
-  pub ev-set-by-flags : EvSetByFlags c s payload reply
-  unfolding itemCode
-  ev-set-by-flags =
-      let item = ev-by-flags (c .profile .ev) payload b in
-      record {
-        refused = (λ e. item .refused .0 (refused-by _ (sym ev-number ∙ e)), λ none. ev-number ∙ ap itemCode (item .refused .1 none));
-        ranged = λ k o. ev-number ∙ ap itemCode (item .ranged k o) ∙ value-number _ (within k);
-      }
-
-module _ (c : Camera) (s payload reply : List ℕ) (j : Judged c selectors.face s payload) (b : Bytes payload) where
-  abbrev code : ℕ → ℕ
-  code = entryRefusal (c .profile .face) payload
-
-  face-number : outcome c (request s payload reply) .code ≡ firstRefusal (getD payload 0 0) 0 code
-  face-number = set-number c selectors.face s payload reply j (λ e. absurd (omega arith)) ∙ face-refusal (c .profile) payload
-
-  passed : (i : ℕ) → EntryTaken (c .profile .face) payload i → code i ≡ 0
-  passed i t = entry-by-flags (c .profile .face) payload b i .taken .1 t
-
-  pub face-set-by-flags : FaceSetByFlags c s payload reply
-  face-set-by-flags = record {
-    accepted = (
-      λ e i h. entry-by-flags (c .profile .face) payload b i .taken .0 (none-refused code _ (sym face-number ∙ e) i h),
-      λ all. face-number ∙ passes code _ (λ i h. passed i (all i h)),
-    );
-    refused = λ i h before new none.
-        let e = entry-by-flags (c .profile .face) payload b i .refused new .1 none in
-        face-number ∙ stops code _ i (λ j g. passed j (before j g)) h (λ z. absurd (omega arith)) ∙ e;
-  }
+pub face-set-by-flags : FaceSetsByFlags
+face-set-by-flags c s payload reply j b =
+    let code : ℕ → ℕ = entryRefusal (c .profile .face) payload in
+    let number : outcome c (request s payload reply) .code ≡ firstRefusal (getD payload 0 0) 0 code =
+    set-number c selectors.face s payload reply j (λ e. absurd (omega arith)) ∙ face-refusal (c .profile) payload in
+    let entry = entry-by-flags (c .profile .face) payload b in
+    record {
+      accepted = (
+        λ e i h. entry i .taken .0 (none-refused code _ (sym number ∙ e) i h),
+        λ all. number ∙ passes code _ (λ i h. entry i .taken .1 (all i h)),
+      );
+      refused = λ i h before new none.
+          let e = entry i .refused new .1 none in
+          number ∙ stops code _ i (λ j g. entry j .taken .1 (before j g)) h (λ z. absurd (omega arith)) ∙ e;
+    }
