@@ -2,13 +2,13 @@
 use Prim.Native.Nat.{ℕ}
 use mathlib.Core.{List.{List, [], _∷_, _++_}, Option.{Option, Option·map, Option·elim}, Bool.{Bool, cond, not}}
 use lib.{Dec.{leb, eqb}, ListN.{drop}}
-use Rattle.wire.specs.{Rows.{Row, _⇒_, answers, firstOf}, Endpoints.{places}, Uvc.{malformedRecord, malformedSnapshot}}
+use Rattle.wire.specs.{Rows.{Row, _⇒_, answers, firstOf}, Endpoints.{places, endpointLimit}, Uvc.{malformedRecord, malformedSnapshot}}
 use Rattle.wire.specs.Selectors as selector
 use Rattle.snapshot.specs.{Keys.{evKey, hdrKey, keys, metadataKey}, Form.{wellFormed}, Records.{decode}}
 use Rattle.controls.specs.{declared.{Item.{Item}, Item.the-variants.{Refused}, Setting.{Setting}}, Controls.{itemCode, firstRefusal}}
 use Rattle.profile.specs.{declared.Profile.{Profile}, Items.{profileItem}}
 use Rattle.settings.specs.Items.{givenOf, allGiven}
-use Rattle.camera.specs.{declared.{record.Camera.{Camera}, calls.Outcome.{Outcome}}, Record.{puts, recordWellFormed}}
+use Rattle.camera.specs.{declared.{record.Camera.{Camera}, calls.Outcome.{Outcome}}, Record.{puts, recordWellFormedUnder}}
 use Rattle.camera.specs.Requests.{controlRefusal, outcomeBy}
 
 -- the selector of a key, which is the kind of its records
@@ -41,14 +41,22 @@ loadTests p streaming s =
     ∷ answers (loadRefusal p streaming s)
     ∷ []
 
-unfoldable pub loadCode : Camera → List ℕ → ℕ
-loadCode c s = firstOf (((not (recordWellFormed c) ⇒ malformedRecord) ∷ []) ++ loadTests (c .profile) (c .streaming) s)
+unfoldable pub loadCodeUnder : ℕ → Camera → List ℕ → ℕ
+loadCodeUnder limit c s =
+    firstOf (((not (recordWellFormedUnder limit c) ⇒ malformedRecord) ∷ []) ++ loadTests (c .profile) (c .streaming) s)
+
+abbrev pub loadCode : Camera → List ℕ → ℕ
+loadCode = loadCodeUnder endpointLimit
 
 -- the settings that an accepted load gives: its records', in order
 unfoldable pub loadGives : Profile → Bool → List ℕ → List (ℕ × Setting)
 loadGives p streaming s = allGiven keys 0 (λ k. Option·elim (loadItem p streaming s k) [] givenOf)
 
-unfoldable pub loaded : Camera → List ℕ → Outcome
-loaded c s =
-    outcomeBy (loadCode c s) c
+-- a load under a limit of endpoints, which only the record test looks at
+unfoldable pub loadedUnder : ℕ → Camera → List ℕ → Outcome
+loadedUnder limit c s =
+    outcomeBy (loadCodeUnder limit c s) c
     (record { code = 0; count = 0; camera = puts c (loadGives (c .profile) (c .streaming) s) })
+
+abbrev pub loaded : Camera → List ℕ → Outcome
+loaded = loadedUnder endpointLimit

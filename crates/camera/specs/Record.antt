@@ -1,9 +1,10 @@
 -- Document 01, "Profile and camera record": the record.
 use Prim.Native.Nat.{ℕ}
 use mathlib.Core.{List.{List}, Option.{Option}, Bool.{Bool}}
+use Rattle.wire.specs.Endpoints.{endpointLimit}
 use Rattle.controls.specs.declared.Setting.{Setting}
 use Rattle.profile.specs.declared.Profile.{Profile}
-use Rattle.settings.specs.{declared.settings.Settings.{Settings}, Settings.{noSettings}, Held.{settingsHeld}, Kept.{settingsWellFormed}}
+use Rattle.settings.specs.{declared.settings.Settings.{Settings}, Settings.{noSettings}, Held.{settingsHeld}, Kept.{settingsWellFormedUnder}}
 use Rattle.settings.specs.Items.{putAll}
 use Rattle.camera.specs.declared.record.Camera.{Camera}
 
@@ -25,6 +26,9 @@ held c = settingsHeld (c .settings)
 abbrev pub puts : Camera → List (ℕ × Setting) → Camera
 puts c l = withSettings c (putAll (c .settings) l)
 
--- the profile is valid, and every setting keeps its rules; all other records are 0x21
+-- the profile is valid, under a limit of endpoints, and every setting keeps its rules; all other records are 0x21
+abbrev pub recordWellFormedUnder : ℕ → Camera → Bool
+recordWellFormedUnder limit c = settingsWellFormedUnder limit (c .profile) (c .settings)
+
 abbrev pub recordWellFormed : Camera → Bool
-recordWellFormed c = settingsWellFormed (c .profile) (c .settings)
+recordWellFormed = recordWellFormedUnder endpointLimit

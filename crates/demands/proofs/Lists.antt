@@ -15,7 +15,7 @@ use Rattle.controls.specs.{declared.{Setting.{Setting}, Item.the-variants.{Give
 use Rattle.settings.specs.Items.{givenOf}
 use Rattle.profile.specs.{declared.Profile.{Profile}, Profile.{profileValid}}
 use Rattle.camera.specs.{declared.{record.Camera.{Camera}, calls.Outcome.{Outcome}}, Record.{fresh, held, recordWellFormed, puts}}
-use Rattle.camera.specs.{Loading.{recordItem, loadTests, loadCode, loadGives, loaded}, Writing.{snapshot, writeCode, written, writtenOut}}
+use Rattle.camera.specs.{Loading.{recordItem, loadTests, loadCode, loadCodeUnder, loadGives, loaded, loadedUnder}, Writing.{snapshot, writeCode, written, writtenOut}}
 use Rattle.camera.specs.Calls.{Call, load}
 use Rattle.encoding.specs.Encoding.{recordOf}
 use Rattle.demands.specs.{Runs.{gives, leaves, flagAfter, given, snapshotAfter, run}, Cameras.{Ok, Typed, handedSnapshot, Written}}
@@ -102,7 +102,7 @@ record Load (c : Camera) (s : List ℕ) : Type 0 where
   tests : firstOf (loadTests (c .profile) (c .streaming) s) ≡ 0
 
 load-says : (c : Camera) (s : List ℕ) → loaded c s .code ≡ 0 → Load c s
-unfolding loaded loadCode
+unfolding loadedUnder loadCodeUnder
 load-says c s e =
     let done : Outcome = record { code = 0; count = 0; camera = puts c (loadGives (c .profile) (c .streaming) s) } in
     let z = sym (outcome-code (loadCode c s) c done refl) ∙ e in
@@ -110,7 +110,7 @@ load-says c s e =
     record { formed = not-false (recordWellFormed c) (q .0 .0); tests = q .1 }
 
 says-load : (c : Camera) (s : List ℕ) → Load c s → loaded c s .code ≡ 0
-unfolding loaded loadCode
+unfolding loadedUnder loadCodeUnder
 says-load c s l = rw (l .formed, eq-eqb (firstOf (loadTests (c .profile) (c .streaming) s)) 0 (l .tests))
 
 -- a record as the steps take it

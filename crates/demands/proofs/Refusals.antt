@@ -9,7 +9,7 @@ use Rattle.request.proofs.Laws.Tests.{at-unformed}
 use Rattle.request.proofs.Theorems as requests
 use Rattle.exposure.specs.Exposure.{sensorValue}
 use Rattle.camera.specs.{declared.{record.Camera.{Camera}, calls.Outcome.{Outcome}}, Record.{recordWellFormed}}
-use Rattle.camera.specs.{Requests.{table, requestedCode, refused, outcomeBy, requestDone, requested}, Loading.{loadCode, loaded}}
+use Rattle.camera.specs.{Requests.{table, requestedCode, refused, outcomeBy, requestDone, requested}, Loading.{loadCode, loadCodeUnder, loadedUnder}}
 use Rattle.camera.specs.Writing.{writeCode, written, writtenOut}
 use Rattle.camera.specs.Calls.{recordCode, streamed, sensed, Call, request, stream, load, write, sense, outcome}
 use Rattle.demands.specs.Refusals.{Unchanged}
@@ -34,7 +34,7 @@ done-code c s payload = go (isSetRequest s) _ _ refl refl
 
 -- every refusal, of every call, for all bytes and any record
 pub refusals : (c : Camera) (call : Call) → (outcome c call .code ≡ 0 → ⊥) → Unchanged c call
-unfolding requested loaded written writtenOut streamed sensed
+unfolding requested loadedUnder written writtenOut streamed sensed
 refusals c (request s payload reply) n =
     let r = by-number (requestedCode c s payload (length reply)) c (requestDone c s payload) (done-code c s payload) n in
     record {
@@ -70,7 +70,7 @@ refused-sensor c n = go (recordWellFormed c) n
 
 -- A record that is not well formed is refused 0x21, by every call that takes it.
 pub malformed-refused : (c : Camera) → recordWellFormed c ≡ false → (call : Call) → outcome c call .code ≡ malformedRecord
-unfolding requested streamed loaded loadCode written writeCode sensed
+unfolding requested streamed loadedUnder loadCodeUnder written writeCode sensed
 malformed-refused c w (request s payload reply) = rw (at-unformed (table c) s payload (length reply) w)
 malformed-refused c w (stream on) = rw w
 malformed-refused c w (load s) = rw w

@@ -1,13 +1,13 @@
 -- Document 01, "Face": the endpoints that a profile lists.
 use Prim.Native.Nat.{ℕ, zero, suc, _-_, _/_, min}
 use mathlib.Core.Bool.{Bool, cond, _&&_, _||_}
-use lib.{Dec.{leb, ltb, eqb}, ListN.{getD}}
-use Rattle.wire.specs.{Rows.{allBelow}, Endpoints.{firstAddress, lastAddress, endpointLimit}}
+use lib.{Dec.{leb, ltb, eqb}, ListN.{getD, length}}
+use Rattle.wire.specs.{Rows.{allBelow}, Endpoints.{firstAddress, lastAddress, endpointLimit, countValidUnder}}
 use Rattle.face.specs.declared.limits.FaceLimits.{FaceLimits}
 
--- how many it lists; a valid profile's count is no more than its places
+-- how many it lists: as many as it counts, of the places that it has
 abbrev pub endpointsOf : FaceLimits → ℕ
-endpointsOf l = min (l .count) endpointLimit
+endpointsOf l = min (l .count) (length (l .addresses))
 
 abbrev pub addressAt : FaceLimits → ℕ → ℕ
 addressAt l i = getD (l .addresses) i 0
@@ -31,8 +31,12 @@ endpointValid l i =
     (ltb (addressBefore l i) (addressAt l i) && leb (addressAt l i) lastAddress && offersValid (offersAt l i))
     (eqb (addressAt l i) 0 && eqb (offersAt l i) 0)
 
-unfoldable pub faceValid : FaceLimits → Bool
-faceValid l = leb 1 (l .count) && leb (l .count) endpointLimit && allBelow endpointLimit (endpointValid l)
+-- valid under a limit of endpoints: the one rule that has the limit in it
+unfoldable pub faceValidUnder : ℕ → FaceLimits → Bool
+faceValidUnder limit l = countValidUnder limit (l .count) && allBelow limit (endpointValid l)
+
+abbrev pub faceValid : FaceLimits → Bool
+faceValid = faceValidUnder endpointLimit
 
 -- the flags that the endpoint at an address offers, among the n places from i on; 0 where it isn't listed
 unfoldable pub offersFrom : FaceLimits → ℕ → ℕ → ℕ → ℕ

@@ -57,7 +57,7 @@ pub fn valid(l: FaceLimits) -> bool
         ok = ok & endpoint_valid(l, i);
         i += 1;
     }
-    (1 <= l.count) & ((l.count as usize) <= endpoints::LIMIT) & ok
+    endpoints::count_valid(l.count) & ok
 }
 
 // The first place that lists an address, or LIMIT.

@@ -1,5 +1,6 @@
 // Merging two snapshots: one record for each key that is in either, in ascending order, the second's where both have it.
 // Document 01, "Settings sheet", and demand 3's sentences on merging. Merging looks at form only, never at the values that records carry.
+use snapshot::LONGEST;
 use snapshot::key_at;
 use snapshot::record_length;
 use snapshot::well_formed;
@@ -10,9 +11,6 @@ ghost use lib.{ListN.{length}, Dec.{leb}};
 ghost use Rattle.wire.specs.Writes.{overlay};
 ghost use Rattle.snapshot.specs.Form.{wellFormed};
 ghost use Rattle.merging.specs.Merging.{merged, mergeCode, mergeLen, mergeOut};
-
-// As many bytes as any snapshot needs.
-const LONGEST_SNAPSHOT: usize = 250;
 
 // The verdict, and how many bytes the merged snapshot has; 0 where it is refused.
 pub struct Merged {
@@ -68,7 +66,7 @@ fn has_room(first: &[u8], second: &[u8], room: usize) -> bool
     requires { ⌜ (wellFormed (now first) ≡ true) × (wellFormed (now second) ≡ true) ⌝ }
     ensures { λ r. ⌜ r ≡ leb (length (merged (now (first .entry)) (now (second .entry)))) room ⌝ }
 {
-    if LONGEST_SNAPSHOT <= room {
+    if LONGEST <= room {
         return true;
     }
     // Into no room nothing is written: this only measures.

@@ -2,10 +2,11 @@
 use Prim.Native.Nat.{ℕ, _+_, _-_, _*_, _^_}
 use mathlib.Core.{List.{List, [], _∷_}, Bool.{Bool, cond, not, _||_}}
 use lib.Dec.{eqb}
-use Rattle.wire.specs.{Rows.{_⇒_, firstOf, allOf}, Selectors.{ev, face, metadata, hdr, throttle}, Uvc.{invalidControl, invalidRequest}}
+use Rattle.wire.specs.{Rows.{_⇒_, firstOf, allOf}, Selectors.{ev, face, metadata, hdr, throttle}, Endpoints.{endpointLimit}}
+use Rattle.wire.specs.Uvc.{invalidControl, invalidRequest}
 use Rattle.request.specs.{declared.{tests.Unit.{Unit}, tests.Control.{Control}}, Table.{hasControl}}
 use Rattle.exposure.specs.Exposure.{evValid}
-use Rattle.face.specs.Limits.{faceValid, endpointsOf}
+use Rattle.face.specs.Limits.{faceValidUnder, endpointsOf}
 use Rattle.entries.specs.Entries.{faceSetLength}
 use Rattle.metadata.specs.Metadata.{metadataValid}
 use Rattle.throttle.specs.Throttle.{throttleValid}
@@ -23,16 +24,19 @@ bitAt bits selector = cond (hasControl bits selector) (2 ^ (selector - 1)) 0
 unfoldable pub presenceValid : ℕ → Bool
 presenceValid bits = eqb bits (bitAt bits ev + bitAt bits face + bitAt bits metadata + bitAt bits hdr + bitAt bits throttle)
 
--- the limits of the controls that are there keep their rules; HDR's may be any
-unfoldable pub profileValid : Profile → Bool
-profileValid p =
+-- the limits of the controls that are there keep their rules, under a limit of endpoints; HDR's may be any
+unfoldable pub profileValidUnder : ℕ → Profile → Bool
+profileValidUnder limit p =
     allOf
     (presenceValid (p .controls)
     ∷ (not (has p ev) || evValid (p .ev))
-    ∷ (not (has p face) || faceValid (p .face))
+    ∷ (not (has p face) || faceValidUnder limit (p .face))
     ∷ (not (has p metadata) || metadataValid (p .metadata))
     ∷ (not (has p throttle) || throttleValid (p .throttle))
     ∷ [])
+
+abbrev pub profileValid : Profile → Bool
+profileValid = profileValidUnder endpointLimit
 
 -- every control takes a SET but read-only metadata
 abbrev pub isSettable : Profile → ℕ → Bool

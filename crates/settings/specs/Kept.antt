@@ -6,12 +6,12 @@ use Rattle.snapshot.specs.Keys.{keys}
 use Rattle.controls.specs.declared.Setting.{Setting}
 use Rattle.controls.specs.declared.Setting.the-variants as S
 use Rattle.exposure.specs.Exposure.{evRefusal}
-use Rattle.wire.specs.Rows.{allBelow}
+use Rattle.wire.specs.{Rows.{allBelow}, Endpoints.{endpointLimit}}
 use Rattle.entries.specs.Entries.{settingRefusal}
 use Rattle.metadata.specs.Metadata.{metadataRefusal}
 use Rattle.hdr.specs.Hdr.{hdrRefusal}
 use Rattle.throttle.specs.Throttle.{throttleRefusal}
-use Rattle.profile.specs.{declared.Profile.{Profile}, Profile.{profileValid, profileRefusal}}
+use Rattle.profile.specs.{declared.Profile.{Profile}, Profile.{profileValidUnder, profileRefusal}}
 use Rattle.settings.specs.{declared.settings.Settings.{Settings}, Held.{settingsHeld}, Settings.{settingSelector}}
 
 -- SET's value tests of one setting
@@ -27,6 +27,9 @@ unfoldable pub kept : Profile → Option Setting → Bool
 kept p none = true
 kept p (some s) = eqb (profileRefusal p (settingSelector s)) 0 && eqb (valueRefusal p s) 0
 
--- the profile is valid, and every setting keeps its rules; a record with any other is 0x21
-unfoldable pub settingsWellFormed : Profile → Settings → Bool
-settingsWellFormed p s = profileValid p && allBelow keys (λ k. kept p (settingsHeld s k))
+-- the profile is valid, under a limit of endpoints, and every setting keeps its rules; a record with any other is 0x21
+unfoldable pub settingsWellFormedUnder : ℕ → Profile → Settings → Bool
+settingsWellFormedUnder limit p s = profileValidUnder limit p && allBelow keys (λ k. kept p (settingsHeld s k))
+
+abbrev pub settingsWellFormed : Profile → Settings → Bool
+settingsWellFormed = settingsWellFormedUnder endpointLimit

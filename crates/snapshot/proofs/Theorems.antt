@@ -1,5 +1,4 @@
 -- Each statement of specs/Theorems. Assumes nothing.
-use native.Mathlib.Omega.{arith}
 use Rattle.snapshot.specs.Theorems as specs
 use Rattle.snapshot.proofs.Laws.Keys as keys
 use Rattle.snapshot.proofs.Laws.Maps as maps
@@ -20,4 +19,4 @@ pub key-order : specs.KeyOrder
 key-order = keys.key-order
 
 pub longest : specs.Longest
-longest m g = (omega (arith, lengths.encode-length m g), λ h. omega (arith, lengths.encode-short m g h))
+longest m g = (lengths.encode-length m g, lengths.encode-short m g)

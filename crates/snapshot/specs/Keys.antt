@@ -1,8 +1,8 @@
 -- The keys of a snapshot's records, and how long the records of each are.
-use Prim.Native.Nat.{ℕ, _+_, _-_}
+use Prim.Native.Nat.{ℕ, _+_, _-_, _*_}
 use mathlib.Core.Bool.{cond}
 use lib.Dec.{leb, eqb}
-use Rattle.wire.specs.{Selectors.{ev, face, metadata, hdr, throttle}, Endpoints.{firstAddress, places}}
+use Rattle.wire.specs.{Selectors.{ev, face, metadata, hdr, throttle}, Endpoints.{firstAddress, places, endpointLimit}}
 
 -- The kinds are the selectors: exposure compensation (EV), face authentication, metadata, HDR, throttle.
 -- A key is a kind, of face authentication with an address. The keys are numbered by kind, then address: 0 is EV, from 1 on face
@@ -37,9 +37,17 @@ kindLength kind =
 abbrev pub recordLength : ℕ → ℕ
 recordLength k = cond (eqb k evKey) 15 (cond (leb k places) 13 (cond (leb k hdrKey) 8 (cond (eqb k throttleKey) 24 0)))
 
--- the length of a snapshot with a record of each key
+-- the length of a snapshot with n records of face authentication and one of every other kind
+abbrev pub lengthWith : ℕ → ℕ
+lengthWith n = kindLength ev + kindLength face * n + kindLength metadata + kindLength hdr + kindLength throttle
+
+-- the longest: a record of each key
 abbrev pub longestSnapshot : ℕ
-longestSnapshot = 250
+longestSnapshot = lengthWith places
+
+-- the longest of a camera's, which lists no more endpoints than a profile may
+abbrev pub longestWritten : ℕ
+longestWritten = lengthWith endpointLimit
 
 -- the key of a known kind, and for face authentication of an address
 abbrev pub keyFor : ℕ → ℕ → ℕ

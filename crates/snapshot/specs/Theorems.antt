@@ -3,8 +3,8 @@
 use Prim.Native.Nat.{ℕ, _≤_, _<_}
 use mathlib.Core.{Path.{_≡_}, Bool.{true}, List.{List}, Option.{Option}}
 use lib.ListN.{length}
-use Rattle.wire.specs.Endpoints.{places, endpointLimit}
-use Rattle.snapshot.specs.{Keys.{longestSnapshot}, Form.{wellFormed, orderPlace, soundRecord, statedKey}}
+use Rattle.wire.specs.Endpoints.{places}
+use Rattle.snapshot.specs.{Keys.{lengthWith, longestSnapshot}, Form.{wellFormed, orderPlace, soundRecord, statedKey}}
 use Rattle.snapshot.specs.Records.{decode, encode, recordCount, Good, recordsOf, find, Ascending, joined}
 
 -- Demand 2, what is written reads back the same: well-formed bytes are the snapshot of their records, and the snapshot of given records is
@@ -31,8 +31,8 @@ KeyOrder =
     (s t : List ℕ) → soundRecord s ≡ true → soundRecord t ≡ true
     → (statedKey s < statedKey t → orderPlace s < orderPlace t) × (statedKey s ≡ statedKey t → orderPlace s ≡ orderPlace t)
 
--- 01's lengths: a snapshot has at most 250 bytes, and at most 159 with at most 8 endpoints, as many as a profile may have.
+-- The longest snapshot has a record of each key; with at most n endpoints it has at most their records and one of every other kind.
 abbrev pub Longest : Type 0
 Longest =
     (m : ℕ → Option (List ℕ)) → Good m
-    → (length (encode m) ≤ longestSnapshot) × (recordCount places 1 m ≤ endpointLimit → length (encode m) ≤ 159)
+    → (length (encode m) ≤ longestSnapshot) × ((n : ℕ) → recordCount places 1 m ≤ n → length (encode m) ≤ lengthWith n)

@@ -17,6 +17,22 @@ pub const THROTTLE_KEY: usize = endpoints::PLACES + 3;
 // How many keys there are; as a key, none.
 pub const KEYS: usize = endpoints::PLACES + 4;
 
+// The length of a record of each kind; a metadata or HDR setting is a number.
+const EV_LENGTH: usize = 15;
+
+const FACE_LENGTH: usize = 13;
+
+const NUMBER_LENGTH: usize = 8;
+
+const THROTTLE_LENGTH: usize = 24;
+
+const OTHERS: usize = EV_LENGTH + 2 * NUMBER_LENGTH + THROTTLE_LENGTH;
+
+// The longest snapshot: a record of each key. And the longest of a camera's, which lists no more endpoints than a profile may.
+pub const LONGEST: usize = OTHERS + FACE_LENGTH * endpoints::PLACES;
+
+pub const LONGEST_WRITTEN: usize = OTHERS + FACE_LENGTH * endpoints::LIMIT;
+
 // The kinds, and the addresses of face authentication.
 const EV: usize = selectors::EV as usize;
 
@@ -37,16 +53,16 @@ pub fn record_length(key: usize) -> usize
     ensures { λ r. ⌜ r ≡ recordLength key ⌝ }
 {
     if key == EV_KEY {
-        return 15;
+        return EV_LENGTH;
     }
     if key <= endpoints::PLACES {
-        return 13;
+        return FACE_LENGTH;
     }
     if key <= HDR_KEY {
-        return 8;
+        return NUMBER_LENGTH;
     }
     if key == THROTTLE_KEY {
-        return 24;
+        return THROTTLE_LENGTH;
     }
     0
 }

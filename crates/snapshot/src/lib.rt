@@ -13,6 +13,8 @@ pub use form::well_formed;
 pub use keys::EV_KEY;
 pub use keys::HDR_KEY;
 pub use keys::KEYS;
+pub use keys::LONGEST;
+pub use keys::LONGEST_WRITTEN;
 pub use keys::METADATA_KEY;
 pub use keys::THROTTLE_KEY;
 pub use keys::record_length;

@@ -15,7 +15,7 @@ use Rattle.settings.specs.{declared.settings.Settings.{Settings}, Items.{givenO
 use Rattle.settings.proofs.Laws.Items.{given-next, puts-next}
 use Rattle.camera.specs.{declared.{record.Camera.{Camera}, calls.Outcome.{Outcome}}, Record.{withSettings, recordWellFormed}}
 use Rattle.camera.specs.Requests.{controlRefusal, refused, outcomeBy}
-use Rattle.camera.specs.{Loading.{selectorAt, recordItem, loadRefusal, loadTests, loadCode, loadGives, loaded}, Steps.{loadDone}}
+use Rattle.camera.specs.{Loading.{selectorAt, recordItem, loadRefusal, loadTests, loadCodeUnder, loadGives, loaded, loadedUnder}, Steps.{loadDone}}
 
 -- a record of key k as a SET, by what the calls ensure
 module _ (p : Profile) (streaming : Bool) (k : ℕ) (r : List ℕ) {selector code : ℕ} (is-selector : selector ≡ selectorAt k)
@@ -164,19 +164,19 @@ form-bad s bad = go (wellFormed s) bad
 
 module _ (c : Camera) (s : List ℕ) where
   pub load-unformed : recordWellFormed c ≡ false → refused malformedRecord c ≡ loaded c s
-  unfolding loaded loadCode
+  unfolding loadedUnder loadCodeUnder
   load-unformed e = rw e
 
   module _ {n : ℕ} (is-form : n ≡ formCode s) where
     pub load-malformed : recordWellFormed c ≡ true → (n ≡ 0 → ⊥) → refused n c ≡ loaded c s
-    unfolding loaded loadCode loadTests
+    unfolding loadedUnder loadCodeUnder loadTests
     load-malformed formed bad = let f = form-bad s (λ z. bad (is-form ∙ z)) in rw (is-form ∙ f .1, formed, f .0)
 
     pub load-formed : n ≡ 0 → wellFormed s ≡ true
     load-formed z = form-good s (sym is-form ∙ z)
 
   pub load-records : recordWellFormed c ≡ true → wellFormed s ≡ true → loadDone c s ≡ loaded c s
-  unfolding loaded loadCode loadTests loadDone
+  unfolding loadedUnder loadCodeUnder loadTests loadDone
   load-records formed f = rw (formed, f) (go (eqb code 0) refl)
     where
       code : ℕ

@@ -4,7 +4,7 @@ use lib.IntN.{pos}
 use Rattle.wire.specs.Uvc.{malformedRecord}
 use Rattle.exposure.specs.Exposure.{sensorValue}
 use Rattle.profile.specs.Profile.{profileValid}
-use Rattle.settings.specs.Kept.{settingsWellFormed}
+use Rattle.settings.specs.Kept.{settingsWellFormedUnder}
 use Rattle.camera.specs.{declared.record.Camera.{Camera}, Record.{withStreaming, recordWellFormed}, Requests.{refused}}
 use Rattle.camera.specs.Calls.{streamed, sensed}
 
@@ -27,5 +27,5 @@ module _ (c : Camera) (w : recordWellFormed c ≡ true) where
   sensed-done = rw w
 
   pub formed-profile : profileValid (c .profile) ≡ true
-  unfolding settingsWellFormed
+  unfolding settingsWellFormedUnder
   formed-profile = let q = simp and-eq-true-iff at w in q .0

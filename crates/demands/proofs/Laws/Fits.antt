@@ -13,7 +13,7 @@ use Rattle.exposure.proofs.Laws.Exposure.{accepts, range-small}
 use Rattle.metadata.proofs.Laws.Metadata.{metadata-within}
 use Rattle.hdr.proofs.Laws.Hdr.{hdr-within}
 use Rattle.throttle.proofs.Laws.Throttle.{throttle-within}
-use Rattle.profile.specs.{declared.Profile.{Profile}, Profile.{has, profileValid}}
+use Rattle.profile.specs.{declared.Profile.{Profile}, Profile.{has, profileValid, profileValidUnder}}
 use Rattle.settings.specs.Kept.{valueRefusal}
 use Rattle.camera.specs.{declared.record.Camera.{Camera}, Record.{held, recordWellFormed}}
 use Rattle.profile.proofs.Laws.Profile.{valid-ev}
@@ -31,7 +31,7 @@ Fitting (S.Throttle s) = (s .mode < 2 ^ 32) × (s .percent < 2 ^ 32)
 
 module _ (p : Profile) (v : profileValid p ≡ true) where
   throttle-maximum : has p selector.throttle ≡ true → p .throttle .maximum ≤ 100
-  unfolding profileValid
+  unfolding profileValidUnder
   throttle-maximum h =
       let q = simp and-eq-true-iff at v in
       let t = simp and-eq-true-iff at (rw h at (q .1 .1 .1 .1 .0)) in

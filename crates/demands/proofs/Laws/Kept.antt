@@ -23,7 +23,7 @@ use Rattle.face.proofs.Laws.Limits.{listed}
 use Rattle.profile.specs.{declared.Profile.{Profile}, Profile.{has, isSettable, profileValid, profileRefusal}, Items.{profileItem}}
 use Rattle.profile.specs.KnownControl.{KnownControl, ev, face, metadata, hdr, throttle}
 use Rattle.settings.specs.{declared.settings.Settings.{Settings}, Settings.{settingKey, settingSelector}, Held.{settingsHeld}}
-use Rattle.settings.specs.{Kept.{valueRefusal, kept, settingsWellFormed}, Items.{givenOf, allGiven, putAll}}
+use Rattle.settings.specs.{Kept.{valueRefusal, kept, settingsWellFormed, settingsWellFormedUnder}, Items.{givenOf, allGiven, putAll}}
 use Rattle.profile.proofs.Laws.Profile.{valid-face}
 use Rattle.settings.proofs.Laws.Kept.{control-kept}
 use Rattle.camera.specs.Requests.{controlRefusal}
@@ -138,7 +138,7 @@ each-proper p (x ∷ l) g = (g .0, g .1 .proper, each-proper p l (g .2))
 -- settings that are well formed, key by key
 module _ (p : Profile) (h : Settings) where
   formed-kept : settingsWellFormed p h ≡ true → (k : ℕ) → kept p (settingsHeld h k) ≡ true
-  unfolding settingsWellFormed kept
+  unfolding settingsWellFormedUnder kept
   formed-kept w k = let q = simp and-eq-true-iff at w in go (leb keys k) refl (q .1)
     where
       go : (b : Bool) → leb keys k ≡ b → allBelow keys (λ k. kept p (settingsHeld h k)) ≡ true → kept p (settingsHeld h k) ≡ true
@@ -146,7 +146,7 @@ module _ (p : Profile) (h : Settings) where
       go false e a = all-at keys (λ k. kept p (settingsHeld h k)) a k (leb-false keys k e)
 
   pub kept-formed : profileValid p ≡ true → ((k : ℕ) → kept p (settingsHeld h k) ≡ true) → settingsWellFormed p h ≡ true
-  unfolding settingsWellFormed
+  unfolding settingsWellFormedUnder
   kept-formed v f = rw (v, all-of keys (λ k. kept p (settingsHeld h k)) (λ k l. f k))
 
 -- of two that are kept, either
@@ -165,7 +165,7 @@ last-kept p (x ∷ l) g k = over-kept p (cond (eqb (x .0) k) (some (x .1)) none)
 
 module _ (p : Profile) (h : Settings) (w : settingsWellFormed p h ≡ true) where
   formed-valid : profileValid p ≡ true
-  unfolding settingsWellFormed
+  unfolding settingsWellFormedUnder
   formed-valid = let q = simp and-eq-true-iff at w in q .0
 
   -- good settings leave them well formed

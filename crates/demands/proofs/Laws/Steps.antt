@@ -19,7 +19,7 @@ use Rattle.profile.proofs.Laws.{Profile.{valid-presence}, KnownControl.{control
 use Rattle.camera.specs.{declared.{record.Camera.{Camera}, calls.Outcome.{Outcome}}, Record.{held, recordWellFormed, puts}}
 use Rattle.camera.specs.Requests.{requestedCode, refused, outcomeBy, requestDone, requested, rules, table, controlRefusal}
 use Rattle.camera.specs.Calls.{sensed, Call, request, stream, load, write, sense, outcome, next}
-use Rattle.camera.specs.{Loading.{selectorAt, recordItem, loadTests, loadCode, loadGives, loaded}, Writing.{snapshot, written, writeCode}}
+use Rattle.camera.specs.{Loading.{selectorAt, recordItem, loadTests, loadCodeUnder, loadGives, loaded, loadedUnder}, Writing.{snapshot, written, writeCode}}
 use Rattle.camera.proofs.Laws.{Record.{formed-profile, streamed-done}, Loading.{givenBy}}
 use Rattle.demands.specs.{Runs.{acceptsSet, gives, leaves}, Cameras.{Ok}}
 use Rattle.demands.proofs.Laws.Held.{Each, puts-held, puts-length}
@@ -57,7 +57,7 @@ set-answer c s payload room w e =
 
 pub load-answer : (c : Camera) (s : List ℕ) → recordWellFormed c ≡ true
     → loaded c s .code ≡ firstOf (loadTests (c .profile) (c .streaming) s)
-unfolding loaded loadCode
+unfolding loadedUnder loadCodeUnder
 load-answer c s w =
     let code = firstOf (loadTests (c .profile) (c .streaming) s) in
     rw w (outcome-code code c (record { code = 0; count = 0; camera = puts c (loadGives (c .profile) (c .streaming) s) }) refl)
@@ -105,7 +105,7 @@ request-next c s payload reply w = go (isSetRequest s) refl
 
 pub load-next : (c : Camera) (s : List ℕ) → recordWellFormed c ≡ true
     → loaded c s .camera ≡ puts c (gives (c .profile) (c .streaming) (load s))
-unfolding loaded loadCode gives putAll
+unfolding loadedUnder loadCodeUnder gives putAll
 load-next c s w = rw w (go (eqb (firstOf (loadTests (c .profile) (c .streaming) s)) 0))
   where
     go : (b : Bool)

@@ -60,13 +60,16 @@ seen-named s i (suc n) = rw (seen-named s i n)
 
 -- i entries taken: the places listed of their addresses are marked, and the settings laid
 pub record Walked (l : FaceLimits) (held s : List ℕ) (i : ℕ) (seen : List Bool) (next : List ℕ) : Type 0 where
+  pub places : length (l .addresses) ≡ endpointLimit
   pub marks : (address : ℕ) → placeOf l address < endpointLimit → getD seen (placeOf l address) false ≡ named s address i
   pub passed : (j : ℕ) → j < i → entryRefusal l s j ≡ 0
   pub laid : next ≡ entriesPut held s i
 
-pub walked-none : (l : FaceLimits) (held s : List ℕ) → Walked l held s 0 (replicate endpointLimit false) held
+pub walked-none : (l : FaceLimits) (held s : List ℕ) → length (l .addresses) ≡ endpointLimit
+    → Walked l held s 0 (replicate endpointLimit false) held
 unfolding named entriesPut
-walked-none l held s = record {
+walked-none l held s places = record {
+  places = places;
   marks = λ address h. getD-replicate endpointLimit (placeOf l address) false false h;
   passed = λ j h. absurd (omega arith);
   laid = refl;
@@ -77,7 +80,7 @@ module _ (l : FaceLimits) (held s : List ℕ) (i : ℕ) (seen : List Bool) (next
     (ha : address ≡ entryAddress s i) (hp : p ≡ placeOf l address) where
   pub entry-unlisted : endpointLimit ≤ p → outOfRange ≡ entryRefusal l s i
   unfolding entryRefusal
-  entry-unlisted h = rw (← ha, offers-none l address p hp h)
+  entry-unlisted h = rw (← ha, offers-none l address p hp (w .places) h)
 
   module _ (h : p < endpointLimit) (flags code : ℕ) (hf : flags ≡ leAt 7 s (1 + 8 * i + 1))
       (hc : code ≡ entryTests (offersAt l p) (getD seen p false) flags) where
@@ -89,7 +92,7 @@ module _ (l : FaceLimits) (held s : List ℕ) (i : ℕ) (seen : List Bool) (next
 
     pub entry-listed : code ≡ entryRefusal l s i
     unfolding entryRefusal
-    entry-listed = rw (← ha, offers-placed l address p hp h, ← mark-is, ← flags-are) hc
+    entry-listed = rw (← ha, offers-placed l address p hp h (w .places), ← mark-is, ← flags-are) hc
 
     marks-next : length seen ≡ endpointLimit → (a : ℕ) → placeOf l a < endpointLimit
         → getD (set seen p true) (placeOf l a) false ≡ named s a (suc i)
@@ -109,6 +112,7 @@ module _ (l : FaceLimits) (held s : List ℕ) (i : ℕ) (seen : List Bool) (next
     pub walked-next : length seen ≡ endpointLimit → code ≡ 0 → Walked l held s (i + 1) (set seen p true) (putFace next address flags)
     unfolding entriesPut
     walked-next room z = rw add-one (record {
+      places = w .places;
       marks = marks-next room;
       passed = λ j g. go (eqb j i) refl g;
       laid = rw (w .laid, ha, flags-are);

@@ -11,7 +11,7 @@ use Rattle.controls.specs.{declared.Item.the-variants.{Given}, Controls.{itemOf
 use Rattle.controls.specs.declared.Setting.the-variants as S
 use Rattle.controls.proofs.Laws.Controls.{given-is}
 use Rattle.face.specs.{declared.limits.FaceLimits.{FaceLimits}, Limits.{endpointsOf, faceValid, offersOf}, Answers.{entryOf}}
-use Rattle.face.proofs.Laws.Limits.{count-most}
+use Rattle.face.proofs.Laws.Limits.{count-placed}
 use Rattle.entries.specs.Entries.{faceSetLength, entryAddress, entryFlags, seenIn, seenBefore, isChoice, faceRefusal, entryRefusal}
 use Rattle.entries.specs.Entries.{faceItem}
 
@@ -78,7 +78,7 @@ module _ (l : FaceLimits) (valid : faceValid l ≡ true) where
   pub len-taken : (rest : List ℕ) → faceSetLength l (l .count ∷ rest) ≡ 1 + 8 * endpointsOf l
   unfolding faceSetLength
   len-taken rest =
-      let e : l .count ≡ endpointsOf l = omega (arith, count-most l valid) in
+      let e : l .count ≡ endpointsOf l = omega (arith, count-placed l valid) in
       rw (le-leb (l .count) (l .count) (omega arith)) (ap (λ (n : ℕ). 1 + 8 * n) e)
 
   pub len-longest : (s : List ℕ) → faceSetLength l s ≤ 1 + 8 * endpointsOf l
@@ -87,5 +87,5 @@ module _ (l : FaceLimits) (valid : faceValid l ≡ true) where
   len-longest (n ∷ s) = go (leb n (l .count)) refl
     where
       go : (b : Bool) → leb n (l .count) ≡ b → cond b (1 + 8 * n) 0 ≤ 1 + 8 * endpointsOf l
-      go true e = omega (arith, leb-true n (l .count) e, count-most l valid)
+      go true e = omega (arith, leb-true n (l .count) e, count-placed l valid)
       go false e = omega arith

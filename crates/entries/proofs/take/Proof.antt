@@ -22,7 +22,7 @@ byte-requires : tie.Need-byte-requires Inv-loop μ-loop
 byte-requires c κs = search needs
 
 loop-holds : tie.Need-loop-holds Inv-loop μ-loop
-loop-holds c = (omega arith, refl, search needs, walked-none _ _ _)
+loop-holds c = (omega arith, refl, search needs, walked-none _ _ _ (search needs))
 
 cast-at : tie.Need-cast-at Inv-loop μ-loop
 cast-at c = search needs

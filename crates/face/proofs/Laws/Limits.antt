@@ -2,12 +2,12 @@
 use mathlib.Core.{Path.{_≡_, refl, _∙_}, Bool.{Bool, true, false, cond, _||_, and-eq-true-iff}}
 use Prim.Native.Nat.{ℕ, zero, suc, _+_, _-_, _/_, _≤_, _<_}
 use native.Mathlib.{Numerals.{add-one, sub-one}, Omega.{arith}}
-use lib.Dec.{ltb, eqb}
-use borrow.Author.Tests.{eq-eqb, ne-eqb, eqb-true, lt-ltb, le-ltb, ltb-true, leb-true}
+use lib.{Dec.{ltb, eqb}, ListN.{length, List·getD-eq-default}}
+use borrow.Author.Tests.{eq-eqb, ne-eqb, eqb-true, lt-ltb, le-ltb, ltb-true, ltb-false, leb-true}
 use Rattle.wire.proofs.Laws.Below.{all-at}
 use Rattle.wire.specs.Endpoints.{firstAddress, lastAddress, endpointLimit}
 use Rattle.face.specs.declared.limits.FaceLimits.{FaceLimits}
-use Rattle.face.specs.Limits.{endpointsOf, addressAt, offersAt, offersValid, addressBefore, endpointValid, faceValid, offersFrom}
+use Rattle.face.specs.Limits.{endpointsOf, addressAt, offersAt, offersValid, addressBefore, endpointValid, faceValid, faceValidUnder, offersFrom}
 use Rattle.face.specs.Limits.{offersOf, placeFrom, placeOf}
 
 -- a place behind the first comes after the one before it
@@ -33,16 +33,16 @@ offers-between o h = go (eqb (o / 2) 1) (eqb (o / 2) 2) refl refl h
 
 module _ (l : FaceLimits) (valid : faceValid l ≡ true) where
   pub count-least : 1 ≤ l .count
-  unfolding faceValid
+  unfolding faceValidUnder
   count-least = leb-true 1 (l .count) (simp and-eq-true-iff at valid .0 .0)
 
   pub count-most : l .count ≤ endpointLimit
-  unfolding faceValid
+  unfolding faceValidUnder
   count-most = leb-true (l .count) endpointLimit (simp and-eq-true-iff at valid .0 .1)
 
   place-valid : (i : ℕ) → i < l .count
       → (addressBefore l i < addressAt l i) × (addressAt l i ≤ lastAddress) × (2 ≤ offersAt l i) × (offersAt l i ≤ 5)
-  unfolding faceValid endpointValid
+  unfolding faceValidUnder endpointValid
   place-valid i h =
       let v = all-at endpointLimit (endpointValid l) (simp and-eq-true-iff at valid .1) i (omega (arith, count-most)) in
       let w = simp and-eq-true-iff at (rw (lt-ltb i (l .count) h) at v) in
@@ -53,6 +53,17 @@ module _ (l : FaceLimits) (valid : faceValid l ≡ true) where
   unfolding addressBefore
   above zero h = place-valid zero h .0
   above (suc i) h = omega (arith, above i (omega arith), place-valid (suc i) h .0)
+
+  -- it has a place for each endpoint that it counts: past its last place it reads 0, which is no address
+  pub count-placed : l .count ≤ length (l .addresses)
+  count-placed = go (ltb (length (l .addresses)) (l .count)) refl
+    where
+      go : (b : Bool) → ltb (length (l .addresses)) (l .count) ≡ b → l .count ≤ length (l .addresses)
+      go true e =
+          let n = length (l .addresses) in
+          let past = List·getD-eq-default (l .addresses) 0 {n = n} (omega arith) in
+          absurd (omega (arith, above n (ltb-true n (l .count) e)))
+      go false e = omega (arith, ltb-false (length (l .addresses)) (l .count) e)
 
   pub place-listed : (i : ℕ) → i < l .count → Listed (addressAt l i) (offersAt l i)
   place-listed i h = let p = place-valid i h in record { first = above i h; last = p .1; least = p .2; most = p .3 }
@@ -112,18 +123,18 @@ module _ (l : FaceLimits) (address : ℕ) where
       go true e g rest = eqb-true (addressAt l i) address e
       go false e g rest = rest g
 
-  offers-place : offersOf l address ≡ at-place (placeOf l address)
+  offers-place : length (l .addresses) ≡ endpointLimit → offersOf l address ≡ at-place (placeOf l address)
   unfolding offersOf placeOf
-  offers-place = offers-from (endpointsOf l) 0 (omega arith)
+  offers-place places = offers-from (endpointsOf l) 0 (omega arith)
 
   -- p is the place that the code found
   module _ (p : ℕ) (e : p ≡ placeOf l address) where
-    pub offers-none : endpointLimit ≤ p → offersOf l address ≡ 0
-    offers-none h = offers-place ∙ rw (← e, le-ltb p endpointLimit h)
+    pub offers-none : length (l .addresses) ≡ endpointLimit → endpointLimit ≤ p → offersOf l address ≡ 0
+    offers-none places h = offers-place places ∙ rw (← e, le-ltb p endpointLimit h)
 
     module _ (h : p < endpointLimit) where
-      pub offers-placed : offersOf l address ≡ offersAt l p
-      offers-placed = offers-place ∙ rw (← e, lt-ltb p endpointLimit h)
+      pub offers-placed : length (l .addresses) ≡ endpointLimit → offersOf l address ≡ offersAt l p
+      offers-placed places = offers-place places ∙ rw (← e, lt-ltb p endpointLimit h)
 
       pub address-placed : addressAt l p ≡ address
       unfolding placeOf

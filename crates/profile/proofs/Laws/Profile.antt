@@ -3,7 +3,7 @@ use mathlib.Core.{Path.{_≡_, refl, sym}, List.{[], _∷_}, Bool.{Bool, true, f
 use Rattle.wire.specs.{Rows.{allOf}, Selectors.{ev, face}}
 use Rattle.exposure.specs.Exposure.{evValid}
 use Rattle.face.specs.Limits.{faceValid}
-use Rattle.profile.specs.{declared.Profile.{Profile}, Profile.{has, presenceValid, profileValid}}
+use Rattle.profile.specs.{declared.Profile.{Profile}, Profile.{has, presenceValid, profileValid, profileValidUnder}}
 
 -- five tests, one after the other
 pub all-five : (a b c d e : Bool) → a && b && c && d && e ≡ allOf (a ∷ b ∷ c ∷ d ∷ e ∷ [])
@@ -15,13 +15,13 @@ all-five true true true true e = sym (and-true e)
 
 module _ (p : Profile) (v : profileValid p ≡ true) where
   pub valid-presence : presenceValid (p .controls) ≡ true
-  unfolding profileValid
+  unfolding profileValidUnder
   valid-presence = let q = simp and-eq-true-iff at v in q .0
 
   pub valid-ev : has p ev ≡ true → evValid (p .ev) ≡ true
-  unfolding profileValid
+  unfolding profileValidUnder
   valid-ev h = let q = simp and-eq-true-iff at v in rw h at (q .1 .0)
 
   pub valid-face : has p face ≡ true → faceValid (p .face) ≡ true
-  unfolding profileValid
+  unfolding profileValidUnder
   valid-face h = let q = simp and-eq-true-iff at v in rw h at (q .1 .1 .0)

@@ -5,21 +5,21 @@ use native.Mathlib.Omega.{arith}
 use lib.{ListN.{length, take, replicate}, Seq.{length-take-le}}
 use Rattle.wire.specs.Writes.{overlay}
 use Rattle.wire.proofs.Laws.Writes.{front, same-length}
-use Rattle.request.specs.{declared.answers.Answer.{Answer}, Answers.{packed}}
+use Rattle.request.specs.{declared.answers.Answer.{Answer}, Answers.{packed, longestAnswer}}
 
 -- the empty answer that an answer is laid over
 abbrev pub blank : List ℕ
-blank = replicate 65 0
+blank = replicate longestAnswer 0
 
 -- an answer as it is handed on, and its bytes out of it again
-module _ (s : List ℕ) (h : length s ≤ 65) where
+module _ (s : List ℕ) (h : length s ≤ longestAnswer) where
   pub pack-is : (b : List ℕ) (n : ℕ) → b ≡ overlay blank 0 s → n ≡ length s → _≡_ {A = Answer} (record { bytes = b; len = n }) (packed s)
   unfolding packed
-  pack-is b n e f = let g : n ≡ min (length s) 65 = omega arith in ap₂ (λ (x : List ℕ) (y : ℕ). record { bytes = x; len = y }) e g
+  pack-is b n e f = let g : n ≡ min (length s) longestAnswer = omega arith in ap₂ (λ (x : List ℕ) (y : ℕ). record { bytes = x; len = y }) e g
 
   packed-take : take (packed s .len) (packed s .bytes) ≡ s
   unfolding packed
-  packed-take = let e : min (length s) 65 ≡ length s = omega arith in rw e (front blank s (omega arith))
+  packed-take = let e : min (length s) longestAnswer ≡ length s = omega arith in rw e (front blank s (omega arith))
 
   packed-room : packed s .len ≤ length (packed s .bytes)
   unfolding packed

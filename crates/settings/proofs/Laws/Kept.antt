@@ -16,7 +16,7 @@ use Rattle.wire.proofs.Laws.Below.{all-same, below-front}
 use Rattle.profile.specs.{declared.Profile.{Profile}, Profile.{has, isSettable, profileValid, profileRefusal}}
 use Rattle.settings.specs.{declared.settings.Settings.{Settings}, Settings.{settingSelector}}
 use Rattle.settings.specs.Held.{evHeld, metadataHeld, hdrHeld, throttleHeld, settingsHeld}
-use Rattle.settings.specs.Kept.{valueRefusal, kept, settingsWellFormed}
+use Rattle.settings.specs.Kept.{valueRefusal, kept, settingsWellFormed, settingsWellFormedUnder}
 
 module _ (p : Profile) where
   -- a control that no SET is refused for is there and takes one
@@ -71,7 +71,7 @@ pub formed-controls : (p : Profile) (s : Settings)
     → profileValid p && kept p (evHeld (s .ev)) && facesKept (has p face) (p .face) (s .face) && kept p (metadataHeld (s .metadata))
     && kept p (hdrHeld (s .hdr)) && kept p (throttleHeld (s .throttle))
     ≡ settingsWellFormed p s
-unfolding settingsWellFormed facesKept allBelow settingsHeld
+unfolding settingsWellFormedUnder facesKept allBelow settingsHeld
 formed-controls p s =
     in-turn (profileValid p) _ _ _ _ _
     ∙ ap (λ b. profileValid p && (b && keeps p s metadataKey && keeps p s hdrKey && keeps p s throttleKey))

@@ -4,8 +4,8 @@ use native.Mathlib.Omega.{arith}
 use mathlib.Core.{Path.{_≡_, ap}, List.{List, _++_}, Option.{Option, none, some}}
 use lib.ListN.{length, length-append}
 use borrow.Author.Tests.{ne-eqb, le-leb}
-use Rattle.wire.specs.Endpoints.{places, endpointLimit}
-use Rattle.snapshot.specs.Keys.{keys, recordLength, longestSnapshot}
+use Rattle.wire.specs.Endpoints.{places}
+use Rattle.snapshot.specs.Keys.{keys, recordLength, lengthWith, longestSnapshot}
 use Rattle.snapshot.specs.Records.{recordBytes, records, encode, countOne, recordCount, GoodAt, Good}
 use Rattle.snapshot.proofs.Laws.Maps.{records-split}
 
@@ -42,10 +42,10 @@ module _ (m : ℕ → Option (List ℕ)) (g : Good m) where
       go none p ih = ih
       go (some r) p ih = simp length-append (omega (arith, p .long, size))
 
-  -- with as many endpoints as a profile may have
-  pub encode-short : recordCount places 1 m ≤ endpointLimit → length (encode m) ≤ 159
+  -- with no more than n endpoints
+  pub encode-short : (n : ℕ) → recordCount places 1 m ≤ n → length (encode m) ≤ lengthWith n
   unfolding encode total
-  encode-short h =
+  encode-short n h =
       omega (
         arith,
         ap length (records-split m 1 (3 + places) 0),

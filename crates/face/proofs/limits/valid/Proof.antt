@@ -5,7 +5,7 @@ use native.Mathlib.{Numerals.{add-one}, Omega.{arith}}
 use lib.Dec.{leb}
 use borrow.Author.Needs.{needs}
 use Rattle.wire.specs.{Endpoints.{endpointLimit}, Rows.{allBelow}}
-use Rattle.face.specs.Limits.{endpointValid, faceValid}
+use Rattle.face.specs.Limits.{endpointValid, faceValidUnder}
 use Rattle.face.proofs.limits.valid.Statement.{statement}
 use Rattle.face.proofs.limits.valid.Tie as tie
 
@@ -36,17 +36,16 @@ loop-again c =
     rw add-one (ap₂ _&&_ (b .loop .inv .1) (c .endpoint-valid .ensures)) in
     (omega arith, e)
 
-cast-result : tie.Need-cast-result Inv-loop μ-loop
-cast-result c = search needs
+count-valid-requires : tie.Need-count-valid-requires Inv-loop μ-loop
+count-valid-requires c κs = search needs
 
 returns : tie.Need-returns Inv-loop μ-loop
-unfolding faceValid
+unfolding faceValidUnder
 returns c =
-    let b = c .before .before .before in
+    let b = c .before .before in
     let l = b .before .args .l in
     let e : b .loop .i ≡ endpointLimit = omega arith in
-    ap (λ (x : Bool). leb 1 (l .count) && leb (l .count) endpointLimit && x)
-    (b .loop .inv .1 ∙ ap (λ (n : ℕ). allBelow n (endpointValid l)) e)
+    ap₂ _&&_ (c .count-valid .ensures) (b .loop .inv .1 ∙ ap (λ (n : ℕ). allBelow n (endpointValid l)) e)
 
 pub valid-spec : {M : Type 1} → statement M
 valid-spec =
@@ -59,5 +58,5 @@ valid-spec =
     add-i
     loop-less
     loop-again
-    cast-result
+    count-valid-requires
     returns)

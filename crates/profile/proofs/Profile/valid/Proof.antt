@@ -6,7 +6,7 @@ use Rattle.exposure.specs.Exposure.{evValid}
 use Rattle.face.specs.Limits.{faceValid}
 use Rattle.metadata.specs.Metadata.{metadataValid}
 use Rattle.throttle.specs.Throttle.{throttleValid}
-use Rattle.profile.specs.Profile.{has, presenceValid, profileValid}
+use Rattle.profile.specs.Profile.{has, presenceValid, profileValidUnder}
 use Rattle.profile.proofs.Laws.Profile.{all-five}
 use Rattle.profile.proofs.Profile.valid.Statement.{statement}
 use Rattle.profile.proofs.Profile.valid.Tie as tie
@@ -39,7 +39,7 @@ valid-requires-4 : tie.Need-valid-requires-4
 valid-requires-4 c κs = search needs
 
 returns : tie.Need-returns
-unfolding profileValid
+unfolding profileValidUnder
 returns c =
     let m = c .before .before .before .before in
     let b = m .before .before .before .before in
