@@ -43,7 +43,7 @@ use Rattle.camera.proofs.Laws.Record.{formed-profile}
 use Rattle.demands.specs.{Runs.{acceptsSet, gives, run}, Cameras.{Ok, Typed, Same}}
 use Rattle.demands.specs.Answers.{NewSettings, CurrentIsHeld, SameAnswers, FaceLength, FaceReadsBack}
 use Rattle.demands.specs.Answers.{ReadsBack, bytesBack, CameraSends, Gets, SnapshotReadsBack, WriteSuffices}
-use Rattle.demands.proofs.Laws.{Longest.{snapshot-short}, Held.{none-never, none-held}, Kept.{control-there}}
+use Rattle.demands.proofs.Laws.{Longest.{snapshot-most}, Held.{none-never, none-held}, Kept.{control-there}}
 use Rattle.demands.proofs.Laws.Current.{ev-current, face-current, face-default, metadata-current, hdr-current, throttle-current}
 use Rattle.demands.proofs.Laws.Same.{settings-same}
 use Rattle.demands.proofs.Laws.ReadBack.{answer-back, Taken, entry-taken, face-put, After, after, payload-entry, place-at}
@@ -345,4 +345,4 @@ snapshot-read-back c w t =
     }
 
 pub write-suffices : (c : Camera) → recordWellFormed c ≡ true → WriteSuffices c
-write-suffices c w out h = writes c out w (omega (arith, snapshot-short c w))
+write-suffices c w out h = writes c out w (omega (arith, snapshot-most c w))

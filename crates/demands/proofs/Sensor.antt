@@ -13,10 +13,10 @@ use Rattle.exposure.specs.{declared.{EvLimits.{EvLimits}, HeldEv.{HeldEv}}, Exp
 use Rattle.exposure.specs.declared.HeldEv.the-variants as E
 use Rattle.exposure.specs.Exposure.{evRefusal, evItem, unitsPerStop, scaledAt, scaled, sensorValue}
 use Rattle.exposure.proofs.Laws.Exposure.{accepts, steps-below, scaled-is}
-use Rattle.face.specs.Limits.{addressBefore, endpointValid, faceValid}
-use Rattle.profile.specs.{Profile.{presenceValid, profileValid, profileRefusal}, Items.{profileItem, setRefusal}}
+use Rattle.face.specs.Limits.{addressBefore, endpointValid, faceValidUnder}
+use Rattle.profile.specs.{Profile.{presenceValid, profileValidUnder, profileRefusal}, Items.{profileItem, setRefusal}}
 use Rattle.profile.proofs.Laws.Profile.{valid-ev}
-use Rattle.settings.specs.{Settings.{noSettings, put}, Held.{settingsHeld}, Kept.{valueRefusal, kept, settingsWellFormed}}
+use Rattle.settings.specs.{Settings.{noSettings, put}, Held.{settingsHeld}, Kept.{valueRefusal, kept, settingsWellFormedUnder}}
 use Rattle.settings.specs.Items.{givenOf, allGiven, putAll, setGives}
 use Rattle.camera.specs.{declared.record.Camera.{Camera}, Record.{recordWellFormed}, Requests.{requestDone, requested}, Calls.{sensed}}
 use Rattle.camera.proofs.Laws.Record.{formed-profile}
@@ -81,7 +81,7 @@ sensor-in-range c = else-zero (recordWellFormed c) _ (λ w. setting-in-range (c 
 -- Both ends of the range, computed.
 pub sensor-ends : SensorEnds
 unfolding benchProfile number leAt signed32 isSet bitsOf count first oneFlag requestTests itemOf inRange refusalAt evRefusal evItem
-    scaledAt scaled sensorValue allBelow addressBefore endpointValid faceValid presenceValid profileValid noSettings settingsHeld put
-    valueRefusal profileRefusal kept settingsWellFormed itemCode givenOf firstRefusal allGiven putAll profileItem setRefusal setGives
+    scaledAt scaled sensorValue allBelow addressBefore endpointValid faceValidUnder presenceValid profileValidUnder noSettings settingsHeld put
+    valueRefusal profileRefusal kept settingsWellFormedUnder itemCode givenOf firstRefusal allGiven putAll profileItem setRefusal setGives
     valueTests requestRows requestCode requestDone requested sensed
 sensor-ends = record { least = refl; most = refl }

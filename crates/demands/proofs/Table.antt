@@ -5,12 +5,12 @@ use Rattle.flags.specs.Flags.{isSet, bitsOf, count, first, oneFlag}
 use Rattle.request.specs.Tests.{requestTests, valueTests, requestRows, requestCode}
 use Rattle.controls.specs.Controls.{itemOf, itemCode, firstRefusal}
 use Rattle.exposure.specs.Exposure.{inRange, refusalAt, evRefusal, evItem, evBytes, scaledAt, scaled, sensorValue}
-use Rattle.face.specs.Limits.{addressBefore, endpointValid, faceValid}
+use Rattle.face.specs.Limits.{addressBefore, endpointValid, faceValidUnder}
 use Rattle.hdr.specs.Hdr.{hdrRefusal, hdrItem}
 use Rattle.throttle.specs.Throttle.{throttleRefusal, throttleItem, throttleBytes}
 use Rattle.snapshot.specs.Records.{records, encode}
-use Rattle.profile.specs.{Profile.{presenceValid, profileValid, profileRefusal}, Items.{profileItem, setRefusal}}
-use Rattle.settings.specs.{Settings.{noSettings, put}, Held.{settingsHeld}, Kept.{valueRefusal, kept, settingsWellFormed}}
+use Rattle.profile.specs.{Profile.{presenceValid, profileValidUnder, profileRefusal}, Items.{profileItem, setRefusal}}
+use Rattle.settings.specs.{Settings.{noSettings, put}, Held.{settingsHeld}, Kept.{valueRefusal, kept, settingsWellFormedUnder}}
 use Rattle.settings.specs.Items.{givenOf, allGiven, putAll, setGives}
 use Rattle.camera.specs.{Requests.{requestDone, requested}, Writing.{snapshot}, Calls.{sensed}}
 use Rattle.encoding.specs.Encoding.{recordOf}
@@ -21,8 +21,8 @@ use Rattle.demands.specs.{Bench.{benchProfile}, Table.{rows, defined, pa
 table-holds : map defined rows ≡ map paperAnswer rows
 unfolding benchProfile number leAt bytesOf signed32 bits32 isSet bitsOf count first oneFlag requestTests itemOf
     inRange refusalAt evRefusal evItem evBytes scaledAt scaled sensorValue
-    allBelow addressBefore endpointValid faceValid hdrRefusal hdrItem throttleRefusal throttleItem throttleBytes
-    records encode presenceValid profileValid noSettings settingsHeld put valueRefusal profileRefusal kept settingsWellFormed
+    allBelow addressBefore endpointValid faceValidUnder hdrRefusal hdrItem throttleRefusal throttleItem throttleBytes
+    records encode presenceValid profileValidUnder noSettings settingsHeld put valueRefusal profileRefusal kept settingsWellFormedUnder
     itemCode givenOf firstRefusal allGiven putAll profileItem setRefusal setGives
     valueTests requestRows requestCode requestDone requested recordOf snapshot sensed
     isKnown itemRefusal firstItem itemsIn itemsFrom blockItems nthItem blockItem blockCount blockPayload

@@ -6,7 +6,7 @@ use lib.{Dec.{eqb}, ListN.{length, getD, take, drop}}
 use Rattle.wire.specs.{Endpoints.{firstAddress}, Numbers.{bytesOf}, Uvc.{getCur, getDef, getLen}}
 use Rattle.wire.specs.Selectors as selector
 use Rattle.request.specs.{Setup.{setupValueLow, setupSelector, setupWLength, isGetRequest}, Tests.{isAddressed}}
-use Rattle.snapshot.specs.{Keys.{keyFor}, Form.{wellFormed}, Records.{decode}, Given.{over, lastOf}}
+use Rattle.snapshot.specs.{Keys.{keyFor, longestWritten}, Form.{wellFormed}, Records.{decode}, Given.{over, lastOf}}
 use Rattle.controls.specs.declared.{EvSetting.{EvSetting}, ThrottleSetting.{ThrottleSetting}, Item.the-variants.{Given}}
 use Rattle.controls.specs.declared.Setting.the-variants as S
 use Rattle.exposure.specs.Exposure.{evBytes}
@@ -122,6 +122,6 @@ pub record SnapshotReadsBack (c : Camera) : Type 0 where
   pub settings : (k : ℕ) → loadItem (c .profile) true (snapshot c) k ≡ Option·map Given (held c k)
   pub written : (out : List ℕ) → length (snapshot c) ≤ length out → Written c (snapshot c) out
 
--- 01's largest snapshot of a profile: 159 bytes are room for any camera's.
+-- The longest snapshot of a camera: so many bytes are room for any camera's.
 abbrev pub WriteSuffices : Camera → Type 0
-WriteSuffices c = (out : List ℕ) → 159 ≤ length out → Written c (snapshot c) out
+WriteSuffices c = (out : List ℕ) → longestWritten ≤ length out → Written c (snapshot c) out

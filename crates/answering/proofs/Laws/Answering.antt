@@ -3,11 +3,11 @@ use mathlib.Core.Bool.{Bool, true, false, cond}
 use Prim.Native.Nat.{ℕ, _≤_}
 use native.Mathlib.Omega.{arith}
 use lib.{Dec.{eqb, lit≤}, ListN.{length}}
-use Rattle.wire.specs.{Numbers.{bytesOf}, Selectors.{ev, face, metadata, hdr}}
+use Rattle.wire.specs.{Endpoints.{endpointLimit}, Numbers.{bytesOf}, Selectors.{ev, face, metadata, hdr}}
 use Rattle.request.specs.Answers.{longestAnswer}
 use Rattle.request.proofs.Laws.Answers.{answer-length}
 use Rattle.exposure.specs.Exposure.{evAttribute, evBytes}
-use Rattle.face.specs.Answers.{faceValue}
+use Rattle.face.specs.{Limits.{endpointsOf}, Answers.{faceValue}}
 use Rattle.face.proofs.Laws.Answers.{value-length}
 use Rattle.metadata.specs.Metadata.{metadataAttribute}
 use Rattle.hdr.specs.Hdr.{hdrAttribute}
@@ -17,7 +17,7 @@ use Rattle.profile.specs.declared.Profile.{Profile}
 use Rattle.settings.specs.declared.settings.Settings.{Settings}
 use Rattle.answering.specs.Answering.{valueOf, controlAnswer}
 
-module _ (p : Profile) (s : Settings) (selector code : ℕ) where
+module _ (p : Profile) (few : endpointsOf (p .face) ≤ endpointLimit) (s : Settings) (selector code : ℕ) where
   value-fits : length (valueOf p s selector code) ≤ longestAnswer
   unfolding valueOf evBytes bytesOf
   value-fits = go (eqb selector ev) (eqb selector face) (eqb selector metadata) (eqb selector hdr)
@@ -29,7 +29,7 @@ module _ (p : Profile) (s : Settings) (selector code : ℕ) where
           (cond e (bytesOf 4 (hdrAttribute (p .hdr) (s .hdr) code))
           (throttleBytes (throttleAttribute (p .throttle) (s .throttle) code) (p .throttle)))))) ≤ longestAnswer
       go true b d e = lit≤ tt
-      go false true d e = value-length (p .face) (s .face) code
+      go false true d e = value-length (p .face) (s .face) code few
       go false false true e = lit≤ tt
       go false false false true = lit≤ tt
       go false false false false = omega (arith, throttle-length (throttleAttribute (p .throttle) (s .throttle) code) (p .throttle))

@@ -1,15 +1,15 @@
--- A camera's snapshot is no longer than 159 bytes: no more endpoints hold a setting than the profile lists. Assumes nothing.
+-- How long a camera's snapshot is: no more endpoints hold a setting than the profile lists. Assumes nothing.
 use mathlib.Core.{Path.{_≡_, refl, ap, sym, _∙_}, List.{List, [], _∷_}, Option.{Option, none, some, Option·map}}
 use mathlib.Core.Bool.{Bool, true, false, cond, not, _||_}
 use Prim.Native.Nat.{ℕ, zero, suc, _+_, _-_, _≤_}
 use native.Mathlib.{Nat.{zero-add, add-zero}, Omega.{arith}}
 use lib.{Dec.{eqb}, ListN.{length, getD}}
 use borrow.Author.Tests.{eqb-true, eqb-false}
-use Rattle.wire.specs.{Endpoints.{firstAddress, places, endpointLimit}, Rows.{_⇒_}, Uvc.{outOfRange, invalidValue}}
+use Rattle.wire.specs.{Endpoints.{firstAddress, places}, Rows.{_⇒_}, Uvc.{outOfRange, invalidValue}}
 use Rattle.flags.specs.Flags.{oneFlag}
 use Rattle.wire.proofs.Laws.Rows.{quiet}
-use Rattle.snapshot.specs.Records.{countOne, recordCount}
-use Rattle.snapshot.proofs.Laws.Lengths.{encode-short}
+use Rattle.snapshot.specs.{Keys.{lengthWith, longestWritten}, Records.{countOne, recordCount}}
+use Rattle.snapshot.proofs.Laws.Lengths.{encode-length, encode-short}
 use Rattle.face.specs.{declared.limits.FaceLimits.{FaceLimits}, Limits.{addressAt, offersAt, offersFrom, offersOf, endpointsOf}}
 use Rattle.settings.specs.Kept.{valueRefusal}
 use Rattle.entries.specs.Entries.{isChoice, settingRefusal}
@@ -142,10 +142,15 @@ module _ (c : Camera) (w : recordWellFormed c ≡ true) where
       go none e ih = omega arith
       go (some s) e ih = rw (held-listed k s l (omega arith) e) (omega arith)
 
-  -- at most eight endpoints hold a setting
-  few-held : recordCount places 1 rows ≤ endpointLimit
+  -- no more endpoints hold a setting than are listed
+  few-held : recordCount places 1 rows ≤ endpointsOf limits
   few-held = omega (arith, held-tally places 1 (omega arith) (omega arith), tally-listed limits (endpointsOf limits) places 1)
 
-  pub snapshot-short : length (snapshot c) ≤ 159
+  pub snapshot-short : length (snapshot c) ≤ lengthWith (endpointsOf limits)
   unfolding snapshot
-  snapshot-short = encode-short rows (held-records c w) few-held
+  snapshot-short = encode-short rows (held-records c w) (endpointsOf limits) few-held
+
+  -- at most every address has a record, and a profile may list them all
+  pub snapshot-most : length (snapshot c) ≤ longestWritten
+  unfolding snapshot
+  snapshot-most = encode-length rows (held-records c w)

@@ -1,7 +1,9 @@
 -- `get` meets its contract. Assumes nothing.
 use mathlib.Core.{Path.{_≡_, ap, ap₂, _∙_}, List.{List}}
 use Prim.Native.Nat.{ℕ, _≤_}
+use native.Mathlib.Omega.{arith}
 use lib.ListN.{length, take}
+use Rattle.wire.specs.Endpoints.{endpointLimit}
 use Rattle.request.specs.{declared.reply.Sent.{Sent}, Reply.{sentOf, replyOf}, Tests.{asked, fullAnswer}, Answers.{longestAnswer}}
 use Rattle.request.proofs.Laws.Packed.{unpack, unpack-room, unpack-length}
 use Rattle.answering.specs.Answering.{controlAnswer}
@@ -11,11 +13,15 @@ use borrow.Author.Needs.{needs}
 use Rattle.camera.proofs.record.Camera.get.Statement.{statement}
 use Rattle.camera.proofs.record.Camera.get.Tie as tie
 
--- the answer is as long as it may be
+-- the profile has its places
+places : (c : tie.Start) → length (c .args .self .profile .face .addresses) ≡ endpointLimit
+places c = search needs
+
+-- so the answer is as long as it may be
 fits : (c : tie.After-answer) → let a = c .before .before .before .before .before .args in
     length (controlAnswer (a .self .profile) (a .self .settings) (c .before .before .selector .result) (c .before .code .result))
     ≤ longestAnswer
-fits c = answer-fits _ _ _ _
+fits c = let e = places (c .before .before .before .before .before) in answer-fits _ (omega arith) _ _ _
 
 -- and is the one that the setup asks for
 is-asked : (c : tie.After-answer) → let a = c .before .before .before .before .before .args in
