@@ -216,7 +216,7 @@ module _ (c : Camera) (o : Ok (c .profile) c) (payload : List ℕ) (r : profileR
         bytes = λ i j h k q. current-entry d j k ∙ ap₂ entryOf q (flags-listed i j h q) ∙ sym (payload-entry payload i b (omega arith));
         others = held-other;
         unnamed = λ j h no.
-            let e = held-other (addressAt limits j) (place-listed limits v j (omega arith) .first) no in
+            let e = held-other (addressAt limits j) (place-listed _ limits v j (omega arith) .first) no in
             current-entry d j h
             ∙ ap (entryOf (addressAt limits j)) (current-same limits (d .settings .face) j (c .settings .face) e)
             ∙ sym (current-entry c j h);

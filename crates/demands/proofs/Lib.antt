@@ -6,5 +6,6 @@ pub mod Sensor
 pub mod Flags
 pub mod Lists
 pub mod Loading
+pub mod Endpoints
 pub mod Programs
 pub mod Table

@@ -86,16 +86,17 @@ run-sets p c o (e ∷ l) =
     ∙ ap (withSettings c) (sym (puts-append (c .settings) (gives p (c .streaming) call) (given p (c .streaming) (recordSets p l))))
 
 -- a snapshot without a form fault, on a camera that is not refused 0x21
-module _ (c : Camera) (o : Ok (c .profile) c) (s : List ℕ) (w : wellFormed s ≡ true) where
-  load-fault : loaded c s .code ≡ firstFault (c .profile) (c .streaming) (recordsOf s)
-  unfolding loadTests loadRefusal
-  load-fault =
-      let p = c .profile in
-      let f = c .streaming in
-      load-answer c s (o .formed)
-      ∙ rw w (answers-number (loadRefusal p f s))
-      ∙ sym (ap (firstFault p f) (records-entries s w) ∙ fault-entries p (formed-profile c (o .formed)) f (decode s) (decode-good s) keys 0)
+pub load-fault : (c : Camera) → recordWellFormed c ≡ true → (s : List ℕ) → wellFormed s ≡ true
+    → loaded c s .code ≡ firstFault (c .profile) (c .streaming) (recordsOf s)
+unfolding loadTests loadRefusal
+load-fault c formed s w =
+    let p = c .profile in
+    let f = c .streaming in
+    load-answer c s formed
+    ∙ rw w (answers-number (loadRefusal p f s))
+    ∙ sym (ap (firstFault p f) (records-entries s w) ∙ fault-entries p (formed-profile c formed) f (decode s) (decode-good s) keys 0)
 
+module _ (c : Camera) (o : Ok (c .profile) c) (s : List ℕ) (w : wellFormed s ≡ true) where
   load-given : loaded c s .code ≡ 0
       → gives (c .profile) (c .streaming) (load s) ≡ given (c .profile) (c .streaming) (recordSets (c .profile) (recordsOf s))
   unfolding gives loadGives
@@ -108,9 +109,9 @@ module _ (c : Camera) (o : Ok (c .profile) c) (s : List ℕ) (w : wellFormed s �
 
   pub load-counts : CountsAsSets c s
   load-counts = record {
-    answer = load-fault;
-    accepted-each = λ e. fault-none (c .profile) (c .streaming) (recordsOf s) (sym load-fault ∙ e);
-    each-accepted = λ a. load-fault ∙ none-fault (c .profile) (c .streaming) (recordsOf s) a;
+    answer = load-fault c (o .formed) s w;
+    accepted-each = λ e. fault-none (c .profile) (c .streaming) (recordsOf s) (sym (load-fault c (o .formed) s w) ∙ e);
+    each-accepted = λ a. load-fault c (o .formed) s w ∙ none-fault (c .profile) (c .streaming) (recordsOf s) a;
     settings = load-given;
     camera = λ e. load-next c s (o .formed) ∙ ap (puts c) (load-given e) ∙ sym (run-sets (c .profile) c o (recordsOf s));
   }

@@ -15,7 +15,7 @@ use Rattle.camera.specs.Calls.{recordCode, streamed, sensed, Call, request, str
 use Rattle.demands.specs.Refusals.{Unchanged}
 
 -- a call by its number: where that is not 0, it is refused
-by-number : (code : ℕ) (c : Camera) (done : Outcome) → done .code ≡ 0 → (outcomeBy code c done .code ≡ 0 → ⊥)
+pub by-number : (code : ℕ) (c : Camera) (done : Outcome) → done .code ≡ 0 → (outcomeBy code c done .code ≡ 0 → ⊥)
     → (code ≡ 0 → ⊥) × (outcomeBy code c done ≡ refused code c)
 by-number code c done z n = go (eqb code 0) refl n
   where

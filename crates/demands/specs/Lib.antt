@@ -7,6 +7,7 @@ pub mod Sensor
 pub mod Flags
 pub mod Lists
 pub mod Loading
+pub mod Endpoints
 pub mod Programs
 pub mod Bench
 pub mod Table

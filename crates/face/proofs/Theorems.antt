@@ -1,15 +1,15 @@
--- What an endpoint offers, and its default; specs/Theorems says what the words of it mean. Assumes nothing.
+-- What an endpoint offers, its default, and the limit of endpoints; specs/Theorems says what the words of it mean. Assumes nothing.
 use Prim.Native.Nat.{ℕ, zero, suc, _+_, _≤_, _<_}
-use mathlib.Core.{Path.{_≡_, refl}, Bool.{Bool, true, false, not, cond, _||_}}
-use native.Mathlib.Omega.{arith}
+use mathlib.Core.{Path.{_≡_, refl, _∙_}, Bool.{Bool, true, false, not, cond, _||_}}
+use native.Mathlib.{Nat.{zero-add}, Omega.{arith}}
 use lib.Dec.{lit<}
 use Rattle.wire.specs.Rows.{allBelow}
 use Rattle.wire.proofs.Laws.Below.{all-at, all-of}
 use Rattle.flags.specs.Flags.{isSet, bitsOf, count, first, oneFlag}
 use Rattle.flags.proofs.Laws.Bits.{high-clear}
 use Rattle.face.specs.{Limits.{offersValid}, Answers.{defaultOf}}
-use Rattle.face.specs.Theorems.{OneMode, OffersByFlags, DefaultChosen, DefaultsChosen}
-use Rattle.face.proofs.Laws.Limits.{offers-between}
+use Rattle.face.specs.Theorems.{OneMode, OffersByFlags, DefaultChosen, DefaultsChosen, LimitRaised, NoMoreListed}
+use Rattle.face.proofs.Laws.Limits.{offers-between, count-places, one-more}
 
 -- a claim of 2, 3, 4 and 5 is one of all valid offers
 valid-four : (P : ℕ → Type 0) → P 2 → P 3 → P 4 → P 5 → (o : ℕ) → offersValid o ≡ true → P o
@@ -52,3 +52,12 @@ offers-by-flags o h = (
 pub defaults-chosen : DefaultsChosen
 unfolding isSet bitsOf count first oneFlag defaultOf
 defaults-chosen = valid-four DefaultChosen refl refl refl refl
+
+pub limit-raised : LimitRaised
+limit-raised low zero l z = rw zero-add
+limit-raised low (suc more) l z =
+    let e : suc more + low ≡ suc (more + low) = omega arith in
+    limit-raised low more l z ∙ rw e (one-more l (more + low) (z .addresses _ (omega arith)) (z .offers _ (omega arith)))
+
+pub no-more-listed : NoMoreListed
+no-more-listed = count-places

@@ -1,8 +1,10 @@
--- What an endpoint offers, and its default, by the places of flags. proofs/Theorems proves each.
-use Prim.Native.Nat.{ℕ, _<_}
+-- What an endpoint offers, and its default, by the places of flags; and what the limit of endpoints changes. proofs/Theorems proves each.
+use Prim.Native.Nat.{ℕ, _+_, _≤_, _<_}
 use mathlib.Core.{Path.{_≡_}, Bool.{true, false, not, cond}, Logic.{_↔_}}
 use Rattle.flags.specs.{declared.Choice.the-variants.{At}, Flags.{isSet, oneFlag}}
-use Rattle.face.specs.{Limits.{offersValid}, Answers.{defaultOf}}
+use Rattle.wire.specs.Endpoints.{places}
+use Rattle.face.specs.{declared.limits.FaceLimits.{FaceLimits}, Limits.{addressAt, offersAt, offersValid, faceValidUnder}}
+use Rattle.face.specs.Answers.{defaultOf}
 
 -- one of D1 and D2 and not both, D0 or not, and no flag above
 pub record OneMode (offers : ℕ) : Type 0 where
@@ -19,3 +21,16 @@ DefaultChosen offers = oneFlag offers (defaultOf offers) ≡ At (cond (isSet off
 
 abbrev pub DefaultsChosen : Type 0
 DefaultsChosen = (offers : ℕ) → offersValid offers ≡ true → DefaultChosen offers
+
+-- places from `low` on are zero
+pub record ZerosFrom (low : ℕ) (l : FaceLimits) : Type 0 where
+  pub addresses : (i : ℕ) → low ≤ i → addressAt l i ≡ 0
+  pub offers : (i : ℕ) → low ≤ i → offersAt l i ≡ 0
+
+-- A higher limit changes nothing where the places that it adds are zero, whatever is counted.
+abbrev pub LimitRaised : Type 0
+LimitRaised = (low more : ℕ) (l : FaceLimits) → ZerosFrom low l → faceValidUnder low l ≡ faceValidUnder (more + low) l
+
+-- Under no limit can more endpoints be listed than there are addresses from 0x81 to 0x8F.
+abbrev pub NoMoreListed : Type 0
+NoMoreListed = (limit : ℕ) (l : FaceLimits) → faceValidUnder limit l ≡ true → l .count ≤ places

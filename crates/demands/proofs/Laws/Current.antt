@@ -80,6 +80,6 @@ module _ (c : Camera) (j : ℕ) (h : j < endpointsOf (c .profile .face)) where
   pub face-default : recordWellFormed c ≡ true → has (c .profile) selector.face ≡ true → held c key ≡ none
       → entryBytes (cameraAnswer c selector.face getCur) j ≡ entryBytes (cameraAnswer c selector.face getDef) j
   face-default w g e =
-      let p = place-listed (c .profile .face) (valid-face (c .profile) (formed-profile c w) g) j (omega arith) in
+      let p = place-listed _ (c .profile .face) (valid-face (c .profile) (formed-profile c w) g) j (omega arith) in
       let q = face-unset address (heldAt (c .settings .face) address) (sym (place-held (p .first) (p .last)) ∙ e) in
       current-entry c j h ∙ ap (entryOf address) (current-unset (c .profile .face) (c .settings .face) j q) ∙ sym (default-entry c j h)

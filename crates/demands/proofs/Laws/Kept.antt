@@ -93,7 +93,7 @@ module _ (p : Profile) (payload : List ℕ) (i : ℕ) (e : entryRefusal (p .face
 
   entry-proper : faceValid (p .face) ≡ true → Proper (S.Face (entryAddress payload i) (entryFlags payload i))
   entry-proper f =
-      let l = listed (p .face) f (entryAddress payload i) (eqb-false offers 0 (entry-tests .0)) in
+      let l = listed _ (p .face) f (entryAddress payload i) (eqb-false offers 0 (entry-tests .0)) in
       (l .first, l .last, choice-some offers (entryFlags payload i) (entry-tests .1 .1 .0))
 
 -- what an item gives is good, where the control's own tests hold

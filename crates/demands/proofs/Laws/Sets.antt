@@ -98,7 +98,7 @@ module _ (k : ℕ) (r : List ℕ) (g : IsRecord k r) where
       go (ev e) = rw e (omega (arith, payload-length selectors.ev e))
       go (face e) =
           let n = payload-length selectors.face e in
-          let few : 1 ≤ p .face .count = count-least (p .face) (valid-face p v (rw e at h)) in
+          let few : 1 ≤ p .face .count = count-least _ (p .face) (valid-face p v (rw e at h)) in
           rw e (set-length-first (p .face) (drop 4 r) (λ z. omega arith) ∙ rw (one-entry e, le-leb 1 (p .face .count) few) (omega arith))
       go (metadata e) = rw e (omega (arith, payload-length selectors.metadata e))
       go (hdr e) = rw e (omega (arith, payload-length selectors.hdr e))

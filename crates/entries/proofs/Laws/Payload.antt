@@ -78,7 +78,7 @@ module _ (l : FaceLimits) (valid : faceValid l ≡ true) where
   pub len-taken : (rest : List ℕ) → faceSetLength l (l .count ∷ rest) ≡ 1 + 8 * endpointsOf l
   unfolding faceSetLength
   len-taken rest =
-      let e : l .count ≡ endpointsOf l = omega (arith, count-placed l valid) in
+      let e : l .count ≡ endpointsOf l = omega (arith, count-placed _ l valid) in
       rw (le-leb (l .count) (l .count) (omega arith)) (ap (λ (n : ℕ). 1 + 8 * n) e)
 
   pub len-longest : (s : List ℕ) → faceSetLength l s ≤ 1 + 8 * endpointsOf l
@@ -87,5 +87,5 @@ module _ (l : FaceLimits) (valid : faceValid l ≡ true) where
   len-longest (n ∷ s) = go (leb n (l .count)) refl
     where
       go : (b : Bool) → leb n (l .count) ≡ b → cond b (1 + 8 * n) 0 ≤ 1 + 8 * endpointsOf l
-      go true e = omega (arith, leb-true n (l .count) e, count-placed l valid)
+      go true e = omega (arith, leb-true n (l .count) e, count-placed _ l valid)
       go false e = omega arith

@@ -1,13 +1,13 @@
 -- The endpoints that a profile lists: what a valid one says of each, and where an address stands among them. Assumes nothing.
-use mathlib.Core.{Path.{_≡_, refl, _∙_}, Bool.{Bool, true, false, cond, _||_, and-eq-true-iff}}
+use mathlib.Core.{Path.{_≡_, refl, _∙_}, Bool.{Bool, true, false, cond, _&&_, _||_, and-true, and-false, and-eq-true-iff}}
 use Prim.Native.Nat.{ℕ, zero, suc, _+_, _-_, _/_, _≤_, _<_}
 use native.Mathlib.{Numerals.{add-one, sub-one}, Omega.{arith}}
-use lib.{Dec.{ltb, eqb}, ListN.{length, List·getD-eq-default}}
-use borrow.Author.Tests.{eq-eqb, ne-eqb, eqb-true, lt-ltb, le-ltb, ltb-true, ltb-false, leb-true}
+use lib.{Dec.{leb, ltb, eqb}, ListN.{length, List·getD-eq-default}}
+use borrow.Author.Tests.{eq-eqb, ne-eqb, eqb-true, lt-ltb, le-ltb, le-leb, lt-leb, ltb-true, ltb-false, leb-true}
 use Rattle.wire.proofs.Laws.Below.{all-at}
-use Rattle.wire.specs.Endpoints.{firstAddress, lastAddress, endpointLimit}
+use Rattle.wire.specs.{Endpoints.{firstAddress, lastAddress, places, endpointLimit}, Rows.{allBelow}}
 use Rattle.face.specs.declared.limits.FaceLimits.{FaceLimits}
-use Rattle.face.specs.Limits.{endpointsOf, addressAt, offersAt, offersValid, addressBefore, endpointValid, faceValid, faceValidUnder, offersFrom}
+use Rattle.face.specs.Limits.{endpointsOf, addressAt, offersAt, offersValid, addressBefore, endpointValid, faceValidUnder, offersFrom}
 use Rattle.face.specs.Limits.{offersOf, placeFrom, placeOf}
 
 -- a place behind the first comes after the one before it
@@ -31,25 +31,25 @@ offers-between o h = go (eqb (o / 2) 1) (eqb (o / 2) 2) refl refl h
     go false true e f g = omega (arith, eqb-true (o / 2) 2 f)
     go false false e f g = let z : _≡_ {A = ℕ} 0 1 = cc in absurd (omega arith)
 
-module _ (l : FaceLimits) (valid : faceValid l ≡ true) where
+module _ (limit : ℕ) (l : FaceLimits) (valid : faceValidUnder limit l ≡ true) where
   pub count-least : 1 ≤ l .count
   unfolding faceValidUnder
   count-least = leb-true 1 (l .count) (simp and-eq-true-iff at valid .0 .0)
 
-  pub count-most : l .count ≤ endpointLimit
+  pub count-most : l .count ≤ limit
   unfolding faceValidUnder
-  count-most = leb-true (l .count) endpointLimit (simp and-eq-true-iff at valid .0 .1)
+  count-most = leb-true (l .count) limit (simp and-eq-true-iff at valid .0 .1)
 
   place-valid : (i : ℕ) → i < l .count
       → (addressBefore l i < addressAt l i) × (addressAt l i ≤ lastAddress) × (2 ≤ offersAt l i) × (offersAt l i ≤ 5)
   unfolding faceValidUnder endpointValid
   place-valid i h =
-      let v = all-at endpointLimit (endpointValid l) (simp and-eq-true-iff at valid .1) i (omega (arith, count-most)) in
+      let v = all-at limit (endpointValid l) (simp and-eq-true-iff at valid .1) i (omega (arith, count-most)) in
       let w = simp and-eq-true-iff at (rw (lt-ltb i (l .count) h) at v) in
       let o = offers-between (offersAt l i) (w .1) in
       (ltb-true (addressBefore l i) (addressAt l i) (w .0 .0), leb-true (addressAt l i) lastAddress (w .0 .1), o .0, o .1)
 
-  above : (i : ℕ) → i < l .count → firstAddress ≤ addressAt l i
+  above : (i : ℕ) → i < l .count → firstAddress + i ≤ addressAt l i
   unfolding addressBefore
   above zero h = place-valid zero h .0
   above (suc i) h = omega (arith, above i (omega arith), place-valid (suc i) h .0)
@@ -65,8 +65,16 @@ module _ (l : FaceLimits) (valid : faceValid l ≡ true) where
           absurd (omega (arith, above n (ltb-true n (l .count) e)))
       go false e = omega (arith, ltb-false (length (l .addresses)) (l .count) e)
 
+  -- addresses ascend from the first one on, so no more are listed than there are
+  pub count-places : l .count ≤ places
+  count-places = go (l .count) refl
+    where
+      go : (n : ℕ) → l .count ≡ n → n ≤ places
+      go zero e = omega arith
+      go (suc n) e = let h : n < l .count = omega arith in omega (arith, above n h, place-valid n h .1)
+
   pub place-listed : (i : ℕ) → i < l .count → Listed (addressAt l i) (offersAt l i)
-  place-listed i h = let p = place-valid i h in record { first = above i h; last = p .1; least = p .2; most = p .3 }
+  place-listed i h = let p = place-valid i h in record { first = omega (arith, above i h); last = p .1; least = p .2; most = p .3 }
 
   -- what a look-up finds is listed
   found : (address n i : ℕ) → i + n ≤ l .count → (offersFrom l address n i ≡ 0 → ⊥) → Listed address (offersFrom l address n i)
@@ -83,6 +91,26 @@ module _ (l : FaceLimits) (valid : faceValid l ≡ true) where
   pub listed : (address : ℕ) → (offersOf l address ≡ 0 → ⊥) → Listed address (offersOf l address)
   unfolding offersOf
   listed address p = found address (endpointsOf l) 0 (omega (arith, count-most)) p
+
+-- a limit of one place more, which is zero: if the place is counted neither list is valid, else both are or neither
+pub one-more : (l : FaceLimits) (n : ℕ) → addressAt l n ≡ 0 → offersAt l n ≡ 0 → faceValidUnder n l ≡ faceValidUnder (suc n) l
+unfolding faceValidUnder endpointValid allBelow
+one-more l n a o = rw (a, o) (go (ltb n (l .count)) refl)
+  where
+    go : (b : Bool) → ltb n (l .count) ≡ b
+        → leb 1 (l .count) && leb (l .count) n && allBelow n (endpointValid l)
+        ≡ leb 1 (l .count) && leb (l .count) (suc n)
+        && (allBelow n (endpointValid l) && cond b (ltb (addressBefore l n) 0 && leb 0 lastAddress && offersValid 0) true)
+    go true e = simp (lt-leb (l .count) n (ltb-true n (l .count) e), and-false)
+    go false e = let h = ltb-false n (l .count) e in simp (le-leb (l .count) n h, le-leb (l .count) (suc n) (omega arith), and-true)
+
+-- an address that no place has offers nothing
+pub offers-unlisted : (l : FaceLimits) (address n i : ℕ) → ((j : ℕ) → j < i + n → addressAt l j ≡ address → ⊥)
+    → offersFrom l address n i ≡ 0
+unfolding offersFrom
+offers-unlisted l address zero i h = refl
+offers-unlisted l address (suc n) i h =
+    rw (ne-eqb (addressAt l i) address (h i (omega arith))) (offers-unlisted l address n (suc i) (λ j g. h j (omega arith)))
 
 -- looking an address up: at its place, and past another's
 module _ (l : FaceLimits) (address n i : ℕ) (h : i < n) where

@@ -3,7 +3,7 @@ use mathlib.Core.{Path.{_≡_, refl, ap, sym, _∙_}, List.{List, [], _∷_, _++
 use mathlib.Core.Bool.{Bool, true, false, cond, not, true≢false}
 use Prim.Native.Nat.{ℕ, zero, suc, _+_}
 use native.Mathlib.Omega.{arith}
-use lib.Dec.{eqb}
+use lib.{Dec.{eqb}, ListN.{length}}
 use borrow.Author.Tests.{eq-eqb, ne-eqb, eqb-true}
 use Rattle.wire.specs.Rows.{Row, _⇒_, answers, firstOf, firstFrom, Quiet, AnswersAt}
 
@@ -90,3 +90,13 @@ pub answers-none : (k : ℕ) (rows : List Row) → Quiet rows → firstFrom k ro
 answers-none k [] q = refl
 answers-none k ((true ⇒ code) ∷ rows) q = cc
 answers-none k ((false ⇒ code) ∷ rows) q = answers-none (suc k) rows (q .1)
+
+-- the last row answers where those before it fail and it holds
+pub last-answers : (k : ℕ) (rows : List Row) (test : Bool) (code : ℕ) → firstFrom k (rows ++ ((test ⇒ code) ∷ [])) ≡ some (length rows + k)
+    → Quiet rows × (test ≡ true)
+last-answers k [] true code e = (tt, refl)
+last-answers k [] false code e = let z : _≡_ {A = ℕ} 0 1 = cc in absurd (omega arith)
+last-answers k ((true ⇒ c) ∷ rows) test code e = let z : k ≡ suc (length rows) + k = cc in absurd (omega arith)
+last-answers k ((false ⇒ c) ∷ rows) test code e =
+    let n : suc (length rows) + k ≡ length rows + suc k = omega arith in
+    let q = last-answers (suc k) rows test code (e ∙ ap some n) in ((refl, q .0), q .1)

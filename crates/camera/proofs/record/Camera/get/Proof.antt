@@ -21,7 +21,7 @@ places c = search needs
 fits : (c : tie.After-answer) → let a = c .before .before .before .before .before .args in
     length (controlAnswer (a .self .profile) (a .self .settings) (c .before .before .selector .result) (c .before .code .result))
     ≤ longestAnswer
-fits c = let e = places (c .before .before .before .before .before) in answer-fits _ (omega arith) _ _ _
+fits c = let e = places (c .before .before .before .before .before) in answer-fits _ _ _ _ (λ f. omega arith)
 
 -- and is the one that the setup asks for
 is-asked : (c : tie.After-answer) → let a = c .before .before .before .before .before .args in

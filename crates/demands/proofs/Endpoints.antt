@@ -1,0 +1,179 @@
+-- Request #107, up to fifteen endpoints; specs/Endpoints has the statements. Assumes nothing.
+use mathlib.Core.{Path.{_≡_, refl, ap, sym, _∙_}, List.{List, [], _∷_, _++_}, Option.{Option, none, some}}
+use mathlib.Core.Bool.{Bool, true, false, cond, not, _&&_, and-eq-true-iff}
+use Prim.Native.Nat.{ℕ, zero, suc, _≤_, _<_}
+use native.Mathlib.Omega.{arith}
+use lib.{Dec.{eqb, ltb}, ListN.{length, getD, drop}, Seq.{getD-drop}}
+use borrow.Author.Tests.{ltb-true, not-false, eqb-true, eqb-false, eq-eqb}
+use Rattle.wire.specs.{Endpoints.{endpointLimit}, Numbers.{number, leAt, bytesOf, bits32}, Rows.{_⇒_, allBelow}}
+use Rattle.wire.specs.Uvc.{malformedRecord, noRoom, outOfRange}
+use Rattle.wire.specs.Selectors as selector
+use Rattle.wire.proofs.Laws.Rows.{last-answers}
+use Rattle.flags.specs.Flags.{isSet, bitsOf, count, first, oneFlag}
+use Rattle.request.specs.{Setup.{isSetRequest, setupSelector, setupCode}, Answers.{answerBy, longestAnswer}}
+use Rattle.request.specs.Tests.{requestTests, valueTests, fullAnswer, sentCount, requestRows, requestCode, testNumber, tableRefusal}
+use Rattle.snapshot.specs.{Keys.{keys}, Records.{records, encode, decode, IsRecord, GoodAt, Good, KeyedRecord, Each}}
+use Rattle.snapshot.proofs.Laws.{Maps.{decode-good}, Entries.{entryAt, entries, records-entries}}
+use Rattle.controls.specs.Controls.{itemOf, itemCode, firstRefusal}
+use Rattle.exposure.specs.Exposure.{inRange, refusalAt, evRefusal, evBytes}
+use Rattle.face.specs.Limits.{endpointsOf, addressBefore, endpointValid, faceValidUnder, offersFrom, offersOf}
+use Rattle.face.specs.Answers.{flagsAt, entriesOf, faceValue}
+use Rattle.face.proofs.{Theorems.{limit-raised}, Laws.Limits.{count-most, offers-unlisted}}
+use Rattle.entries.specs.Entries.{entryAddress, seenIn, faceSetLength, isChoice, entryRefusal, faceItem, settingRefusal}
+use Rattle.entries.proofs.Laws.{Entries.{entry-code}, Payload.{len-longest}}
+use Rattle.metadata.specs.Metadata.{metadataRefusal}
+use Rattle.hdr.specs.Hdr.{hdrRefusal}
+use Rattle.throttle.specs.Throttle.{throttleRefusal, throttleBytes}
+use Rattle.profile.specs.{declared.Profile.{Profile}, Profile.{has, setLength, presenceValid, profileValid, profileValidUnder, profileRefusal}}
+use Rattle.profile.specs.Items.{profileItem, setRefusal}
+use Rattle.profile.proofs.Laws.Profile.{valid-face}
+use Rattle.settings.specs.{Held.{settingsHeld}, Kept.{valueRefusal, kept, settingsWellFormedUnder}}
+use Rattle.answering.specs.Answering.{valueOf, controlAnswer}
+use Rattle.answering.proofs.Laws.Answering.{answer-fits}
+use Rattle.camera.specs.{declared.record.Camera.{Camera}, Record.{recordWellFormed, recordWellFormedUnder}}
+use Rattle.camera.specs.{Requests.{table, cameraAnswer, refused, requestDone, requested}, Writing.{snapshot}, Calls.{request, outcome}}
+use Rattle.camera.specs.Loading.{selectorAt, recordItem, loadCode, loadCodeUnder, loaded, loadedUnder}
+use Rattle.camera.proofs.Laws.Record.{formed-profile}
+use Rattle.encoding.specs.Encoding.{recordOf}
+use Rattle.demands.specs.Loading.{setCode, firstFault}
+use Rattle.demands.specs.Endpoints.{AllCameraLengths, LengthsReached, fullProfile, fullCamera, oldLimit, OldShapesLoad, Unlisted}
+use Rattle.demands.specs.Endpoints.{RefusesUnlisted, AllNewSnapshots}
+use Rattle.demands.proofs.{Refusals.{by-number}, Loading.{record-as-set, load-fault}}
+use Rattle.demands.proofs.Laws.{Longest.{snapshot-short, snapshot-most}, Sets.{is-kind}}
+use Rattle.demands.proofs.Laws.Steps.{set-answer, accepted-control, accepted-length}
+
+-- the longest
+
+module _ (c : Camera) (w : recordWellFormed c ≡ true) where
+  -- as many endpoints as the limit, where the control is there
+  few : has (c .profile) selector.face ≡ true → endpointsOf (c .profile .face) ≤ endpointLimit
+  few h = omega (arith, count-most _ (c .profile .face) (valid-face (c .profile) (formed-profile c w) h))
+
+  answer-short : (control code : ℕ) → has (c .profile) control ≡ true → length (cameraAnswer c control code) ≤ longestAnswer
+  unfolding controlAnswer fullAnswer
+  answer-short control code h = answer-fits (c .profile) (c .settings) control code (λ e. few (rw e at h))
+
+  -- test 9 holds, and no test before it: then there are fewer bytes than an answer has
+  reply-suffices : (setup payload reply : List ℕ) → longestAnswer ≤ length reply
+      → testNumber (table c) setup payload (length reply) ≡ some 9 → ⊥
+  unfolding testNumber requestRows requestTests valueTests
+  reply-suffices setup payload reply h e =
+      let t = table c in
+      let q =
+      last-answers 1 ((not (t .formed) ⇒ malformedRecord) ∷ requestTests t setup payload ++ valueTests t setup payload)
+      (not (isSetRequest setup) && ltb (length reply) (sentCount t setup)) noRoom e in
+      let short : length reply < sentCount t setup = ltb-true _ _ (and-eq-true-iff (not (isSetRequest setup)) _ .0 (q .1) .1) in
+      let there = not-false (has (c .profile) (setupSelector setup)) (q .0 .1 .1 .1 .0) in
+      omega (arith, answer-short (setupSelector setup) (setupCode setup) there)
+
+  payload-short : (setup payload reply : List ℕ) → isSetRequest setup ≡ true → setupSelector setup ≡ selector.face
+      → outcome c (request setup payload reply) .code ≡ 0 → length payload ≤ longestAnswer
+  payload-short setup payload reply i f e =
+      let a = set-answer c setup payload (length reply) w i ∙ eq-eqb _ 0 e in
+      let h : has (c .profile) selector.face ≡ true = rw f at (accepted-control _ (c .streaming) setup payload a .0) in
+      let l : length payload ≡ setLength (c .profile) selector.face payload = rw f at (accepted-length _ (c .streaming) setup payload a) in
+      omega (arith, few h, len-longest (c .profile .face) (valid-face (c .profile) (formed-profile c w) h) payload)
+
+pub camera-lengths : AllCameraLengths
+camera-lengths c w = record {
+  payload = payload-short c w;
+  answer = λ h code. answer-short c w selector.face code h;
+  reply = reply-suffices c w;
+  written = snapshot-most c w;
+  listed = snapshot-short c w;
+}
+
+-- computed
+pub lengths-reached : LengthsReached
+unfolding fullProfile fullCamera number leAt bytesOf bits32 allBelow isSet bitsOf count first oneFlag answerBy
+    requestTests valueTests fullAnswer requestRows requestCode records encode itemOf itemCode firstRefusal inRange refusalAt evRefusal evBytes
+    addressBefore endpointValid faceValidUnder offersFrom offersOf flagsAt entriesOf faceValue seenIn faceSetLength isChoice entryRefusal
+    faceItem settingRefusal metadataRefusal hdrRefusal throttleRefusal throttleBytes presenceValid profileValidUnder profileRefusal
+    profileItem setRefusal settingsHeld valueRefusal kept settingsWellFormedUnder valueOf requestDone requested snapshot recordOf
+lengths-reached = record { formed = refl; answer = refl; payload = refl; written = refl }
+
+-- snapshots saved before
+
+pub old-shapes-load : OldShapesLoad
+unfolding settingsWellFormedUnder profileValidUnder loadedUnder loadCodeUnder
+old-shapes-load c z =
+    let e : recordWellFormedUnder oldLimit c ≡ recordWellFormed c = rw (limit-raised oldLimit 7 (c .profile .face) z) in
+    record { formed = e; loads = λ s. rw e }
+
+-- new snapshots on an older camera
+
+-- each record of a snapshot is a record of its key
+each-record : (n k : ℕ) (m : ℕ → Option (List ℕ)) → Good m → Each IsRecord (entries n k m)
+unfolding entries
+each-record zero k m g = tt
+each-record (suc n) k m g = go (m k) (g k) (each-record n (suc k) m g)
+  where
+    go : (o : Option (List ℕ)) → GoodAt k o → Each IsRecord (entries n (suc k) m) → Each IsRecord (entryAt k o ++ entries n (suc k) m)
+    go none p ih = ih
+    go (some r) p ih = (p, ih)
+
+each-at : (before after : List KeyedRecord) (e : KeyedRecord) → Each IsRecord (before ++ (e ∷ after)) → IsRecord (e .0) (e .1)
+each-at [] after e a = a .0
+each-at (x ∷ before) after e a = each-at before after e (a .1)
+
+-- the first fault of records, and of others behind them
+module _ (p : Profile) (f : Bool) where
+  fault-behind : (before l : List KeyedRecord) → firstFault p f before ≡ 0 → firstFault p f (before ++ l) ≡ firstFault p f l
+  fault-behind [] l z = refl
+  fault-behind (x ∷ before) l z = go (eqb (setCode p f (x .0) (x .1)) 0) refl z (fault-behind before l)
+    where
+      go : (b : Bool) → eqb (setCode p f (x .0) (x .1)) 0 ≡ b → cond b (firstFault p f before) (setCode p f (x .0) (x .1)) ≡ 0
+          → (firstFault p f before ≡ 0 → firstFault p f (before ++ l) ≡ firstFault p f l)
+          → cond b (firstFault p f (before ++ l)) (setCode p f (x .0) (x .1)) ≡ firstFault p f l
+      go true q z ih = ih z
+      go false q z ih = absurd (eqb-false _ 0 q z)
+
+  fault-before : (before l : List KeyedRecord) → (firstFault p f before ≡ 0 → ⊥) → firstFault p f (before ++ l) ≡ firstFault p f before
+  fault-before [] l n = absurd (n refl)
+  fault-before (x ∷ before) l n = go (eqb (setCode p f (x .0) (x .1)) 0) n (fault-before before l)
+    where
+      go : (b : Bool) → (cond b (firstFault p f before) (setCode p f (x .0) (x .1)) ≡ 0 → ⊥)
+          → ((firstFault p f before ≡ 0 → ⊥) → firstFault p f (before ++ l) ≡ firstFault p f before)
+          → cond b (firstFault p f (before ++ l)) (setCode p f (x .0) (x .1)) ≡ cond b (firstFault p f before) (setCode p f (x .0) (x .1))
+      go true m ih = ih m
+      go false m ih = refl
+
+-- a record of an endpoint that the profile doesn't list is 0x04
+unlisted-code : (p : Profile) → profileValid p ≡ true → has p selector.face ≡ true → (f : Bool) (k : ℕ) (r : List ℕ) → IsRecord k r
+    → Unlisted p r → setCode p f k r ≡ outOfRange
+unfolding recordItem tableRefusal profileItem entryRefusal offersOf
+unlisted-code p v h f k r g u =
+    let kind : selectorAt k ≡ selector.face = is-kind k r g ∙ u .kind in
+    let none : offersOf (p .face) (entryAddress (drop 4 r) 0) ≡ 0 =
+    ap (offersOf (p .face)) (getD-drop 4 r 1 0) ∙ offers-unlisted (p .face) (getD r 5 0) (endpointsOf (p .face)) 0 (λ j l. u .address j (omega arith)) in
+    record-as-set p v f k r g .code
+    ∙ rw (kind, h) (entry-code (p .face) (drop 4 r) 0 ∙ rw none)
+
+-- a load by its number
+load-refused : (c : Camera) (s : List ℕ) (code : ℕ) → loaded c s .code ≡ code → (code ≡ 0 → ⊥) → loaded c s ≡ refused code c
+unfolding loadedUnder
+load-refused c s code e n =
+    let r = by-number (loadCode c s) c _ refl (λ z. n (sym e ∙ z)) .1 in
+    r ∙ ap (λ code. refused code c) (sym (ap (λ o. o .code) r) ∙ e)
+
+refuses-unlisted : (c : Camera) → recordWellFormed c ≡ true → RefusesUnlisted endpointLimit c
+refuses-unlisted c w h s f before after e split u =
+    let p = c .profile in
+    let on = c .streaming in
+    let v = formed-profile c w in
+    let is = each-at before after e (rw (← split, records-entries s f) (each-record keys 0 (decode s) (decode-good s))) in
+    let here = unlisted-code p v h on (e .0) (e .1) is u in
+    let all = load-fault c w s f ∙ ap (firstFault p on) split in
+    record {
+      first = λ z. load-refused c s outOfRange (all ∙ fault-behind p on before (e ∷ after) z ∙ rw here) (λ q. omega arith);
+      earlier = λ n. load-refused c s _ (all ∙ fault-before p on before (e ∷ after) n) n;
+    }
+
+pub new-snapshots : AllNewSnapshots
+new-snapshots c = record {
+  now = refuses-unlisted c;
+  older = λ z w h s f before after e split u.
+      let b = old-shapes-load c z in
+      let r = refuses-unlisted c (sym (b .formed) ∙ w) h s f before after e split u in
+      record { first = λ q. b .loads s ∙ r .first q; earlier = λ n. b .loads s ∙ r .earlier n };
+}
