@@ -7,12 +7,17 @@ use hdr::HdrLimits;
 use metadata::MetadataLimits;
 use profile::Profile;
 use throttle::ThrottleLimits;
+use wire::endpoints;
 ghost use mathlib.Core.Path.{_≡_};
 ghost use Rattle.demands.specs.Bench.{benchProfile, bench};
 
 fn profile() -> Profile
     ensures { λ r. ⌜ r ≡ benchProfile ⌝ }
 {
+    let mut addresses = [0u8; endpoints::LIMIT];
+    addresses[0] = endpoints::FIRST;
+    let mut offers = [0u8; endpoints::LIMIT];
+    offers[0] = 0x03;
     Profile {
         unit: 4,
         interface: 0,
@@ -24,8 +29,8 @@ fn profile() -> Profile
         },
         face: FaceLimits {
             count: 1,
-            addresses: [0x81, 0, 0, 0, 0, 0, 0, 0],
-            offers: [0x03, 0, 0, 0, 0, 0, 0, 0],
+            addresses,
+            offers,
         },
         metadata: MetadataLimits {
             maximum: 0,

@@ -4,6 +4,8 @@ use crate::print;
 use camera::Camera;
 use printing::fill;
 use printing::text;
+use request::LONGEST_ANSWER;
+use snapshot::LONGEST_WRITTEN;
 
 fn header(title: &[u8]) {
     text(title);
@@ -13,7 +15,7 @@ fn header(title: &[u8]) {
 }
 
 fn snapshot(c: Camera) {
-    let mut out = [0u8; 159];
+    let mut out = [0u8; LONGEST_WRITTEN];
     let w = c.write(&mut out);
     print::label(b"  snapshot", 18);
     print::bytes(wire::head(&out, w.count), 0);
@@ -41,7 +43,7 @@ fn send(c: Camera, name: &[u8], setup: &[u8], payload: &[u8]) -> Camera {
     print::label(name, 18);
     print::bytes(setup, 25);
     print::bytes(wire::head(payload, 12), 37);
-    let mut reply = [0u8; 65];
+    let mut reply = [0u8; LONGEST_ANSWER];
     let done = c.request(setup, payload, &mut reply);
     let next = done.camera;
     answered(next, done.code, done.count, &reply);

@@ -2,7 +2,7 @@
 use mathlib.Core.{Bool.{true, false}, List.{_∷_}}
 use Prim.Native.Nat.{_-_}
 use lib.{IntN.{pos, negsuc}, ListN.{replicate}}
-use Rattle.wire.specs.Endpoints.{endpointLimit}
+use Rattle.wire.specs.Endpoints.{firstAddress, endpointLimit}
 use Rattle.profile.specs.declared.Profile.{Profile}
 use Rattle.camera.specs.{declared.record.Camera.{Camera}, Record.{fresh}}
 
@@ -14,7 +14,7 @@ benchProfile = record {
   ev = record { minimum = negsuc 1; maximum = pos 2; steps = 0x1F };
   face = record {
     count = 1;
-    addresses = 0x81 ∷ replicate (endpointLimit - 1) 0;
+    addresses = firstAddress ∷ replicate (endpointLimit - 1) 0;
     offers = 0x03 ∷ replicate (endpointLimit - 1) 0;
   };
   metadata = record { maximum = 0; writable = false };

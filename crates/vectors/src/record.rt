@@ -16,20 +16,22 @@ use profile::Profile;
 use settings::Settings;
 use throttle::HeldThrottle;
 use throttle::ThrottleLimits;
+use wire::endpoints;
 use wire::signed32;
 
 fn flag(w: &[u8]) -> bool {
     octet(w, 0) != 0
 }
 
-fn eight(w: &[u8]) -> [u8; 8] {
-    let mut b = [0u8; 8];
+// Bytes in a profile's places, and in the places of addresses; zeros behind them.
+fn listed(w: &[u8]) -> [u8; endpoints::LIMIT] {
+    let mut b = [0u8; endpoints::LIMIT];
     decode(w, &mut b);
     b
 }
 
-fn fifteen(w: &[u8]) -> [u8; 15] {
-    let mut b = [0u8; 15];
+fn by_address(w: &[u8]) -> [u8; endpoints::PLACES] {
+    let mut b = [0u8; endpoints::PLACES];
     decode(w, &mut b);
     b
 }
@@ -45,8 +47,8 @@ fn ev_limits(w: &[u8]) -> EvLimits {
 fn face_limits(count: &[u8], addresses: &[u8], offers: &[u8]) -> FaceLimits {
     FaceLimits {
         count: octet(count, 0),
-        addresses: eight(addresses),
-        offers: eight(offers),
+        addresses: listed(addresses),
+        offers: listed(offers),
     }
 }
 
@@ -115,7 +117,7 @@ fn throttle(w: &[u8]) -> HeldThrottle {
 pub(crate) fn holding(camera: Camera, call: &[u8]) -> Camera {
     let profile = camera.profile;
     let ev = ev(word(call, 1));
-    let face = fifteen(word(call, 2));
+    let face = by_address(word(call, 2));
     let metadata = held(word(call, 3));
     let hdr = held(word(call, 4));
     let throttle = throttle(word(call, 5));

@@ -42,7 +42,8 @@ returns c =
     let q = i .before .before in
     c .refuse .ensures
     ∙ load-stops _ _ (q .before .before .loop .inv) (q .before .loop-test .taken) (q .record-length .ensures)
-    (i .before .part-at .ensures .bytes) (i .record-item .ensures) (t .item-code .ensures) (c .before .if1 .taken)
+    (i .before .part-at .ensures .bytes) (i .record-item .ensures) (t .item-code .ensures)
+    (λ z. let n = c .before .if1 .taken in omega arith)
 
 put-item-requires : tie.Need-put-item-requires Inv-loop μ-loop
 put-item-requires c κs = search needs
@@ -81,8 +82,8 @@ loop-again c =
     let i = t .before in
     let q = i .before .before in
     load-next _ _ (q .before .before .loop .inv) (q .before .loop-test .taken) (q .record-length .ensures)
-    (i .before .part-at .ensures .bytes) (i .record-item .ensures) (t .item-code .ensures) (e .if1 .left)
-    (c .before .put-item .ensures) (c .key-at2 .ensures)
+    (i .before .part-at .ensures .bytes) (i .record-item .ensures) (t .item-code .ensures)
+    (let z = e .if1 .left in omega arith) (c .before .put-item .ensures) (c .key-at2 .ensures)
 
 with-settings-requires : tie.Need-with-settings-requires Inv-loop μ-loop
 with-settings-requires c κs = search needs
