@@ -85,7 +85,7 @@ uint8_t camera_request(struct camera *c, const uint8_t *setup, size_t setup_len,
     }
     if (len)
         return UNKNOWN;
-    uint8_t a[1 + 8 * ENDPOINTS];
+    uint8_t a[LONGEST_ANSWER];
     size_t n = answer(c, selector, setup[1], a);
     if (n > wlength)
         n = wlength;

@@ -12,7 +12,8 @@ enum { BLOCK = 65535, FEATURES = 65534, PROPERTIES = 65530 };
 static const uint8_t full[RECORD] = {
     4, 0, 0x24, 0x31, 0, 0,
     0xFE, 0xFF, 0xFF, 0xFF, 2, 0, 0, 0, 0x1F,
-    8, 0x81, 0x82, 0x83, 0x85, 0x87, 0x88, 0x8A, 0x8F, 3, 5, 2, 4, 3, 5, 3, 5,
+    8, 0x81, 0x82, 0x83, 0x85, 0x87, 0x88, 0x8A, 0x8F, 0, 0, 0, 0, 0, 0, 0,
+    3, 5, 2, 4, 3, 5, 3, 5, 0, 0, 0, 0, 0, 0, 0,
     0x00, 0x10, 0, 0, 1,
     1,
     5, 0, 0, 0, 100, 0, 0, 0, 5, 0, 0, 0,
@@ -23,11 +24,14 @@ static const uint8_t full[RECORD] = {
     1, 1, 0, 0, 0,
     1, 1, 0, 0, 0, 80, 0, 0, 0,
 };
+/* The same with fifteen endpoints, each of which offers D0 and D1 and holds D1. */
+static uint8_t twin[RECORD];
 /* The paper's bench camera, fresh: EV, one endpoint, HDR, throttle. */
 static const uint8_t bench[RECORD] = {
     4, 0, 0x24, 0x30, 0, 0,
     0xFE, 0xFF, 0xFF, 0xFF, 2, 0, 0, 0, 0x1F,
-    1, 0x81, 0, 0, 0, 0, 0, 0, 0, 3, 0, 0, 0, 0, 0, 0, 0,
+    1, 0x81, 0, 0, 0, 0, 0, 0, 0, 0, 0, 0, 0, 0, 0, 0,
+    3, 0, 0, 0, 0, 0, 0, 0, 0, 0, 0, 0, 0, 0, 0,
     0, 0, 0, 0, 0,
     0,
     5, 0, 0, 0, 100, 0, 0, 0, 5, 0, 0, 0,
@@ -39,14 +43,14 @@ static const uint8_t evs[22] = {2, 0, 0, 0, 0, 0, 0, 0xFD, 0xFF, 0xFF, 0xFF, 1, 
 static const uint8_t far_evs[22] = {2, 0, 0, 0, 0, 0, 0, 9, 0, 0, 0, 1, 0, 0, 0, 0, 0, 0, 13};
 static const uint8_t hdrs[8] = {1, 0, 0, 0, 2};
 static const uint8_t throttles[40] = {1, 0, 0, 0, 80, [24] = 55};
-static uint8_t faces[2 * 65];
+static uint8_t faces[2 * 65], all_faces[2 * LONGEST_ANSWER];
 
 /* Two equal inputs each, but for the snapshots that are loaded: those differ in EV's step. */
-static uint8_t loaded[2 * 159], merged_a[2 * 250], merged_b[2 * 250];
+static uint8_t loaded[2 * 159], all_loaded[2 * LONGEST_SNAPSHOT], merged_a[2 * LONGEST_SNAPSHOT], merged_b[2 * LONGEST_SNAPSHOT];
 static uint8_t small[2 * 23] = {15, 0, 3, 0, 2, 0, 0, 0, 0, 0, 0, 0xFD, 0xFF, 0xFF, 0xFF, 8, 0, 13, 0, 1}; /* the paper's: EV and HDR */
 static uint8_t block_200[2 * 200], block_64k[2 * BLOCK], payload_16[2 * 16], payload_1000[2 * 1000], packets[2 * 24];
 static uint8_t array[2 * sizeof second_array], features[2 * FEATURES], properties[2 * PROPERTIES];
-static uint8_t record[RECORD], reply[65], out[250], buffer[BLOCK];
+static uint8_t record[RECORD], reply[LONGEST_ANSWER], out[LONGEST_SNAPSHOT], buffer[BLOCK];
 
 static void twice(uint8_t *p, size_t half) { memcpy(p + half, p, half); }
 
@@ -73,7 +77,7 @@ static void all_keys(uint8_t *p, uint8_t flag)
     memcpy(at, (uint8_t[8]){8, 0, 9, 0, 0, 0x10}, 8);
     memcpy(at + 8, (uint8_t[8]){8, 0, 13, 0, flag}, 8);
     memcpy(at + 16, (uint8_t[24]){24, 0, 14, 0, 1, 0, 0, 0, 80}, 24);
-    twice(p, 250);
+    twice(p, LONGEST_SNAPSHOT);
 }
 
 /* A descriptor set of equal descriptors. */
@@ -86,18 +90,39 @@ static void set(uint8_t *p, size_t half, const uint8_t *descriptor)
     twice(p, half);
 }
 
+/* An entry for each endpoint of a camera, twice. */
+static void entries(uint8_t *p, const uint8_t *camera)
+{
+    p[0] = camera[15];
+    for (int i = 0; i < camera[15]; i++) {
+        p[1 + 8 * i] = camera[16 + i];
+        p[2 + 8 * i] = camera[31 + i] & 6;
+    }
+    twice(p, 1 + 8u * camera[15]);
+}
+
+/* A camera's snapshot, and the same with another step of EV. */
+static void written(uint8_t *p, const uint8_t *camera, size_t len)
+{
+    memcpy(record, camera, RECORD);
+    peer_write(record, RECORD, p, len, 1);
+    twice(p, len);
+    p[len + 4] = 4;
+}
+
 void prepare(void)
 {
-    faces[0] = 8;
-    for (int i = 0; i < 8; i++) {
-        faces[1 + 8 * i] = full[16 + i];
-        faces[2 + 8 * i] = full[24 + i] & 6;
+    memcpy(twin, full, RECORD);
+    twin[15] = ENDPOINTS;
+    for (int i = 0; i < ENDPOINTS; i++) {
+        twin[16 + i] = (uint8_t)(0x81 + i);
+        twin[31 + i] = 3;
+        twin[71 + i] = 2;
     }
-    twice(faces, 65);
-    memcpy(record, full, RECORD);
-    peer_write(record, RECORD, loaded, 159, 1);
-    twice(loaded, 159);
-    loaded[159 + 4] = 4;
+    entries(faces, full);
+    entries(all_faces, twin);
+    written(loaded, full, 159);
+    written(all_loaded, twin, LONGEST_SNAPSHOT);
     all_keys(merged_a, 1);
     all_keys(merged_b, 2);
     twice(small, 23);
@@ -127,20 +152,23 @@ static uint64_t request(bool ours, const uint8_t *camera, const uint8_t *setup, 
 #define CASE(name) static uint64_t name(bool ours, size_t n)
 #define GET(camera, unit, code, selector, wlength) \
     request(ours, camera, (uint8_t[8]){0xA1, code, 0, selector, 0, unit, wlength}, out, 0, n)
-#define SET(selector, payloads) \
-    request(ours, full, (uint8_t[8]){0x21, 1, 0, selector, 0, 4, sizeof payloads / 2}, payloads, sizeof payloads, n)
+#define SET(camera, selector, payloads) \
+    request(ours, camera, (uint8_t[8]){0x21, 1, 0, selector, 0, 4, sizeof payloads / 2}, payloads, sizeof payloads, n)
 
 CASE(get_ev) { return GET(full, 4, 0x81, EV, 11); }
 CASE(get_ev_fresh) { return GET(bench, 4, 0x81, EV, 11); }
 CASE(get_info) { return GET(full, 4, 0x86, EV, 1); }
 CASE(get_face) { return GET(full, 4, 0x81, FACE, 65); }
+CASE(get_all_faces) { return GET(twin, 4, 0x81, FACE, LONGEST_ANSWER); }
+CASE(get_info_twin) { return GET(twin, 4, 0x86, EV, 1); }
 CASE(get_throttle) { return GET(full, 4, 0x81, THROTTLE, 20); }
 CASE(other_unit) { return GET(full, 5, 0x81, EV, 11); }
-CASE(set_ev) { return SET(EV, evs); }
-CASE(set_ev_far) { return SET(EV, far_evs); }
-CASE(set_face) { return SET(FACE, faces); }
-CASE(set_hdr) { return SET(HDR, hdrs); }
-CASE(set_throttle) { return SET(THROTTLE, throttles); }
+CASE(set_ev) { return SET(full, EV, evs); }
+CASE(set_ev_far) { return SET(full, EV, far_evs); }
+CASE(set_face) { return SET(full, FACE, faces); }
+CASE(set_all_faces) { return SET(twin, FACE, all_faces); }
+CASE(set_hdr) { return SET(full, HDR, hdrs); }
+CASE(set_throttle) { return SET(full, THROTTLE, throttles); }
 
 /* A camera's other calls. */
 #define CALL(camera, name, ...) (memcpy(record, camera, RECORD), (ours ? probe_##name : peer_##name)(record, RECORD, __VA_ARGS__))
@@ -148,8 +176,10 @@ CASE(set_throttle) { return SET(THROTTLE, throttles); }
 CASE(streaming) { return CALL(full, streaming, n); }
 CASE(sensor) { return CALL(full, sensor, n); }
 CASE(load) { return CALL(full, load, loaded, sizeof loaded, n); }
+CASE(load_all) { return CALL(twin, load, all_loaded, sizeof all_loaded, n); }
 CASE(load_small) { return CALL(bench, load, small, sizeof small, n); }
 CASE(write_full) { return CALL(full, write, out, sizeof out, n); }
+CASE(write_all) { return CALL(twin, write, out, sizeof out, n); }
 CASE(write_small)
 {
     uint8_t camera[RECORD];
@@ -188,10 +218,13 @@ const struct test tests[] = {
     {"request: GET_CUR EV", get_ev, 10000},
     {"request: GET_CUR EV, fresh bench camera", get_ev_fresh, 10000},
     {"request: GET_INFO EV", get_info, 10000},
+    {"request: GET_INFO EV, 15 endpoints", get_info_twin, 10000},
     {"request: GET_CUR face, 8 endpoints", get_face, 10000},
+    {"request: GET_CUR face, 15 endpoints", get_all_faces, 10000},
     {"request: GET_CUR throttle", get_throttle, 10000},
     {"request: SET_CUR EV", set_ev, 10000},
     {"request: SET_CUR face, 8 entries", set_face, 10000},
+    {"request: SET_CUR face, 15 entries", set_all_faces, 10000},
     {"request: SET_CUR HDR", set_hdr, 10000},
     {"request: SET_CUR throttle", set_throttle, 10000},
     {"request: another unit, refused 0x05", other_unit, 10000},
@@ -199,8 +232,10 @@ const struct test tests[] = {
     {"set_streaming", streaming, 10000},
     {"sensor", sensor, 10000},
     {"load, 159 bytes", load, 10000},
+    {"load, 250 bytes", load_all, 10000},
     {"load, 23 bytes", load_small, 10000},
     {"write, 159 bytes", write_full, 10000},
+    {"write, 250 bytes", write_all, 10000},
     {"write, 23 bytes", write_small, 10000},
     {"snapshot::check, 250 bytes", form, 10000},
     {"snapshot::check, 23 bytes", form_small, 10000},

@@ -36,6 +36,9 @@ static void same(const char *what, uint64_t ours, uint64_t peers, const uint8_t 
     exit(1);
 }
 
+/* Room for a payload: of face authentication one entry too many, and three bytes. */
+enum { PAYLOAD = LONGEST_ANSWER + 8 + 3 };
+
 static const uint8_t selectors[5] = {EV, FACE, METADATA, HDR, THROTTLE};
 
 static bool has(const uint8_t *r, unsigned selector) { return le32(r + 2) >> (selector - 1) & 1; }
@@ -57,26 +60,26 @@ static uint8_t offered(uint8_t offers) { return offers & 1 && one_in(2) ? 1 : of
 static void settings(uint8_t *r)
 {
     if (has(r, EV) && one_in(2)) {
-        r[51] = 1;
-        ev(r, r + 52, r + 53, 0);
-        if (!(r[52] & r[14]))
-            r[51] = 0;
+        r[65] = 1;
+        ev(r, r + 66, r + 67, 0);
+        if (!(r[66] & r[14]))
+            r[65] = 0;
     }
     for (unsigned i = 0; i < r[15]; i++)
         if (has(r, FACE) && one_in(2))
-            r[57 + r[16 + i] - 0x81] = offered(r[24 + i]);
-    if (has(r, METADATA) && r[36] && one_in(2)) {
-        r[72] = 1;
-        put32(r + 73, one_in(2) ? 0 : le32(r + 32));
+            r[71 + r[16 + i] - 0x81] = offered(r[31 + i]);
+    if (has(r, METADATA) && r[50] && one_in(2)) {
+        r[86] = 1;
+        put32(r + 87, one_in(2) ? 0 : le32(r + 46));
     }
     if (has(r, HDR) && one_in(2)) {
-        r[77] = 1;
-        r[78] = (uint8_t)below(2u + r[37]);
+        r[91] = 1;
+        r[92] = (uint8_t)below(2u + r[51]);
     }
     if (has(r, THROTTLE) && one_in(2)) {
-        r[82] = 1;
-        r[83] = (uint8_t)below(2);
-        put32(r + 87, le32(r + (one_in(2) ? 38 : 42)));
+        r[96] = 1;
+        r[97] = (uint8_t)below(2);
+        put32(r + 101, le32(r + (one_in(2) ? 52 : 56)));
     }
 }
 
@@ -93,53 +96,53 @@ static void camera(uint8_t r[RECORD])
     put32(r + 6, (uint32_t)-(int)below(129));
     put32(r + 10, below(128));
     r[14] = (uint8_t)(16 + below(16));
-    unsigned wanted = 1 + below(8);
+    unsigned wanted = 1 + below(ENDPOINTS);
     for (unsigned address = 0x81; wanted; address++)
         if (below(0x90 - address) < wanted) {
             r[16 + r[15]] = (uint8_t)address;
-            r[24 + r[15]] = (uint8_t)(2 + below(4));
+            r[31 + r[15]] = (uint8_t)(2 + below(4));
             r[15]++;
             wanted--;
         }
-    put32(r + 32, 1 + below(5000));
-    r[36] = !one_in(4);
-    r[37] = one_in(2);
-    uint32_t step = 1 + below(10), low = 1 + below(100 / step), high = low + below(100 / step - low + 1);
-    put32(r + 38, low * step);
-    put32(r + 42, high * step);
-    put32(r + 46, step);
+    put32(r + 46, 1 + below(5000));
     r[50] = !one_in(4);
+    r[51] = one_in(2);
+    uint32_t step = 1 + below(10), low = 1 + below(100 / step), high = low + below(100 / step - low + 1);
+    put32(r + 52, low * step);
+    put32(r + 56, high * step);
+    put32(r + 60, step);
+    r[64] = !one_in(4);
     settings(r);
     spoil(r, RECORD, 15);
 }
 
-/* The payload of a SET to the camera r; returns its length, at most 65. */
+/* The payload of a SET to the camera r; returns its length, at most that of one entry too many. */
 static size_t payload(const uint8_t *r, unsigned selector, uint8_t *p)
 {
-    unsigned endpoints = r[15] < 1 ? 1 : r[15] > 8 ? 8 : r[15];
+    unsigned endpoints = r[15] < 1 ? 1 : r[15] > ENDPOINTS ? ENDPOINTS : r[15];
     size_t len = 4;
 
-    memset(p, 0, 80);
+    memset(p, 0, PAYLOAD);
     if (selector == EV) {
         len = 11;
         ev(r, p, p + 7, 1);
     } else if (selector == FACE) {
-        unsigned from = one_in(3) ? below(8) : 0;
-        p[0] = (uint8_t)(one_in(9) ? below(9) : below(endpoints + 1));
+        unsigned from = one_in(3) ? below(ENDPOINTS) : 0;
+        p[0] = (uint8_t)(one_in(9) ? below(ENDPOINTS + 2) : below(endpoints + 1));
         for (unsigned i = 0; i < p[0]; i++) {
             unsigned at = 16 + (from + i) % endpoints;
             p[1 + 8 * i] = r[at];
-            p[2 + 8 * i] = offered(r[at + 8]);
+            p[2 + 8 * i] = offered(r[at + ENDPOINTS]);
         }
         len = 1 + 8u * p[0];
     } else if (selector == METADATA)
-        put32(p, one_in(3) ? below(5000) : one_in(2) ? 0 : le32(r + 32));
+        put32(p, one_in(3) ? below(5000) : one_in(2) ? 0 : le32(r + 46));
     else if (selector == HDR)
         p[0] = (uint8_t)below(4);
     else {
         len = 20;
         p[0] = (uint8_t)below(2);
-        p[4] = (uint8_t)(one_in(4) ? below(110) : r[46] * below(r[46] ? 110 / r[46] + 1u : 1));
+        p[4] = (uint8_t)(one_in(4) ? below(110) : r[60] * below(r[60] ? 110 / r[60] + 1u : 1));
     }
     spoil(p, len, 15);
     return len;
@@ -155,14 +158,14 @@ static size_t setup(const uint8_t *r, uint8_t *u, uint8_t *p)
     if (one_in(20))
         len += below(3);
     memcpy(u, (uint8_t[8]){set ? 0x21 : 0xA1, (uint8_t)(set ? 1 : 0x81 + below(7)), 0, (uint8_t)selector, r[1], r[0]}, 8);
-    u[6] = (uint8_t)(set ? len : below(80));
+    u[6] = (uint8_t)(set ? len : below(LONGEST_ANSWER + 15));
     spoil(u, 8, 10);
     return set ? len : one_in(30);
 }
 
 static void cameras(void)
 {
-    uint8_t a[RECORD], b[RECORD], setups[16], p[160], q[80], ours[170], peers[170];
+    uint8_t a[RECORD], b[RECORD], setups[16], p[2 * PAYLOAD], q[PAYLOAD], ours[LONGEST_SNAPSHOT + 10], peers[LONGEST_SNAPSHOT + 10];
 
     camera(a);
     memcpy(b, a, RECORD);
@@ -172,14 +175,14 @@ static void cameras(void)
         n = 2;
     } else
         memset(p + len, 0, len);
-    size_t halves = one_in(40) ? below(16) : 16, room = one_in(3) ? below(70) : 65;
+    size_t halves = one_in(40) ? below(16) : 16, room = one_in(3) ? below(LONGEST_ANSWER + 5) : LONGEST_ANSWER;
     memset(ours, 0xEE, sizeof ours);
     memset(peers, 0xEE, sizeof peers);
     uint64_t x = probe_request(a, RECORD, setups, halves, p, 2 * len, ours, room, n);
     uint64_t y = peer_request(b, RECORD, setups, halves, p, 2 * len, peers, room, n);
     same("request's reply", x, y, ours, peers, sizeof ours);
     same("request's record", x, y, a, b, RECORD);
-    room = one_in(4) ? below(160) : 159;
+    room = one_in(4) ? below(LONGEST_SNAPSHOT + 1) : LONGEST_SNAPSHOT;
     x = probe_write(a, RECORD, ours, room, 1);
     y = peer_write(b, RECORD, peers, room, 1);
     same("write", x, y, ours, peers, sizeof ours);
@@ -192,19 +195,19 @@ static void cameras(void)
 static size_t records(const uint8_t *r, uint8_t *to)
 {
     size_t n = 0;
-    uint8_t p[80];
+    uint8_t p[PAYLOAD];
 
     for (unsigned key = 0; key < 19; key++) {
         unsigned selector = key == 0 ? EV : key <= 15 ? FACE : selectors[key - 14];
         size_t len = payload(r, selector, p);
-        const uint8_t *listed = memchr(r + 16, 0x80 + (int)key, 8);
+        const uint8_t *listed = memchr(r + 16, 0x80 + (int)key, ENDPOINTS);
         if (one_in(3) || (selector == FACE && !listed && !one_in(20)))
             continue;
         if (selector == FACE) {
             memset(p, 0, len = 9);
             p[0] = 1;
             p[1] = (uint8_t)(0x80 + key);
-            p[2] = listed ? offered(listed[8]) : 1;
+            p[2] = listed ? offered(listed[ENDPOINTS]) : 1;
         }
         if (selector == THROTTLE)
             memset(p + 8, 0, 12);
@@ -219,7 +222,7 @@ static size_t records(const uint8_t *r, uint8_t *to)
 
 static void snapshots(void)
 {
-    uint8_t a[RECORD], b[RECORD], s[500], t[500], ours[260], peers[260];
+    uint8_t a[RECORD], b[RECORD], s[2 * LONGEST_SNAPSHOT], t[2 * LONGEST_SNAPSHOT], ours[LONGEST_SNAPSHOT + 10], peers[LONGEST_SNAPSHOT + 10];
 
     camera(a);
     memcpy(b, a, RECORD);
@@ -230,7 +233,7 @@ static void snapshots(void)
     same("snapshot's check", probe_form(s, 2 * n, 1), peer_form(s, 2 * n, 1), s, s, 0);
     memset(ours, 0xEE, sizeof ours);
     memset(peers, 0xEE, sizeof peers);
-    size_t room = one_in(3) ? below(250) : 250;
+    size_t room = one_in(3) ? below(LONGEST_SNAPSHOT) : LONGEST_SNAPSHOT;
     uint64_t x = probe_merge(s, 2 * n, t, 2 * m, ours, room, 1), y = peer_merge(s, 2 * n, t, 2 * m, peers, room, 1);
     same("merge", x, y, ours, peers, sizeof ours);
 }

@@ -22,26 +22,26 @@ static struct camera get(const uint8_t *s)
     c.ev_high = (int32_t)le32(s + 10);
     c.ev_steps = s[14];
     c.face_count = s[15];
-    memcpy(c.face_address, s + 16, 8);
-    memcpy(c.face_offers, s + 24, 8);
-    c.metadata_max = le32(s + 32);
-    c.metadata_writable = s[36] != 0;
-    c.hdr_auto = s[37] != 0;
-    c.throttle_min = le32(s + 38);
-    c.throttle_max = le32(s + 42);
-    c.throttle_step = le32(s + 46);
-    c.streaming = s[50] != 0;
-    c.held.ev_held = s[51] != 0;
-    c.held.ev_flags = s[52];
-    c.held.ev_value = (int32_t)le32(s + 53);
-    memcpy(c.held.face, s + 57, 15);
-    c.held.metadata_held = s[72] != 0;
-    c.held.metadata = le32(s + 73);
-    c.held.hdr_held = s[77] != 0;
-    c.held.hdr = le32(s + 78);
-    c.held.throttle_held = s[82] != 0;
-    c.held.throttle_mode = le32(s + 83);
-    c.held.throttle_percent = le32(s + 87);
+    memcpy(c.face_address, s + 16, ENDPOINTS);
+    memcpy(c.face_offers, s + 31, ENDPOINTS);
+    c.metadata_max = le32(s + 46);
+    c.metadata_writable = s[50] != 0;
+    c.hdr_auto = s[51] != 0;
+    c.throttle_min = le32(s + 52);
+    c.throttle_max = le32(s + 56);
+    c.throttle_step = le32(s + 60);
+    c.streaming = s[64] != 0;
+    c.held.ev_held = s[65] != 0;
+    c.held.ev_flags = s[66];
+    c.held.ev_value = (int32_t)le32(s + 67);
+    memcpy(c.held.face, s + 71, ADDRESSES);
+    c.held.metadata_held = s[86] != 0;
+    c.held.metadata = le32(s + 87);
+    c.held.hdr_held = s[91] != 0;
+    c.held.hdr = le32(s + 92);
+    c.held.throttle_held = s[96] != 0;
+    c.held.throttle_mode = le32(s + 97);
+    c.held.throttle_percent = le32(s + 101);
     return c;
 }
 
@@ -49,23 +49,23 @@ static void put(const struct camera *c, uint8_t *s)
 {
     const struct settings *h = &c->held;
 
-    s[50] = c->streaming;
-    s[51] = h->ev_held;
+    s[64] = c->streaming;
+    s[65] = h->ev_held;
     if (h->ev_held) {
-        s[52] = h->ev_flags;
-        put32(s + 53, (uint32_t)h->ev_value);
+        s[66] = h->ev_flags;
+        put32(s + 67, (uint32_t)h->ev_value);
     }
-    memcpy(s + 57, h->face, 15);
-    s[72] = h->metadata_held;
+    memcpy(s + 71, h->face, ADDRESSES);
+    s[86] = h->metadata_held;
     if (h->metadata_held)
-        put32(s + 73, h->metadata);
-    s[77] = h->hdr_held;
+        put32(s + 87, h->metadata);
+    s[91] = h->hdr_held;
     if (h->hdr_held)
-        put32(s + 78, h->hdr);
-    s[82] = h->throttle_held;
+        put32(s + 92, h->hdr);
+    s[96] = h->throttle_held;
     if (h->throttle_held) {
-        put32(s + 83, h->throttle_mode);
-        put32(s + 87, h->throttle_percent);
+        put32(s + 97, h->throttle_mode);
+        put32(s + 101, h->throttle_percent);
     }
 }
 

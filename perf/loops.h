@@ -8,17 +8,17 @@
 /* A camera record as bytes, its numbers little-endian:
      0 unit, 1 interface, 2 controls (4 bytes)
      6 EV's low limit (4), 10 high limit (4), 14 steps
-    15 face's count, 16 addresses (8), 24 offers (8)
-    32 metadata's maximum (4), 36 writable; 37 HDR's Auto
-    38 throttle's minimum (4), 42 maximum (4), 46 step (4)
-    50 streaming
-    51 EV is held, 52 flags, 53 value (4)
-    57 face by address (15)
-    72 metadata is held, 73 value (4)
-    77 HDR is held, 78 value (4)
-    82 throttle is held, 83 mode (4), 87 percent (4)
+    15 face's count, 16 addresses (15), 31 offers (15)
+    46 metadata's maximum (4), 50 writable; 51 HDR's Auto
+    52 throttle's minimum (4), 56 maximum (4), 60 step (4)
+    64 streaming
+    65 EV is held, 66 flags, 67 value (4)
+    71 face by address (15)
+    86 metadata is held, 87 value (4)
+    91 HDR is held, 92 value (4)
+    96 throttle is held, 97 mode (4), 101 percent (4)
    Where a setting is not held, a loop leaves its value's bytes as they are. */
-enum { RECORD = 91 };
+enum { RECORD = 105 };
 
 #define LOOPS(P) \
     uint64_t P##request(uint8_t *record, size_t record_len, const uint8_t *setups, size_t setups_len, const uint8_t *payloads, \

@@ -12,7 +12,7 @@ enum {
     INVALID_VALUE = 0x08, UNKNOWN = 0xFF, NO_ROOM = 0x20, BAD_RECORD = 0x21, BAD_SNAPSHOT = 0x22
 };
 enum { EV = 0x03, FACE = 0x06, METADATA = 0x09, HDR = 0x0D, THROTTLE = 0x0E };
-enum { ENDPOINTS = 8, ADDRESSES = 15 };
+enum { ENDPOINTS = 15, ADDRESSES = 15, LONGEST_ANSWER = 1 + 8 * ENDPOINTS, LONGEST_SNAPSHOT = 55 + 13 * ADDRESSES };
 
 struct settings {
     bool ev_held, metadata_held, hdr_held, throttle_held;
