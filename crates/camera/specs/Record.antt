@@ -4,8 +4,8 @@ use mathlib.Core.{List.{List}, Option.{Option}, Bool.{Bool}}
 use Rattle.wire.specs.Endpoints.{endpointLimit}
 use Rattle.controls.specs.declared.Setting.{Setting}
 use Rattle.profile.specs.declared.Profile.{Profile}
-use Rattle.settings.specs.{declared.settings.Settings.{Settings}, Settings.{noSettings}, Held.{settingsHeld}, Kept.{settingsWellFormedUnder}}
-use Rattle.settings.specs.Items.{putAll}
+use Rattle.settings.specs.{declared.settings.Settings.{Settings}, Settings.{noSettings}, Held.{settingsHeld}, Items.{putAll}}
+use Rattle.settings.specs.Kept.{settingsWellFormedUnder}
 use Rattle.camera.specs.declared.record.Camera.{Camera}
 
 -- no settings, and streaming as it is started

@@ -4,7 +4,7 @@ use mathlib.Core.Bool.{Bool, true, false, cond, not, _&&_, and-eq-true-iff}
 use Prim.Native.Nat.{ℕ, zero, suc, _≤_, _<_}
 use native.Mathlib.Omega.{arith}
 use lib.{Dec.{eqb, ltb}, ListN.{length, getD, drop}, Seq.{getD-drop}}
-use borrow.Author.Tests.{ltb-true, not-false, eqb-true, eqb-false, eq-eqb}
+use borrow.Author.Tests.{ltb-true, not-false, eqb-false, eq-eqb}
 use Rattle.wire.specs.{Endpoints.{endpointLimit}, Numbers.{number, leAt, bytesOf, bits32}, Rows.{_⇒_, allBelow}}
 use Rattle.wire.specs.Uvc.{malformedRecord, noRoom, outOfRange}
 use Rattle.wire.specs.Selectors as selector
@@ -24,8 +24,8 @@ use Rattle.entries.proofs.Laws.{Entries.{entry-code}, Payload.{len-longest}}
 use Rattle.metadata.specs.Metadata.{metadataRefusal}
 use Rattle.hdr.specs.Hdr.{hdrRefusal}
 use Rattle.throttle.specs.Throttle.{throttleRefusal, throttleBytes}
-use Rattle.profile.specs.{declared.Profile.{Profile}, Profile.{has, setLength, presenceValid, profileValid, profileValidUnder, profileRefusal}}
-use Rattle.profile.specs.Items.{profileItem, setRefusal}
+use Rattle.profile.specs.{declared.Profile.{Profile}, Items.{profileItem, setRefusal}}
+use Rattle.profile.specs.Profile.{has, setLength, presenceValid, profileValid, profileValidUnder, profileRefusal}
 use Rattle.profile.proofs.Laws.Profile.{valid-face}
 use Rattle.settings.specs.{Held.{settingsHeld}, Kept.{valueRefusal, kept, settingsWellFormedUnder}}
 use Rattle.answering.specs.Answering.{valueOf, controlAnswer}
@@ -86,9 +86,9 @@ camera-lengths c w = record {
 -- computed
 pub lengths-reached : LengthsReached
 unfolding fullProfile fullCamera number leAt bytesOf bits32 allBelow isSet bitsOf count first oneFlag answerBy
-    requestTests valueTests fullAnswer requestRows requestCode records encode itemOf itemCode firstRefusal inRange refusalAt evRefusal evBytes
-    addressBefore endpointValid faceValidUnder offersFrom offersOf flagsAt entriesOf faceValue seenIn faceSetLength isChoice entryRefusal
-    faceItem settingRefusal metadataRefusal hdrRefusal throttleRefusal throttleBytes presenceValid profileValidUnder profileRefusal
+    requestTests valueTests fullAnswer requestRows requestCode records encode itemOf itemCode firstRefusal inRange refusalAt evRefusal
+    evBytes addressBefore endpointValid faceValidUnder offersFrom offersOf flagsAt entriesOf faceValue seenIn faceSetLength isChoice
+    entryRefusal faceItem settingRefusal metadataRefusal hdrRefusal throttleRefusal throttleBytes presenceValid profileValidUnder profileRefusal
     profileItem setRefusal settingsHeld valueRefusal kept settingsWellFormedUnder valueOf requestDone requested snapshot recordOf
 lengths-reached = record { formed = refl; answer = refl; payload = refl; written = refl }
 
@@ -145,7 +145,8 @@ unfolding recordItem tableRefusal profileItem entryRefusal offersOf
 unlisted-code p v h f k r g u =
     let kind : selectorAt k ≡ selector.face = is-kind k r g ∙ u .kind in
     let none : offersOf (p .face) (entryAddress (drop 4 r) 0) ≡ 0 =
-    ap (offersOf (p .face)) (getD-drop 4 r 1 0) ∙ offers-unlisted (p .face) (getD r 5 0) (endpointsOf (p .face)) 0 (λ j l. u .address j (omega arith)) in
+    ap (offersOf (p .face)) (getD-drop 4 r 1 0)
+    ∙ offers-unlisted (p .face) (getD r 5 0) (endpointsOf (p .face)) 0 (λ j l. u .address j (omega arith)) in
     record-as-set p v f k r g .code
     ∙ rw (kind, h) (entry-code (p .face) (drop 4 r) 0 ∙ rw none)
 

@@ -15,7 +15,8 @@ use Rattle.controls.specs.{declared.{Setting.{Setting}, Item.the-variants.{Give
 use Rattle.settings.specs.Items.{givenOf}
 use Rattle.profile.specs.{declared.Profile.{Profile}, Profile.{profileValid}}
 use Rattle.camera.specs.{declared.{record.Camera.{Camera}, calls.Outcome.{Outcome}}, Record.{fresh, held, recordWellFormed, puts}}
-use Rattle.camera.specs.{Loading.{recordItem, loadTests, loadCode, loadCodeUnder, loadGives, loaded, loadedUnder}, Writing.{snapshot, writeCode, written, writtenOut}}
+use Rattle.camera.specs.Loading.{recordItem, loadTests, loadCode, loadCodeUnder, loadGives, loaded, loadedUnder}
+use Rattle.camera.specs.Writing.{snapshot, writeCode, written, writtenOut}
 use Rattle.camera.specs.Calls.{Call, load}
 use Rattle.encoding.specs.Encoding.{recordOf}
 use Rattle.demands.specs.{Runs.{gives, leaves, flagAfter, given, snapshotAfter, run}, Cameras.{Ok, Typed, handedSnapshot, Written}}

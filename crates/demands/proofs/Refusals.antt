@@ -9,8 +9,8 @@ use Rattle.request.proofs.Laws.Tests.{at-unformed}
 use Rattle.request.proofs.Theorems as requests
 use Rattle.exposure.specs.Exposure.{sensorValue}
 use Rattle.camera.specs.{declared.{record.Camera.{Camera}, calls.Outcome.{Outcome}}, Record.{recordWellFormed}}
-use Rattle.camera.specs.{Requests.{table, requestedCode, refused, outcomeBy, requestDone, requested}, Loading.{loadCode, loadCodeUnder, loadedUnder}}
-use Rattle.camera.specs.Writing.{writeCode, written, writtenOut}
+use Rattle.camera.specs.Requests.{table, requestedCode, refused, outcomeBy, requestDone, requested}
+use Rattle.camera.specs.{Loading.{loadCode, loadCodeUnder, loadedUnder}, Writing.{writeCode, written, writtenOut}}
 use Rattle.camera.specs.Calls.{recordCode, streamed, sensed, Call, request, stream, load, write, sense, outcome}
 use Rattle.demands.specs.Refusals.{Unchanged}
 

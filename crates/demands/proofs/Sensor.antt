@@ -81,7 +81,7 @@ sensor-in-range c = else-zero (recordWellFormed c) _ (λ w. setting-in-range (c 
 -- Both ends of the range, computed.
 pub sensor-ends : SensorEnds
 unfolding benchProfile number leAt signed32 isSet bitsOf count first oneFlag requestTests itemOf inRange refusalAt evRefusal evItem
-    scaledAt scaled sensorValue allBelow addressBefore endpointValid faceValidUnder presenceValid profileValidUnder noSettings settingsHeld put
-    valueRefusal profileRefusal kept settingsWellFormedUnder itemCode givenOf firstRefusal allGiven putAll profileItem setRefusal setGives
-    valueTests requestRows requestCode requestDone requested sensed
+    scaledAt scaled sensorValue allBelow addressBefore endpointValid faceValidUnder presenceValid profileValidUnder noSettings settingsHeld
+    put valueRefusal profileRefusal kept settingsWellFormedUnder itemCode givenOf firstRefusal allGiven putAll profileItem setRefusal
+    setGives valueTests requestRows requestCode requestDone requested sensed
 sensor-ends = record { least = refl; most = refl }

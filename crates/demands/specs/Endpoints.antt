@@ -10,7 +10,7 @@ use Rattle.snapshot.specs.{Keys.{lengthWith}, Form.{wellFormed, statedKind}, Re
 use Rattle.exposure.specs.declared.HeldEv.the-variants as E
 use Rattle.throttle.specs.declared.HeldThrottle.the-variants as T
 use Rattle.controls.specs.declared.HeldNumber.the-variants as N
-use Rattle.face.specs.{declared.limits.FaceLimits.{FaceLimits}, Limits.{endpointsOf, addressAt}, Theorems.{ZerosFrom}}
+use Rattle.face.specs.{Limits.{endpointsOf, addressAt}, Theorems.{ZerosFrom}}
 use Rattle.profile.specs.{declared.Profile.{Profile}, Profile.{has}}
 use Rattle.camera.specs.{declared.record.Camera.{Camera}, Record.{recordWellFormed, recordWellFormedUnder}, Requests.{table, cameraAnswer}}
 use Rattle.camera.specs.{Requests.{refused}, Loading.{loaded, loadedUnder}, Writing.{snapshot}, Calls.{request, outcome}}

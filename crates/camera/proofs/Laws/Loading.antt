@@ -15,7 +15,8 @@ use Rattle.settings.specs.{declared.settings.Settings.{Settings}, Items.{givenO
 use Rattle.settings.proofs.Laws.Items.{given-next, puts-next}
 use Rattle.camera.specs.{declared.{record.Camera.{Camera}, calls.Outcome.{Outcome}}, Record.{withSettings, recordWellFormed}}
 use Rattle.camera.specs.Requests.{controlRefusal, refused, outcomeBy}
-use Rattle.camera.specs.{Loading.{selectorAt, recordItem, loadRefusal, loadTests, loadCodeUnder, loadGives, loaded, loadedUnder}, Steps.{loadDone}}
+use Rattle.camera.specs.Loading.{selectorAt, recordItem, loadRefusal, loadTests, loadCodeUnder, loadGives, loaded, loadedUnder}
+use Rattle.camera.specs.Steps.{loadDone}
 
 -- a record of key k as a SET, by what the calls ensure
 module _ (p : Profile) (streaming : Bool) (k : ℕ) (r : List ℕ) {selector code : ℕ} (is-selector : selector ≡ selectorAt k)

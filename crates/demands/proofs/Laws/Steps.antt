@@ -19,7 +19,8 @@ use Rattle.profile.proofs.Laws.{Profile.{valid-presence}, KnownControl.{control
 use Rattle.camera.specs.{declared.{record.Camera.{Camera}, calls.Outcome.{Outcome}}, Record.{held, recordWellFormed, puts}}
 use Rattle.camera.specs.Requests.{requestedCode, refused, outcomeBy, requestDone, requested, rules, table, controlRefusal}
 use Rattle.camera.specs.Calls.{sensed, Call, request, stream, load, write, sense, outcome, next}
-use Rattle.camera.specs.{Loading.{selectorAt, recordItem, loadTests, loadCodeUnder, loadGives, loaded, loadedUnder}, Writing.{snapshot, written, writeCode}}
+use Rattle.camera.specs.Loading.{selectorAt, recordItem, loadTests, loadCodeUnder, loadGives, loaded, loadedUnder}
+use Rattle.camera.specs.Writing.{snapshot, written, writeCode}
 use Rattle.camera.proofs.Laws.{Record.{formed-profile, streamed-done}, Loading.{givenBy}}
 use Rattle.demands.specs.{Runs.{acceptsSet, gives, leaves}, Cameras.{Ok}}
 use Rattle.demands.proofs.Laws.Held.{Each, puts-held, puts-length}

@@ -15,7 +15,8 @@ blank = replicate longestAnswer 0
 module _ (s : List ℕ) (h : length s ≤ longestAnswer) where
   pub pack-is : (b : List ℕ) (n : ℕ) → b ≡ overlay blank 0 s → n ≡ length s → _≡_ {A = Answer} (record { bytes = b; len = n }) (packed s)
   unfolding packed
-  pack-is b n e f = let g : n ≡ min (length s) longestAnswer = omega arith in ap₂ (λ (x : List ℕ) (y : ℕ). record { bytes = x; len = y }) e g
+  pack-is b n e f =
+      let g : n ≡ min (length s) longestAnswer = omega arith in ap₂ (λ (x : List ℕ) (y : ℕ). record { bytes = x; len = y }) e g
 
   packed-take : take (packed s .len) (packed s .bytes) ≡ s
   unfolding packed

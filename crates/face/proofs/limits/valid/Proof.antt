@@ -1,8 +1,7 @@
 -- `valid` meets its contract. Assumes nothing.
-use mathlib.Core.{Path.{_≡_, refl, ap, ap₂, _∙_}, Bool.{Bool, _&&_}}
+use mathlib.Core.{Path.{_≡_, refl, ap, ap₂, _∙_}, Bool.{_&&_}}
 use Prim.Native.Nat.{ℕ, _≤_, _-_, _+_}
 use native.Mathlib.{Numerals.{add-one}, Omega.{arith}}
-use lib.Dec.{leb}
 use borrow.Author.Needs.{needs}
 use Rattle.wire.specs.{Endpoints.{endpointLimit}, Rows.{allBelow}}
 use Rattle.face.specs.Limits.{endpointValid, faceValidUnder}
