@@ -31,6 +31,10 @@ pub record CameraLengths (c : Camera) : Type 0 where
 abbrev pub AllCameraLengths : Type 0
 AllCameraLengths = (c : Camera) → recordWellFormed c ≡ true → CameraLengths c
 
+-- The lengths of buffers that always suffice: for a reply and a camera's snapshot by these, for a merge by `merging`'s `Suffices`.
+abbrev pub bufferLengths : List ℕ
+bufferLengths = 121 ∷ 250 ∷ 250 ∷ []
+
 -- A camera with every control and every endpoint, each of which offers D0 and D1, that holds a setting of each.
 unfoldable pub fullProfile : Profile
 fullProfile = record {
