@@ -4,7 +4,7 @@ use mathlib.Core.Bool.{Bool, true, false, cond, not, _&&_, and-eq-true-iff}
 use Prim.Native.Nat.{ℕ, zero, suc, _≤_, _<_}
 use native.Mathlib.Omega.{arith}
 use lib.{Dec.{eqb, ltb}, ListN.{length, getD, drop}, Seq.{getD-drop}}
-use borrow.Author.Tests.{ltb-true, not-false, eqb-false, eq-eqb}
+use borrow.Author.Tests.{ltb-true, not-false, eq-eqb, ne-eqb}
 use Rattle.wire.specs.{Endpoints.{endpointLimit}, Numbers.{number, leAt, bytesOf, bits32}, Rows.{_⇒_, allBelow}}
 use Rattle.wire.specs.Uvc.{malformedRecord, noRoom, outOfRange}
 use Rattle.wire.specs.Selectors as selector
@@ -36,10 +36,10 @@ use Rattle.camera.specs.Loading.{selectorAt, recordItem, loadCode, loadCodeUnde
 use Rattle.camera.proofs.Laws.Record.{formed-profile}
 use Rattle.encoding.specs.Encoding.{recordOf}
 use Rattle.demands.specs.Loading.{setCode, firstFault}
-use Rattle.demands.specs.Endpoints.{AllCameraLengths, LengthsReached, fullProfile, fullCamera, oldLimit, OldShapesLoad, Unlisted}
-use Rattle.demands.specs.Endpoints.{RefusesUnlisted, AllNewSnapshots}
+use Rattle.demands.specs.Endpoints.{AllCameraLengths, LengthsReached, fullProfile, fullCamera, oldLimit, oldOutcome, OldShapesLoad}
+use Rattle.demands.specs.Endpoints.{Unlisted, RefusesUnlisted, AllNewSnapshots}
 use Rattle.demands.proofs.{Refusals.{by-number}, Loading.{record-as-set, load-fault}}
-use Rattle.demands.proofs.Laws.{Longest.{snapshot-short, snapshot-most}, Sets.{is-kind}}
+use Rattle.demands.proofs.Laws.{Longest.{snapshot-short, snapshot-most}, Older.{load-narrow}, Sets.{is-kind}}
 use Rattle.demands.proofs.Laws.Steps.{set-answer, accepted-control, accepted-length}
 
 -- the longest
@@ -88,8 +88,8 @@ pub lengths-reached : LengthsReached
 unfolding fullProfile fullCamera number leAt bytesOf bits32 allBelow isSet bitsOf count first oneFlag answerBy
     requestTests valueTests fullAnswer requestRows requestCode records encode itemOf itemCode firstRefusal inRange refusalAt evRefusal
     evBytes addressBefore endpointValid faceValidUnder offersFrom offersOf flagsAt entriesOf faceValue seenIn faceSetLength isChoice
-    entryRefusal faceItem settingRefusal metadataRefusal hdrRefusal throttleRefusal throttleBytes presenceValid profileValidUnder profileRefusal
-    profileItem setRefusal settingsHeld valueRefusal kept settingsWellFormedUnder valueOf requestDone requested snapshot recordOf
+    entryRefusal faceItem settingRefusal metadataRefusal hdrRefusal throttleRefusal throttleBytes presenceValid profileValidUnder
+    profileRefusal profileItem setRefusal settingsHeld valueRefusal kept settingsWellFormedUnder valueOf requestDone requested snapshot recordOf
 lengths-reached = record { formed = refl; answer = refl; payload = refl; written = refl }
 
 -- snapshots saved before
@@ -98,7 +98,8 @@ pub old-shapes-load : OldShapesLoad
 unfolding settingsWellFormedUnder profileValidUnder loadedUnder loadCodeUnder
 old-shapes-load c z =
     let e : recordWellFormedUnder oldLimit c ≡ recordWellFormed c = rw (limit-raised oldLimit 7 (c .profile .face) z) in
-    record { formed = e; loads = λ s. rw e }
+    let loads : (s : List ℕ) → loadedUnder oldLimit c s ≡ loaded c s = λ s. rw e in
+    record { formed = e; loads = loads; narrow = λ s. load-narrow c z s ∙ ap oldOutcome (loads s) }
 
 -- new snapshots on an older camera
 
@@ -116,27 +117,19 @@ each-at : (before after : List KeyedRecord) (e : KeyedRecord) → Each IsRecord 
 each-at [] after e a = a .0
 each-at (x ∷ before) after e a = each-at before after e (a .1)
 
--- the first fault of records, and of others behind them
-module _ (p : Profile) (f : Bool) where
-  fault-behind : (before l : List KeyedRecord) → firstFault p f before ≡ 0 → firstFault p f (before ++ l) ≡ firstFault p f l
-  fault-behind [] l z = refl
-  fault-behind (x ∷ before) l z = go (eqb (setCode p f (x .0) (x .1)) 0) refl z (fault-behind before l)
-    where
-      go : (b : Bool) → eqb (setCode p f (x .0) (x .1)) 0 ≡ b → cond b (firstFault p f before) (setCode p f (x .0) (x .1)) ≡ 0
-          → (firstFault p f before ≡ 0 → firstFault p f (before ++ l) ≡ firstFault p f l)
-          → cond b (firstFault p f (before ++ l)) (setCode p f (x .0) (x .1)) ≡ firstFault p f l
-      go true q z ih = ih z
-      go false q z ih = absurd (eqb-false _ 0 q z)
-
-  fault-before : (before l : List KeyedRecord) → (firstFault p f before ≡ 0 → ⊥) → firstFault p f (before ++ l) ≡ firstFault p f before
-  fault-before [] l n = absurd (n refl)
-  fault-before (x ∷ before) l n = go (eqb (setCode p f (x .0) (x .1)) 0) n (fault-before before l)
-    where
-      go : (b : Bool) → (cond b (firstFault p f before) (setCode p f (x .0) (x .1)) ≡ 0 → ⊥)
-          → ((firstFault p f before ≡ 0 → ⊥) → firstFault p f (before ++ l) ≡ firstFault p f before)
-          → cond b (firstFault p f (before ++ l)) (setCode p f (x .0) (x .1)) ≡ cond b (firstFault p f before) (setCode p f (x .0) (x .1))
-      go true m ih = ih m
-      go false m ih = refl
+-- the records behind are asked where those before have no fault
+fault-append : (p : Profile) (f : Bool) (before l : List KeyedRecord)
+    → firstFault p f (before ++ l) ≡ cond (eqb (firstFault p f before) 0) (firstFault p f l) (firstFault p f before)
+fault-append p f [] l = refl
+fault-append p f (x ∷ before) l = go (eqb (setCode p f (x .0) (x .1)) 0) refl (fault-append p f before l)
+  where
+    go : (b : Bool) → eqb (setCode p f (x .0) (x .1)) 0 ≡ b
+        → firstFault p f (before ++ l) ≡ cond (eqb (firstFault p f before) 0) (firstFault p f l) (firstFault p f before)
+        → cond b (firstFault p f (before ++ l)) (setCode p f (x .0) (x .1))
+        ≡ cond (eqb (cond b (firstFault p f before) (setCode p f (x .0) (x .1))) 0) (firstFault p f l)
+        (cond b (firstFault p f before) (setCode p f (x .0) (x .1)))
+    go true q ih = ih
+    go false q ih = rw q
 
 -- a record of an endpoint that the profile doesn't list is 0x04
 unlisted-code : (p : Profile) → profileValid p ≡ true → has p selector.face ≡ true → (f : Bool) (k : ℕ) (r : List ℕ) → IsRecord k r
@@ -164,10 +157,10 @@ refuses-unlisted c w h s f before after e split u =
     let v = formed-profile c w in
     let is = each-at before after e (rw (← split, records-entries s f) (each-record keys 0 (decode s) (decode-good s))) in
     let here = unlisted-code p v h on (e .0) (e .1) is u in
-    let all = load-fault c w s f ∙ ap (firstFault p on) split in
+    let all = load-fault c w s f ∙ ap (firstFault p on) split ∙ fault-append p on before (e ∷ after) in
     record {
-      first = λ z. load-refused c s outOfRange (all ∙ fault-behind p on before (e ∷ after) z ∙ rw here) (λ q. omega arith);
-      earlier = λ n. load-refused c s _ (all ∙ fault-before p on before (e ∷ after) n) n;
+      first = λ z. load-refused c s outOfRange (all ∙ rw (z, here)) (λ q. omega arith);
+      earlier = λ n. load-refused c s (firstFault p on before) (all ∙ rw (ne-eqb (firstFault p on before) 0 n)) n;
     }
 
 pub new-snapshots : AllNewSnapshots

@@ -5,6 +5,7 @@ pub mod Kept
 pub mod Lists
 pub mod Loads
 pub mod Longest
+pub mod Older
 pub mod ReadBack
 pub mod Cameras
 pub mod Same

@@ -10,10 +10,11 @@ use Rattle.snapshot.specs.{Keys.{lengthWith}, Form.{wellFormed, statedKind}, Re
 use Rattle.exposure.specs.declared.HeldEv.the-variants as E
 use Rattle.throttle.specs.declared.HeldThrottle.the-variants as T
 use Rattle.controls.specs.declared.HeldNumber.the-variants as N
-use Rattle.face.specs.{Limits.{endpointsOf, addressAt}, Theorems.{ZerosFrom}}
+use Rattle.face.specs.{Limits.{endpointsOf, addressAt}, Theorems.{ZerosFrom, firstPlaces}}
 use Rattle.profile.specs.{declared.Profile.{Profile}, Profile.{has}}
-use Rattle.camera.specs.{declared.record.Camera.{Camera}, Record.{recordWellFormed, recordWellFormedUnder}, Requests.{table, cameraAnswer}}
-use Rattle.camera.specs.{Requests.{refused}, Loading.{loaded, loadedUnder}, Writing.{snapshot}, Calls.{request, outcome}}
+use Rattle.camera.specs.{declared.{record.Camera.{Camera}, calls.Outcome.{Outcome}}, Record.{recordWellFormed, recordWellFormedUnder}}
+use Rattle.camera.specs.{Requests.{table, cameraAnswer, refused}, Loading.{loaded, loadedUnder}, Writing.{snapshot}}
+use Rattle.camera.specs.Calls.{request, outcome}
 use Rattle.demands.specs.Loading.{firstFault}
 
 -- The longest that there are, of a camera that is not refused 0x21.
@@ -77,11 +78,32 @@ pub record LengthsReached : Type 0 where
 abbrev pub oldLimit : ℕ
 oldLimit = 8
 
+-- a record as it was before, with as many places for endpoints, and an outcome with that record
+abbrev pub oldProfile : Profile → Profile
+oldProfile p = record {
+  unit = p .unit;
+  interface = p .interface;
+  controls = p .controls;
+  ev = p .ev;
+  face = firstPlaces oldLimit (p .face);
+  metadata = p .metadata;
+  hdr = p .hdr;
+  throttle = p .throttle;
+}
+
+abbrev pub oldRecord : Camera → Camera
+oldRecord c = record { profile = oldProfile (c .profile); streaming = c .streaming; settings = c .settings }
+
+abbrev pub oldOutcome : Outcome → Outcome
+oldOutcome o = record { code = o .code; count = o .count; camera = oldRecord (o .camera) }
+
 -- Snapshots saved before load as they did. A record of the old shape has zeros in the places that the limit adds, whatever its count, flag
 -- and settings: the record test, and the number and the record that a load of any bytes comes to, are the same under the limit of before.
+-- The record without those places, under that limit, comes to the same number, and to that record without them.
 pub record LoadsAsBefore (c : Camera) : Type 0 where
   pub formed : recordWellFormedUnder oldLimit c ≡ recordWellFormed c
   pub loads : (s : List ℕ) → loadedUnder oldLimit c s ≡ loaded c s
+  pub narrow : (s : List ℕ) → loadedUnder oldLimit (oldRecord c) s ≡ oldOutcome (loaded c s)
 
 abbrev pub OldShapesLoad : Type 0
 OldShapesLoad = (c : Camera) → ZerosFrom oldLimit (c .profile .face) → LoadsAsBefore c

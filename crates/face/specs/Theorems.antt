@@ -2,8 +2,9 @@
 use Prim.Native.Nat.{ℕ, _+_, _≤_, _<_}
 use mathlib.Core.{Path.{_≡_}, Bool.{true, false, not, cond}, Logic.{_↔_}}
 use Rattle.flags.specs.{declared.Choice.the-variants.{At}, Flags.{isSet, oneFlag}}
+use lib.ListN.{take}
 use Rattle.wire.specs.Endpoints.{places}
-use Rattle.face.specs.{declared.limits.FaceLimits.{FaceLimits}, Limits.{addressAt, offersAt, offersValid, faceValidUnder}}
+use Rattle.face.specs.{declared.limits.FaceLimits.{FaceLimits}, Limits.{addressAt, offersAt, offersValid, faceValidUnder, offersOf}}
 use Rattle.face.specs.Answers.{defaultOf}
 
 -- one of D1 and D2 and not both, D0 or not, and no flag above
@@ -30,6 +31,18 @@ pub record ZerosFrom (low : ℕ) (l : FaceLimits) : Type 0 where
 -- A higher limit changes nothing where the places that it adds are zero, whatever is counted.
 abbrev pub LimitRaised : Type 0
 LimitRaised = (low more : ℕ) (l : FaceLimits) → ZerosFrom low l → faceValidUnder low l ≡ faceValidUnder (more + low) l
+
+-- the list with its first n places alone
+abbrev pub firstPlaces : ℕ → FaceLimits → FaceLimits
+firstPlaces n l = record { count = l .count; addresses = take n (l .addresses); offers = take n (l .offers) }
+
+-- Places that are zero may as well not be there: the list is valid under the same limits, and every address offers the same.
+pub record SameInFirst (n : ℕ) (l : FaceLimits) : Type 0 where
+  pub valid : (limit : ℕ) → faceValidUnder limit (firstPlaces n l) ≡ faceValidUnder limit l
+  pub offers : (address : ℕ) → offersOf (firstPlaces n l) address ≡ offersOf l address
+
+abbrev pub ZerosLeftOut : Type 0
+ZerosLeftOut = (low : ℕ) (l : FaceLimits) → ZerosFrom low l → SameInFirst low l
 
 -- Under no limit can more endpoints be listed than there are addresses from 0x81 to 0x8F.
 abbrev pub NoMoreListed : Type 0
