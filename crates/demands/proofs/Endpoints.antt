@@ -89,7 +89,8 @@ unfolding fullProfile fullCamera number leAt bytesOf bits32 allBelow isSet bitsO
     requestTests valueTests fullAnswer requestRows requestCode records encode itemOf itemCode firstRefusal inRange refusalAt evRefusal
     evBytes addressBefore endpointValid faceValidUnder offersFrom offersOf flagsAt entriesOf faceValue seenIn faceSetLength isChoice
     entryRefusal faceItem settingRefusal metadataRefusal hdrRefusal throttleRefusal throttleBytes presenceValid profileValidUnder
-    profileRefusal profileItem setRefusal settingsHeld valueRefusal kept settingsWellFormedUnder valueOf requestDone requested snapshot recordOf
+    profileRefusal profileItem setRefusal settingsHeld valueRefusal kept settingsWellFormedUnder valueOf requestDone requested
+    snapshot recordOf
 lengths-reached = record { formed = refl; answer = refl; payload = refl; written = refl }
 
 -- snapshots saved before
