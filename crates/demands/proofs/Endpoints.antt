@@ -1,7 +1,7 @@
 -- Request #107, up to fifteen endpoints; specs/Endpoints has the statements. Assumes nothing.
-use mathlib.Core.{Path.{_≡_, refl, ap, sym, _∙_}, List.{List, [], _∷_, _++_}, Option.{Option, none, some}}
+use mathlib.Core.{Path.{_≡_, refl, ap, sym, _∙_}, List.{List, [], _∷_, _++_}, Option.{some}}
 use mathlib.Core.Bool.{Bool, true, false, cond, not, _&&_, and-eq-true-iff}
-use Prim.Native.Nat.{ℕ, zero, suc, _≤_, _<_}
+use Prim.Native.Nat.{ℕ, _-_, _≤_, _<_}
 use native.Mathlib.Omega.{arith}
 use lib.{Dec.{eqb, ltb}, ListN.{length, getD, drop}, Seq.{getD-drop}}
 use borrow.Author.Tests.{ltb-true, not-false, eq-eqb, ne-eqb}
@@ -12,8 +12,8 @@ use Rattle.wire.proofs.Laws.Rows.{last-answers}
 use Rattle.flags.specs.Flags.{isSet, bitsOf, count, first, oneFlag}
 use Rattle.request.specs.{Setup.{isSetRequest, setupSelector, setupCode}, Answers.{answerBy, longestAnswer}}
 use Rattle.request.specs.Tests.{requestTests, valueTests, fullAnswer, sentCount, requestRows, requestCode, testNumber, tableRefusal}
-use Rattle.snapshot.specs.{Keys.{keys}, Records.{records, encode, decode, IsRecord, GoodAt, Good, KeyedRecord, Each}}
-use Rattle.snapshot.proofs.Laws.{Maps.{decode-good}, Entries.{entryAt, entries, records-entries}}
+use Rattle.snapshot.specs.Records.{records, encode, IsRecord, KeyedRecord}
+use Rattle.snapshot.proofs.Laws.Entries.{each-record, each-at}
 use Rattle.controls.specs.Controls.{itemOf, itemCode, firstRefusal}
 use Rattle.exposure.specs.Exposure.{inRange, refusalAt, evRefusal, evBytes}
 use Rattle.face.specs.Limits.{endpointsOf, addressBefore, endpointValid, faceValidUnder, offersFrom, offersOf}
@@ -98,25 +98,12 @@ lengths-reached = record { formed = refl; answer = refl; payload = refl; written
 pub old-shapes-load : OldShapesLoad
 unfolding settingsWellFormedUnder profileValidUnder loadedUnder loadCodeUnder
 old-shapes-load c z =
-    let e : recordWellFormedUnder oldLimit c ≡ recordWellFormed c = rw (limit-raised oldLimit 7 (c .profile .face) z) in
+    let e : recordWellFormedUnder oldLimit c ≡ recordWellFormed c =
+    rw (limit-raised oldLimit (endpointLimit - oldLimit) (c .profile .face) z) in
     let loads : (s : List ℕ) → loadedUnder oldLimit c s ≡ loaded c s = λ s. rw e in
     record { formed = e; loads = loads; narrow = λ s. load-narrow c z s ∙ ap oldOutcome (loads s) }
 
 -- new snapshots on an older camera
-
--- each record of a snapshot is a record of its key
-each-record : (n k : ℕ) (m : ℕ → Option (List ℕ)) → Good m → Each IsRecord (entries n k m)
-unfolding entries
-each-record zero k m g = tt
-each-record (suc n) k m g = go (m k) (g k) (each-record n (suc k) m g)
-  where
-    go : (o : Option (List ℕ)) → GoodAt k o → Each IsRecord (entries n (suc k) m) → Each IsRecord (entryAt k o ++ entries n (suc k) m)
-    go none p ih = ih
-    go (some r) p ih = (p, ih)
-
-each-at : (before after : List KeyedRecord) (e : KeyedRecord) → Each IsRecord (before ++ (e ∷ after)) → IsRecord (e .0) (e .1)
-each-at [] after e a = a .0
-each-at (x ∷ before) after e a = each-at before after e (a .1)
 
 -- the records behind are asked where those before have no fault
 fault-append : (p : Profile) (f : Bool) (before l : List KeyedRecord)
@@ -156,7 +143,7 @@ refuses-unlisted c w h s f before after e split u =
     let p = c .profile in
     let on = c .streaming in
     let v = formed-profile c w in
-    let is = each-at before after e (rw (← split, records-entries s f) (each-record keys 0 (decode s) (decode-good s))) in
+    let is = each-at IsRecord before after e (rw split at (each-record s f)) in
     let here = unlisted-code p v h on (e .0) (e .1) is u in
     let all = load-fault c w s f ∙ ap (firstFault p on) split ∙ fault-append p on before (e ∷ after) in
     record {

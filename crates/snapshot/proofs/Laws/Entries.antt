@@ -6,7 +6,7 @@ use lib.{ListN.{length, take, length-drop}, Dec.{leb, eqb}}
 use borrow.Author.Tests.{leb-true, leb-false, eqb-true, eqb-false, ne-eqb}
 use Rattle.snapshot.specs.{Keys.{keys, recordLength}, Form.{soundRecord, formed, wellFormed}}
 use Rattle.snapshot.specs.Records.{stands, skip, from, recordAt, decode, recordBytes, records, encode, KeyedRecord, split, recordsOf}
-use Rattle.snapshot.specs.Records.{find, Ascending, joined}
+use Rattle.snapshot.specs.Records.{find, Ascending, joined, IsRecord, GoodAt, Good, Each}
 use Rattle.snapshot.proofs.Laws.Sound.{parts-sound, stands-sound, stands-size, stands-long, stands-some}
 use Rattle.snapshot.proofs.Laws.Maps.{skip-at, skip-not, decode-good, none-above}
 use Rattle.snapshot.proofs.Laws.Form.{empty-nil, formed-end, formed-at, formed-not, encode-decode}
@@ -56,6 +56,25 @@ split-entries (suc n) fuel k s l h w =
 pub records-entries : (s : List ℕ) → wellFormed s ≡ true → recordsOf s ≡ entries keys 0 (decode s)
 unfolding recordsOf wellFormed from
 records-entries s w = split-entries keys (length s) 0 s (omega arith) refl w
+
+-- each of them is a record of its key
+entries-each : (n k : ℕ) (m : ℕ → Option (List ℕ)) → Good m → Each IsRecord (entries n k m)
+unfolding entries
+entries-each zero k m g = tt
+entries-each (suc n) k m g = go (m k) (g k) (entries-each n (suc k) m g)
+  where
+    go : (o : Option (List ℕ)) → GoodAt k o → Each IsRecord (entries n (suc k) m) → Each IsRecord (entryAt k o ++ entries n (suc k) m)
+    go none p ih = ih
+    go (some r) p ih = (p, ih)
+
+pub each-record : (s : List ℕ) → wellFormed s ≡ true → Each IsRecord (recordsOf s)
+each-record s w = rw (records-entries s w) (entries-each keys 0 (decode s) (decode-good s))
+
+-- what holds of each holds of any
+pub each-at : (P : ℕ → List ℕ → Type 0) (before after : List KeyedRecord) (e : KeyedRecord) → Each P (before ++ (e ∷ after))
+    → P (e .0) (e .1)
+each-at P [] after e a = a .0
+each-at P (x ∷ before) after e a = each-at P before after e (a .1)
 
 -- a key that is not among those passed is not found
 find-none : (n k j : ℕ) (m : ℕ → Option (List ℕ)) → ((i : ℕ) → k ≤ i → i < n + k → i ≡ j → ⊥) → find j (entries n k m) ≡ none
