@@ -29,15 +29,15 @@ valid-four P a b c d o v = go o (offers-between o v)
     go (suc (suc (suc (suc (suc (suc n)))))) h = absurd (omega arith)
 
 -- the other way, computed of every byte: without a flag of D3 to D7 it is valid, unless D1 and D2 are alike
-abbrev low : ℕ → Bool
-low o = allBelow 5 (λ k. not (isSet o (3 + k)))
+abbrev none-above : ℕ → Bool
+none-above o = allBelow 5 (λ k. not (isSet o (3 + k)))
 
-computed : allBelow 256 (λ o. not (low o) || cond (isSet o 1) (isSet o 2) (not (isSet o 2)) || offersValid o) ≡ true
+computed : allBelow 256 (λ o. not (none-above o) || cond (isSet o 1) (isSet o 2) (not (isSet o 2)) || offersValid o) ≡ true
 unfolding allBelow isSet
 computed = refl
 
-mode-low : (o : ℕ) → OneMode o → low o ≡ true
-mode-low o m = all-of 5 _ (λ k h. rw (m .above (3 + k) (omega arith)))
+mode-none : (o : ℕ) → OneMode o → none-above o ≡ true
+mode-none o m = all-of 5 _ (λ k h. rw (m .above (3 + k) (omega arith)))
 
 pub offers-by-flags : OffersByFlags
 unfolding isSet
@@ -46,7 +46,7 @@ offers-by-flags o h = (
     one = valid-four (λ o. isSet o 1 ≡ not (isSet o 2)) refl refl refl refl o v;
     above = λ k g. high-clear 3 o k (valid-four (λ o. o < 8) (lit< tt) (lit< tt) (lit< tt) (lit< tt) o v) (omega arith);
   },
-  λ m. go (isSet o 2) (offersValid o) (rw (mode-low o m, m .one) at (all-at 256 _ computed o h)),
+  λ m. go (isSet o 2) (offersValid o) (rw (mode-none o m, m .one) at (all-at 256 _ computed o h)),
 )
   where
     go : (c d : Bool) → cond (not c) c (not c) || d ≡ true → d ≡ true
