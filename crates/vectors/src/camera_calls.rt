@@ -1,4 +1,5 @@
 // Calls of the camera.
+use crate::buffers::LENT;
 use crate::buffers::first;
 use crate::print;
 use crate::record;
@@ -19,11 +20,11 @@ fn told(r: Outcome) -> Camera {
 
 // A request: room for the reply, setup, payload.
 fn request(camera: Camera, call: &[u8]) -> Camera {
-    let mut setup = [0u8; 256];
+    let mut setup = [0u8; LENT];
     let n = decode(word(call, 2), &mut setup);
-    let mut payload = [0u8; 256];
+    let mut payload = [0u8; LENT];
     let m = decode(word(call, 3), &mut payload);
-    let mut room = [0xEEu8; 256];
+    let mut room = [0xEEu8; LENT];
     let reply = first(&mut room, octet(word(call, 1), 0) as usize);
     let next = told(camera.request(wire::head(&setup, n), wire::head(&payload, m), reply));
     print::bytes(reply);
@@ -32,7 +33,7 @@ fn request(camera: Camera, call: &[u8]) -> Camera {
 
 // Writing a snapshot: room for it.
 fn write(camera: Camera, call: &[u8]) -> Camera {
-    let mut room = [0xEEu8; 256];
+    let mut room = [0xEEu8; LENT];
     let out = first(&mut room, octet(word(call, 1), 0) as usize);
     let next = told(camera.write(out));
     print::bytes(out);
@@ -41,7 +42,7 @@ fn write(camera: Camera, call: &[u8]) -> Camera {
 
 // Loading a snapshot.
 fn load(camera: Camera, call: &[u8]) -> Camera {
-    let mut snapshot = [0u8; 256];
+    let mut snapshot = [0u8; LENT];
     let n = decode(word(call, 1), &mut snapshot);
     told(camera.load(wire::head(&snapshot, n)))
 }

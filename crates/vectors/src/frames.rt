@@ -1,4 +1,5 @@
 // Calls on blocks of frame metadata and on payload headers.
+use crate::buffers::LENT;
 use crate::buffers::first;
 use crate::print;
 use crate::words::called;
@@ -31,14 +32,14 @@ fn entry(f: Found) {
 }
 
 fn count(call: &[u8]) {
-    let mut bytes = [0u8; 256];
+    let mut bytes = [0u8; LENT];
     let n = decode(word(call, 1), &mut bytes);
     tally(wire::head(&bytes, n));
 }
 
 // Number, id, and the payload.
 fn item(call: &[u8]) {
-    let mut bytes = [0u8; 256];
+    let mut bytes = [0u8; LENT];
     let n = decode(word(call, 2), &mut bytes);
     let block = wire::head(&bytes, n);
     let f = frame::item(block, place(word(call, 1)));
@@ -60,7 +61,7 @@ fn long_block(call: &[u8]) {
 
 // The number, the end, and the buffer's bytes from a place on.
 fn append(call: &[u8]) {
-    let mut bytes = [0u8; 256];
+    let mut bytes = [0u8; LENT];
     let n = decode(word(call, 4), &mut bytes);
     let payload = wire::head(&bytes, n);
     let mut room = [0xEEu8; 65536];
@@ -73,7 +74,7 @@ fn append(call: &[u8]) {
 
 // Number, flags, and the metadata.
 fn header(call: &[u8]) {
-    let mut bytes = [0u8; 256];
+    let mut bytes = [0u8; LENT];
     let n = decode(word(call, 1), &mut bytes);
     let packet = wire::head(&bytes, n);
     let h = packet::header(packet);

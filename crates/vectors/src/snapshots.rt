@@ -1,4 +1,5 @@
 // Calls on snapshots.
+use crate::buffers::LENT;
 use crate::buffers::first;
 use crate::print;
 use crate::words::called;
@@ -20,7 +21,7 @@ fn keys(s: &[u8]) {
 
 // The verdict on the form, the key of the first record, and the keys whose record is read.
 fn form(call: &[u8]) {
-    let mut bytes = [0u8; 256];
+    let mut bytes = [0u8; LENT];
     let n = decode(word(call, 1), &mut bytes);
     let s = wire::head(&bytes, n);
     print::code(snapshot::check(s));
@@ -40,7 +41,7 @@ fn passed(s: &[u8], key: usize) -> usize {
 
 // A key's length, what is passed of it at the start, and the length of its record.
 fn key(call: &[u8]) {
-    let mut bytes = [0u8; 256];
+    let mut bytes = [0u8; LENT];
     let n = decode(word(call, 2), &mut bytes);
     let s = wire::head(&bytes, n);
     let key = place(word(call, 1));
@@ -52,11 +53,11 @@ fn key(call: &[u8]) {
 
 // The verdict, the length, and all of the lent buffer.
 fn merge(call: &[u8]) {
-    let mut a = [0u8; 256];
+    let mut a = [0u8; LENT];
     let n = decode(word(call, 2), &mut a);
-    let mut b = [0u8; 256];
+    let mut b = [0u8; LENT];
     let m = decode(word(call, 3), &mut b);
-    let mut room = [0xEEu8; 256];
+    let mut room = [0xEEu8; LENT];
     let out = first(&mut room, octet(word(call, 1), 0) as usize);
     let merged = merging::merge(wire::head(&a, n), wire::head(&b, m), out);
     print::code(merged.code);
