@@ -76,10 +76,10 @@ module _ (c : Camera) (w : recordWellFormed c ≡ true) where
 
 pub camera-lengths : AllCameraLengths
 camera-lengths c w = record {
-  payload = payload-short c w;
-  answer = λ h code. answer-short c w selector.face code h;
-  reply = reply-suffices c w;
-  written = snapshot-most c w;
+  payload = λ setup payload reply i f e. omega (arith, payload-short c w setup payload reply i f e);
+  answer = λ h code. omega (arith, answer-short c w selector.face code h);
+  reply = λ setup payload reply h e. reply-suffices c w setup payload reply (omega arith) e;
+  written = omega (arith, snapshot-most c w);
   listed = snapshot-short c w;
 }
 

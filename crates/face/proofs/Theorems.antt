@@ -138,4 +138,4 @@ pub zeros-left-out : ZerosLeftOut
 zeros-left-out low l z = record { valid = valid-same low l z; offers = look-same low l z }
 
 pub no-more-listed : NoMoreListed
-no-more-listed = count-places
+no-more-listed limit l v = omega (arith, count-places limit l v)
