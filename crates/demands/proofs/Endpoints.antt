@@ -18,7 +18,7 @@ use Rattle.controls.specs.Controls.{itemOf, itemCode, firstRefusal}
 use Rattle.exposure.specs.Exposure.{inRange, refusalAt, evRefusal, evBytes}
 use Rattle.face.specs.Limits.{endpointsOf, addressBefore, endpointValid, faceValidUnder, offersFrom, offersOf}
 use Rattle.face.specs.Answers.{flagsAt, entriesOf, faceValue}
-use Rattle.face.proofs.{Theorems.{limit-raised}, Laws.Limits.{count-most, offers-unlisted}}
+use Rattle.face.proofs.{Theorems.{limit-raised, zeros-behind}, Laws.Limits.{count-most, offers-unlisted}}
 use Rattle.entries.specs.Entries.{entryAddress, seenIn, faceSetLength, isChoice, entryRefusal, faceItem, settingRefusal}
 use Rattle.entries.proofs.Laws.{Entries.{entry-code}, Payload.{len-longest}}
 use Rattle.metadata.specs.Metadata.{metadataRefusal}
@@ -97,7 +97,8 @@ lengths-reached = record { formed = refl; answer = refl; payload = refl; written
 
 pub old-shapes-load : OldShapesLoad
 unfolding settingsWellFormedUnder profileValidUnder loadedUnder loadCodeUnder
-old-shapes-load c z =
+old-shapes-load c zeros =
+    let z = zeros-behind _ (c .profile .face) zeros oldLimit (omega arith) in
     let e : recordWellFormedUnder oldLimit c ≡ recordWellFormed c =
     rw (limit-raised oldLimit (endpointLimit - oldLimit) (c .profile .face) z) in
     let loads : (s : List ℕ) → loadedUnder oldLimit c s ≡ loaded c s = λ s. rw e in

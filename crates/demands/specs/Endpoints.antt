@@ -74,18 +74,21 @@ pub record LengthsReached : Type 0 where
       (request (0x21 ∷ setCur ∷ 0 ∷ selector.face ∷ 0 ∷ 4 ∷ 121 ∷ 0 ∷ []) (cameraAnswer fullCamera selector.face getCur) []) .code ≡ 0
   pub written : length (snapshot fullCamera) ≡ 250
 
--- the limit before this request
+-- the limit before this request, and as many places for endpoints
 abbrev pub oldLimit : ℕ
 oldLimit = 8
 
--- a record as it was before, with as many places for endpoints, and an outcome with that record
+abbrev pub oldPlaces : ℕ
+oldPlaces = oldLimit
+
+-- a record as it was before, with these places, and an outcome with that record
 abbrev pub oldProfile : Profile → Profile
 oldProfile p = record {
   unit = p .unit;
   interface = p .interface;
   controls = p .controls;
   ev = p .ev;
-  face = firstPlaces oldLimit (p .face);
+  face = firstPlaces oldPlaces (p .face);
   metadata = p .metadata;
   hdr = p .hdr;
   throttle = p .throttle;

@@ -2,29 +2,33 @@
 use mathlib.Core.{Path.{_≡_, refl, ap, fun-ext}, List.{List, []}, Option.{Option, none, some, Option·map, Option·elim}}
 use mathlib.Core.Bool.{Bool, true, false, cond}
 use Prim.Native.Nat.{ℕ}
+use native.Mathlib.Omega.{arith}
 use lib.Dec.{eqb}
 use Rattle.wire.proofs.Laws.Below.{all-same}
 use Rattle.request.specs.Tests.{tableRefusal}
 use Rattle.snapshot.specs.{Keys.{keys}, Records.{decode}}
 use Rattle.controls.specs.{declared.{Item.{Item}, Setting.{Setting}}, Controls.{itemCode, firstRefusal}}
 use Rattle.controls.specs.declared.Setting.the-variants as S
-use Rattle.face.specs.{Limits.{offersOf}, Theorems.{ZerosFrom}}
-use Rattle.face.proofs.Theorems.{zeros-left-out}
+use Rattle.face.specs.{Limits.{offersOf}, Theorems.{ZerosFrom, SameInFirst}}
+use Rattle.face.proofs.Theorems.{zeros-left-out, zeros-behind}
 use Rattle.entries.specs.Entries.{entryAddress, entryRefusal, faceItem, settingRefusal}
 use Rattle.profile.specs.{declared.Profile.{Profile}, Profile.{profileValidUnder, profileRefusal}, Items.{profileItem}}
 use Rattle.settings.specs.{declared.settings.Settings.{Settings}, Held.{settingsHeld}, Kept.{valueRefusal, kept, settingsWellFormedUnder}}
 use Rattle.settings.specs.Items.{givenOf, allGiven}
 use Rattle.camera.specs.{declared.{record.Camera.{Camera}, calls.Outcome.{Outcome}}, Record.{puts}, Requests.{refused}}
 use Rattle.camera.specs.Loading.{recordItem, loadRefusal, loadTests, loadCodeUnder, loadGives, loadedUnder}
-use Rattle.demands.specs.Endpoints.{oldLimit, oldProfile, oldRecord, oldOutcome}
+use Rattle.demands.specs.Endpoints.{oldLimit, oldPlaces, oldProfile, oldRecord, oldOutcome}
 
 -- a profile without those places: the same rules, settings that keep them, and items of a SET
 module _ (p : Profile) (z : ZerosFrom oldLimit (p .face)) where
   abbrev old : Profile
   old = oldProfile p
 
+  list-same : SameInFirst oldPlaces (p .face)
+  list-same = zeros-left-out oldPlaces (p .face) (zeros-behind oldLimit (p .face) z oldPlaces (omega arith))
+
   offers-same : (address : ℕ) → offersOf (old .face) address ≡ offersOf (p .face) address
-  offers-same = zeros-left-out oldLimit (p .face) z .offers
+  offers-same = list-same .offers
 
   item-same : (selector : ℕ) (payload : List ℕ) (i : ℕ) → profileItem old selector payload i ≡ profileItem p selector payload i
   unfolding profileItem faceItem entryRefusal
@@ -47,7 +51,7 @@ module _ (p : Profile) (z : ZerosFrom oldLimit (p .face)) where
   unfolding settingsWellFormedUnder profileValidUnder
   formed-same s =
       rw (
-        zeros-left-out oldLimit (p .face) z .valid oldLimit,
+        list-same .valid oldLimit,
         all-same keys (λ k. kept old (settingsHeld s k)) (λ k. kept p (settingsHeld s k)) (λ k h. kept-same (settingsHeld s k)),
       )
 
