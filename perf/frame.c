@@ -7,7 +7,7 @@ static bool known(uint32_t id) { return (id >= 1 && id <= 6) || id >= 0x80000000
 
 uint8_t frame_item(const uint8_t *block, size_t len, size_t k, struct item *item)
 {
-    struct item found = {0, 0, 0};
+    struct item found = {0, false, 0, 0};
     bool any = false;
 
     *item = found;
@@ -17,14 +17,14 @@ uint8_t frame_item(const uint8_t *block, size_t len, size_t k, struct item *item
         if (len - at < 8)
             return 0x40;
         uint32_t id = le32(block + at), size = le32(block + at + 4);
-        if (!known(id))
+        if (id == 0)
             return 0x41;
         if (size < 8)
             return 0x42;
         if (size > len - at)
             return 0x40;
         if (n == k) {
-            found = (struct item){id, at + 8, size - 8};
+            found = (struct item){id, !known(id), at + 8, size - 8};
             any = true;
         }
         at += size;
@@ -44,7 +44,7 @@ uint8_t frame_count(const uint8_t *block, size_t len, size_t *items)
         if (len - at < 8)
             return 0x40;
         uint32_t size = le32(block + at + 4);
-        if (!known(le32(block + at)))
+        if (le32(block + at) == 0)
             return 0x41;
         if (size < 8)
             return 0x42;

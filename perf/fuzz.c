@@ -238,6 +238,14 @@ static void snapshots(void)
     same("merge", x, y, ours, peers, sizeof ours);
 }
 
+/* Mostly an id of a kind that is read, at the bounds of its kind as a rule. */
+static uint32_t metadata_id(void)
+{
+    static const uint32_t bounds[] = {1, 6, 7, 0x7FFFFFFF, 0x80000000, 0xFFFFFFFF};
+
+    return one_in(40) ? 0 : one_in(3) ? 1 + below(12) : one_in(3) ? 0x7FFFFFF8 + below(16) : bounds[below(6)];
+}
+
 static void frames(void)
 {
     uint8_t block[2 * 600], packets[40], ours[300], peers[300];
@@ -246,7 +254,7 @@ static void frames(void)
     memset(block, 0x11, sizeof block);
     for (unsigned k = below(12); k; k--) {
         uint32_t len = 8 + below(40);
-        put32(block + n, one_in(3) ? 0x80000000 + below(9) : 1 + below(6));
+        put32(block + n, metadata_id());
         put32(block + n + 4, len);
         n += len;
     }
@@ -255,7 +263,7 @@ static void frames(void)
         n = below(n);
     memmove(block + n, block, n);
     size_t k = below(12), len = below(60), room = below(300), times = below(4);
-    uint32_t id = below(8);
+    uint32_t id = metadata_id();
     same("count", probe_count(block, 2 * n, 1), peer_count(block, 2 * n, 1), block, block, 0);
     same("item", probe_item(block, 2 * n, k, 1), peer_item(block, 2 * n, k, 1), block, block, 0);
 #ifdef VIEWS

@@ -183,7 +183,7 @@ uint64_t peer_item(const uint8_t *blocks, size_t len, size_t k, size_t n)
     for (size_t i = 0, second = 0; i < n; i++, second ^= 1) {
         struct item f;
         uint8_t code = frame_item(half(blocks, len, second), half_len(len, second), k, &f);
-        sum = mix(mix(mix(mix(sum, code), f.id), f.at), f.len);
+        sum = mix(mix(mix(mix(mix(sum, code), f.id), f.unknown), f.at), f.len);
     }
     return sum;
 }
@@ -196,7 +196,7 @@ uint64_t peer_view(const uint8_t *blocks, size_t len, size_t k, size_t n)
         struct item f;
         const uint8_t *block = half(blocks, len, second);
         uint8_t code = frame_item(block, half_len(len, second), k, &f);
-        sum = mix(mix(mix(mix(sum, code), f.id), f.len), f.len ? block[f.at] : 0);
+        sum = mix(mix(mix(mix(mix(sum, code), f.id), f.unknown), f.len), f.len ? block[f.at] : 0);
     }
     return sum;
 }

@@ -45,6 +45,7 @@ uint8_t snapshot_merge(const uint8_t *a, size_t a_len, const uint8_t *b, size_t 
 
 struct item {
     uint32_t id;
+    bool unknown;
     size_t at, len;
 };
 struct header {

@@ -1,4 +1,4 @@
-// The metadata blocks of document 01: how many items each has, and its first item.
+// The metadata blocks of document 01, and of #105 of document 02 one with a newer id: how many items each has, and its first item.
 use crate::print;
 use printing::text;
 
@@ -9,7 +9,7 @@ fn row(name: &[u8], block: &[u8]) {
     print::code(counted.code, 8);
     print::number(counted.items, 7);
     let first = frame::item(block, 0);
-    print::number(first.id as usize, 10);
+    print::id(first.id, first.unknown, 10);
     print::bytes(wire::part_at(block, first.payload), 0);
     print::end();
 }
@@ -28,4 +28,6 @@ pub(crate) fn rows() {
         b"\x06\x00\x00\x00\x10\x00\x00\x00\x01\x02\x03\x04\x05\x06\x07",
     );
     row(b"size 8", b"\x06\x00\x00\x00\x08\x00\x00\x00");
+    row(b"a newer id", b"\x07\x00\x00\x00\x0a\x00\x00\x00\x01\x02");
+    row(b"id 0", b"\x00\x00\x00\x00\x08\x00\x00\x00");
 }

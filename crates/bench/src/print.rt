@@ -31,6 +31,16 @@ pub(crate) fn number(n: usize, width: usize) {
     fill(printing::decimal(n as u64), width);
 }
 
+// A metadata id, and its mark.
+pub(crate) fn id(n: u32, unknown: bool, width: usize) {
+    let digits = printing::decimal(n as u64);
+    if unknown {
+        fill(digits + text(b" unknown"), width);
+        return;
+    }
+    fill(digits, width);
+}
+
 pub(crate) fn signed(v: i32, width: usize) {
     fill(printing::signed(v), width);
 }

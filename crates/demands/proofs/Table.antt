@@ -14,8 +14,8 @@ use Rattle.settings.specs.{Settings.{noSettings, put}, Held.{settingsHeld}, Kep
 use Rattle.settings.specs.Items.{givenOf, allGiven, putAll, setGives}
 use Rattle.camera.specs.{Requests.{requestDone, requested}, Writing.{snapshot}, Calls.{sensed}}
 use Rattle.encoding.specs.Encoding.{recordOf}
-use Rattle.frame.specs.Ids.{isKnown}
-use Rattle.frame.specs.Items.{itemRefusal, firstItem, itemsIn, itemsFrom, blockItems, blockCount, nthItem, blockItem, blockPayload}
+use Rattle.frame.specs.{Ids.{isReadable}, Items.{itemRefusalUnder, firstItemUnder, itemsInUnder, itemsFromUnder, blockItemsUnder}}
+use Rattle.frame.specs.Items.{blockCount, nthItem, blockItem, blockPayload}
 use Rattle.demands.specs.{Bench.{benchProfile}, Table.{rows, defined, paperAnswer}}
 
 table-holds : map defined rows ≡ map paperAnswer rows
@@ -25,5 +25,5 @@ unfolding benchProfile number leAt bytesOf signed32 bits32 isSet bitsOf count fi
     records encode presenceValid profileValidUnder noSettings settingsHeld put valueRefusal profileRefusal kept settingsWellFormedUnder
     itemCode givenOf firstRefusal allGiven putAll profileItem setRefusal setGives
     valueTests requestRows requestCode requestDone requested recordOf snapshot sensed
-    isKnown itemRefusal firstItem itemsIn itemsFrom blockItems nthItem blockItem blockCount blockPayload
+    isReadable itemRefusalUnder firstItemUnder itemsInUnder itemsFromUnder blockItemsUnder nthItem blockItem blockCount blockPayload
 table-holds = refl

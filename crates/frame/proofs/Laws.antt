@@ -1,3 +1,4 @@
+pub mod Ids
 pub mod Heads
 pub mod Fuel
 pub mod Walk
@@ -8,3 +9,6 @@ pub mod Layout
 pub mod Located
 pub mod Refusals
 pub mod Appended
+pub mod Known
+pub mod Cut
+pub mod Before

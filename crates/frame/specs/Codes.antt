@@ -5,8 +5,9 @@ use Prim.Native.Nat.{ℕ}
 abbrev pub truncated : ℕ
 truncated = 0x40
 
-abbrev pub unknownId : ℕ
-unknownId = 0x41
+-- an id that the reader, or the writer, does not take
+abbrev pub invalidId : ℕ
+invalidId = 0x41
 
 -- a size that does not hold the item's own header
 abbrev pub shortSize : ℕ

@@ -1,11 +1,11 @@
 -- Which items a metadata block holds, or its first fault, by document 01's tests of an item in its order; and what asking for item k and
 -- for the number of items hand back.
 use Prim.Native.Nat.{ℕ, zero, suc, _-_, _+_}
-use mathlib.Core.{List.{List, [], _∷_}, Bool.{not, cond}}
+use mathlib.Core.{List.{List, [], _∷_}, Bool.{Bool, false, not, cond}}
 use lib.{ListN.{length, take, drop}, Dec.{ltb, eqb}}
 use Rattle.wire.specs.{Numbers.{leAt}, Rows.{_⇒_, firstOf}, Parts.{bytesAt, nowhere}}
 use Rattle.frame.specs.declared.{items.Head.{Head}, items.Head.the-variants.{Bad, Whole}}
-use Rattle.frame.specs.{Codes.{truncated, unknownId, shortSize, tooLong, longestBlock, noItem}, Ids.{isKnown}}
+use Rattle.frame.specs.{Codes.{truncated, invalidId, shortSize, tooLong, longestBlock, noItem}, Ids.{isKnown, isReadable}}
 use Rattle.frame.specs.declared.{items.Found.{Found}, items.Counted.{Counted}}
 
 -- an item: its id, and the bytes of its payload
@@ -29,19 +29,20 @@ itemId s = leAt 4 s 0
 abbrev pub itemSize : List ℕ → ℕ
 itemSize s = leAt 4 s 4
 
--- the refusal of the item that the rest of a block begins with
-unfoldable pub itemRefusal : List ℕ → ℕ
-itemRefusal s =
+-- the refusal of the item that the rest of a block begins with, for a reader of the ids that `takes` says
+unfoldable pub itemRefusalUnder : (ℕ → Bool) → List ℕ → ℕ
+itemRefusalUnder takes s =
     firstOf
     ((ltb (length s) 8 ⇒ truncated)
-    ∷ (not (isKnown (itemId s)) ⇒ unknownId)
+    ∷ (not (takes (itemId s)) ⇒ invalidId)
     ∷ (ltb (itemSize s) 8 ⇒ shortSize)
     ∷ (ltb (length s) (itemSize s) ⇒ truncated)
     ∷ [])
 
 -- that item by itself: its refusal, or its id and size
-unfoldable pub firstItem : List ℕ → Head
-firstItem s = cond (eqb (itemRefusal s) 0) (Whole (itemId s) (itemSize s)) (Bad (itemRefusal s))
+unfoldable pub firstItemUnder : (ℕ → Bool) → List ℕ → Head
+firstItemUnder takes s =
+    cond (eqb (itemRefusalUnder takes s) 0) (Whole (itemId s) (itemSize s)) (Bad (itemRefusalUnder takes s))
 
 -- one item in front of what the bytes behind it hold
 infixr 30 _before_
@@ -59,27 +60,47 @@ follow rest s (Whole id size) = itemIn s id size before rest (drop size s)
 
 -- the items of the rest of a block: none in no bytes, else one and those behind it. n only bounds the recursion: as many as there are
 -- bytes is enough, and more change nothing (`proofs/Laws/Fuel.antt`, enough)
-unfoldable pub itemsIn : ℕ → List ℕ → BlockReading
-itemsIn zero s = sound []
-itemsIn (suc n) s =
-    let one = follow (itemsIn n) s (firstItem s) in
+unfoldable pub itemsInUnder : (ℕ → Bool) → ℕ → List ℕ → BlockReading
+itemsInUnder takes zero s = sound []
+itemsInUnder takes (suc n) s =
+    let one = follow (itemsInUnder takes n) s (firstItemUnder takes s) in
     cond (ltb 0 (length s)) one (sound [])
 
-unfoldable pub itemsFrom : List ℕ → BlockReading
-itemsFrom s = itemsIn (length s) s
+unfoldable pub itemsFromUnder : (ℕ → Bool) → List ℕ → BlockReading
+itemsFromUnder takes s = itemsInUnder takes (length s) s
 
 -- the block s
-unfoldable pub blockItems : List ℕ → BlockReading
-blockItems s = cond (ltb longestBlock (length s)) (refused tooLong) (itemsFrom s)
+unfoldable pub blockItemsUnder : (ℕ → Bool) → List ℕ → BlockReading
+blockItemsUnder takes s = cond (ltb longestBlock (length s)) (refused tooLong) (itemsFromUnder takes s)
 
--- a refusal: id 0 and an empty part
+-- these, as they are read since request #105 of document 02
+abbrev pub itemRefusal : List ℕ → ℕ
+itemRefusal = itemRefusalUnder isReadable
+
+abbrev pub firstItem : List ℕ → Head
+firstItem = firstItemUnder isReadable
+
+abbrev pub itemsIn : ℕ → List ℕ → BlockReading
+itemsIn = itemsInUnder isReadable
+
+abbrev pub itemsFrom : List ℕ → BlockReading
+itemsFrom = itemsFromUnder isReadable
+
+abbrev pub blockItems : List ℕ → BlockReading
+blockItems = blockItemsUnder isReadable
+
+-- a refusal: id 0, no mark and an empty part
 abbrev pub refusedItem : ℕ → Found
-refusedItem code = record { code = code; id = 0; payload = nowhere }
+refusedItem code = record { code = code; id = 0; unknown = false; payload = nowhere }
+
+-- an item that is handed out: marked where its id is not known, its payload at `at`
+abbrev pub foundItem : (id at len : ℕ) → Found
+foundItem id at len = record { code = 0; id = id; unknown = not (isKnown id); payload = record { at = at; len = len } }
 
 -- item k of items that begin at `at` in their block, k from 0; a payload stands behind the 8 bytes of id and size
 unfoldable pub nthItem : ℕ → ℕ → List MetadataItem → Found
 nthItem at k [] = refusedItem noItem
-nthItem at zero (i ∷ is) = record { code = 0; id = i .id; payload = record { at = at + 8; len = length (i .payload) } }
+nthItem at zero (i ∷ is) = foundItem (i .id) (at + 8) (length (i .payload))
 nthItem at (suc k) (i ∷ is) = nthItem (at + (8 + length (i .payload))) k is
 
 abbrev pub foundIn : ℕ → BlockReading → Found

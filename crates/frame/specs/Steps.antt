@@ -3,7 +3,7 @@ use Prim.Native.Nat.{ℕ, suc, _+_}
 use mathlib.Core.{List.{List, [], _∷_}, Bool.{cond}}
 use lib.{ListN.{length}, Dec.{eqb}}
 use Rattle.frame.specs.declared.{items.Found.{Found}, items.Survey.{Survey}}
-use Rattle.frame.specs.Items.{MetadataItem, BlockReading, refused, sound, refusedItem, foundIn, countIn}
+use Rattle.frame.specs.Items.{MetadataItem, BlockReading, refused, sound, refusedItem, foundItem, foundIn, countIn}
 
 -- both answers of one walk
 abbrev pub surveyOf : ℕ → BlockReading → Survey
@@ -15,7 +15,7 @@ stoppedAt code = record { counted = record { code = code; items = 0 }; found = r
 
 -- item n, at `at`, is passed while k is looked for
 unfoldable pub passItem : (k at n : ℕ) → Found → (id len : ℕ) → Found
-passItem k at n found id len = cond (eqb n k) (record { code = 0; id = id; payload = record { at = at + 8; len = len } }) found
+passItem k at n found id len = cond (eqb n k) (foundItem id (at + 8) len) found
 
 -- the walk goes on at `at` over these items, n of them passed
 unfoldable pub walkedOver : (k at n : ℕ) → Found → List MetadataItem → Survey

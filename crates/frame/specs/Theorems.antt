@@ -1,11 +1,13 @@
--- What the theorems of this crate say: the owner's demands on frame metadata.
-use Prim.Native.Nat.{ℕ, _+_, _≤_, _<_}
-use mathlib.Core.{Path.{_≡_}, List.{List, [], _∷_, _++_}}
+-- What the theorems of this crate say: the owner's demands on frame metadata, and what request #105 of document 02 asks.
+use Prim.Native.Nat.{ℕ, _+_, _^_, _≤_, _<_}
+use mathlib.Core.{Path.{_≡_}, List.{List, [], _∷_, _++_}, Bool.{true, false}}
 use lib.ListN.{length, take, getD}
 use denote.Ref.{RefT, ptr, now}
 use Rattle.wire.specs.Parts.{nowhere}
-use Rattle.frame.specs.{declared.writer.Appended.{Appended}, Codes.{noItem}}
-use Rattle.frame.specs.Items.{MetadataItem, absent, sound, blockItems, refusedItem, blockItem, blockCount, blockPayload}
+use Rattle.frame.specs.{declared.{writer.Appended.{Appended}, view.ItemView.{ItemView}}, Codes.{invalidId, noItem}}
+use Rattle.frame.specs.{Ids.{isKnown, isReadable, isNewer}, Cut.{withoutUnknown, knownOf, knownIndex}}
+use Rattle.frame.specs.Items.{MetadataItem, absent, BlockReading, refused, sound, blockItemsUnder, blockItems, refusedItem, foundIn}
+use Rattle.frame.specs.Items.{countIn, blockItem, blockCount, blockPayload}
 use Rattle.frame.specs.{Writer.{appendedOf, writtenOf}, Calls.{FrameCall, frameLent, FrameOutcome}}
 
 -- each of them is x
@@ -13,16 +15,20 @@ abbrev pub All : {A : Type 0} → A → List A → Type 0
 All x [] = Unit {0}
 All x (y ∷ ys) = (y ≡ x) × All x ys
 
--- Demand 1: a refused call changes no byte of a lent buffer. Document 01 adds that it reports zeros and an empty part.
+-- Demand 1: a refused call changes no byte of a lent buffer. Document 01 adds that it reports zeros and an empty part,
+-- and #105 that it is not marked.
 pub record FrameRefused (c : FrameCall) (o : FrameOutcome) : Type 0 where
   pub unchanged : o .buffer ≡ frameLent c
   pub zeros : All 0 (o .numbers)
   pub empty : All nowhere (o .parts)
+  pub unmarked : All false (o .marks)
 
--- Demand 2: item k of a sound block is handed out with its id and its payload, and where there is none the answer says so.
+-- Demand 2: item k of a sound block is handed out with its id and its payload, marked where #105 says, and where there is none the answer
+-- says so.
 pub record HandedOut (block : List ℕ) (is : List MetadataItem) (k : ℕ) : Type 0 where
   pub there : k < length is → blockItem block k .code ≡ 0
   pub its-id : blockItem block k .id ≡ getD is k absent .id
+  pub its-mark : blockItem block k .unknown ≡ isNewer (getD is k absent .id)
   pub its-payload : blockPayload block k ≡ getD is k absent .payload
   pub no-other : length is ≤ k → blockItem block k ≡ refusedItem noItem
 
@@ -39,7 +45,7 @@ pub record AppendReadsBack (block : List ℕ) (is : List MetadataItem) (i : Meta
   pub one-more : blockCount new ≡ record { code = 0; items = length is + 1 }
   pub earlier : (k : ℕ) → k < length is → (blockItem new k ≡ blockItem block k) × (blockPayload new k ≡ blockPayload block k)
   pub last : blockItem new (length is)
-      ≡ record { code = 0; id = i .id; payload = record { at = length block + 8; len = length (i .payload) } }
+      ≡ record { code = 0; id = i .id; unknown = false; payload = record { at = length block + 8; len = length (i .payload) } }
   pub last-payload : blockPayload new (length is) ≡ i .payload
 
 -- the call that appends item i behind the block that a buffer begins with, and the buffer up to the end that it reports
@@ -48,3 +54,62 @@ appending block buf i = appendedOf (length buf) (length block) (i .id) (length (
 
 abbrev pub afterwards : (block buf : List ℕ) → MetadataItem → List ℕ
 afterwards block buf i = take (appending block buf i .end) (writtenOf buf (length block) (i .id) (i .payload))
+
+-- items that a reader takes: ids of four bytes, none of them 0
+abbrev pub Readable : List MetadataItem → Type 0
+Readable [] = Unit {0}
+Readable (i ∷ is) = (isReadable (i .id) ≡ true) × (i .id < 256 ^ 4) × Readable is
+
+-- #105: an answer is marked exactly where its id is one of the newer, by that request's own bounds. A refusal's id is 0.
+abbrev pub Marked : List ℕ → ℕ → Type 0
+Marked block k = blockItem block k .unknown ≡ isNewer (blockItem block k .id)
+
+-- no item of the block is unknown
+abbrev pub NoneUnknown : List ℕ → Type 0
+NoneUnknown block = (k : ℕ) → blockItem block k .unknown ≡ false
+
+-- #105: item k of one block and item l of another have the same number, id, mark and payload bytes
+pub record SameItem (block : List ℕ) (k : ℕ) (other : List ℕ) (l : ℕ) : Type 0 where
+  pub number : blockItem block k .code ≡ blockItem other l .code
+  pub its-id : blockItem block k .id ≡ blockItem other l .id
+  pub mark : blockItem block k .unknown ≡ blockItem other l .unknown
+  pub payload : blockPayload block k ≡ blockPayload other l
+
+-- the same of what two views hand back
+pub record SameView (v w : ItemView) : Type 0 where
+  pub number : v .code ≡ w .code
+  pub its-id : v .id ≡ w .id
+  pub mark : v .unknown ≡ w .unknown
+  pub payload : now (v .payload) ≡ now (w .payload)
+
+-- #105: the known items of a sound block are those of the block with the unknown ones cut out, which is sound, no longer, and has no
+-- unknown item; known item k of the block is item k of the cut block.
+pub record KnownStay (block : List ℕ) (is : List MetadataItem) : Type 0 where
+  pub items : blockItems (withoutUnknown block) ≡ sound (knownOf is)
+  pub none-unknown : NoneUnknown (withoutUnknown block)
+  pub shorter : length (withoutUnknown block) ≤ length block
+  pub same : (k : ℕ) → SameItem block (knownIndex k is) (withoutUnknown block) k
+
+-- which number `knownIndex` is: of k known items that stand before it and one that follows; or past the last item
+pub record KnownIndex (is : List MetadataItem) (k : ℕ) : Type 0 where
+  pub there : k < length (knownOf is) → (knownIndex k is < length is) × (isKnown (getD is (knownIndex k is) absent .id) ≡ true)
+  pub before : k < length (knownOf is) → length (knownOf (take (knownIndex k is) is)) ≡ k
+  pub none : length (knownOf is) ≤ k → knownIndex k is ≡ length is
+
+-- #105: a sound block without unknown items is its own cut.
+abbrev pub NothingCut : List ℕ → Type 0
+NothingCut block = NoneUnknown block → withoutUnknown block ≡ block
+
+-- what the rules before #105 read in a block: known ids alone
+abbrev pub readBefore : List ℕ → BlockReading
+readBefore = blockItemsUnder isKnown
+
+abbrev pub TakenBefore : List ℕ → Type 0
+TakenBefore block = readBefore block ≡ refused invalidId → ⊥
+
+-- #105: a block is read as by those rules: its first fault or its items, the count, each item, none of them marked.
+pub record ReadAsBefore (block : List ℕ) : Type 0 where
+  pub items : blockItems block ≡ readBefore block
+  pub counted : blockCount block ≡ countIn (readBefore block)
+  pub found : (k : ℕ) → blockItem block k ≡ foundIn k (readBefore block)
+  pub none-unknown : NoneUnknown block

@@ -8,4 +8,5 @@ use Rattle.frame.specs.declared.{items.Found.{Found}, view.ItemView.{Ite
 pub record Views (block : RefT (List ℕ)) (f : Found) (v : ItemView) : Type 0 where
   pub same-code : v .code ≡ f .code
   pub same-id : v .id ≡ f .id
+  pub same-mark : v .unknown ≡ f .unknown
   pub part : PartOf block (f .payload) (v .payload)

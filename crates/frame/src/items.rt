@@ -1,6 +1,7 @@
 // Reading a metadata block: the item asked for, with the place of its payload, and how many items there are.
 use crate::codes;
 use crate::ids::is_known;
+use crate::ids::is_readable;
 use wire::Part;
 ghost use mathlib.Core.Path.{_≡_};
 ghost use Prim.Native.Nat.{_+_, _-_, _≤_};
@@ -13,10 +14,11 @@ pub const LONGEST_BLOCK: usize = 65535;
 // The bytes of an item's id and size (001's KSCAMERA_METADATA_ITEMHEADER), which stand before its payload and count in its size.
 pub(crate) const ITEM_HEADER: usize = 8;
 
-// An item's id and the place of its payload, with code 0; or a refusal, with id 0 and an empty part.
+// An item's id, whether it is unknown, and the place of its payload, with code 0; or a refusal, with id 0, not marked, and an empty part.
 pub struct Found {
     pub code: u8,
     pub id: u32,
+    pub unknown: bool,
     pub payload: Part,
 }
 
@@ -46,8 +48,8 @@ fn first_item(rest: &[u8]) -> Head
         return Head::Bad(codes::TRUNCATED);
     }
     let id = wire::le32(rest, 0);
-    if !is_known(id) {
-        return Head::Bad(codes::UNKNOWN_ID);
+    if !is_readable(id) {
+        return Head::Bad(codes::INVALID_ID);
     }
     let size = wire::le32(rest, 4) as usize;
     if size < ITEM_HEADER {
@@ -59,13 +61,14 @@ fn first_item(rest: &[u8]) -> Head
     Head::Whole(id, size)
 }
 
-// A refusal, with an empty part.
+// A refusal, not marked and with an empty part.
 fn refused_item(code: u8) -> Found
     ensures { λ r. ⌜ r ≡ refusedItem code ⌝ }
 {
     Found {
         code,
         id: 0,
+        unknown: false,
         payload: Part { at: 0, len: 0 },
     }
 }
@@ -85,13 +88,14 @@ fn pass_item(found: Found, k: usize, n: usize, id: u32, at: usize, size: usize) 
     ensures { λ r. ⌜ r ≡ passItem k at n found id (size - 8) ⌝ }
 {
     if n == k {
+        let unknown = !is_known(id);
+        let start = at + ITEM_HEADER;
+        let len = size - ITEM_HEADER;
         return Found {
             code: codes::ACCEPTED,
             id,
-            payload: Part {
-                at: at + ITEM_HEADER,
-                len: size - ITEM_HEADER,
-            },
+            unknown,
+            payload: Part { at: start, len },
         };
     }
     found

@@ -2,10 +2,11 @@
 use crate::items::item;
 ghost use Rattle.frame.specs.{Items.{blockItem}, View.{Views}};
 
-// An item's id and its payload, with code 0; or a refusal, with id 0 and an empty part.
+// An item's id, whether it is unknown, and its payload, with code 0; or a refusal, with id 0, not marked, and an empty part.
 pub struct ItemView<'a> {
     pub code: u8,
     pub id: u32,
+    pub unknown: bool,
     pub payload: &'a [u8],
 }
 
@@ -17,6 +18,7 @@ pub fn item_view<'a>(block: &'a [u8], k: usize) -> ItemView<'a>
     ItemView {
         code: f.code,
         id: f.id,
+        unknown: f.unknown,
         payload: wire::part_at(block, f.payload),
     }
 }

@@ -21,7 +21,7 @@ fn append_refusal(room: usize, at: usize, id: u32, len: usize) -> u8
     ensures { λ r. ⌜ r ≡ appendRefusal room at id len ⌝ }
 {
     if !is_known(id) {
-        return codes::UNKNOWN_ID;
+        return codes::INVALID_ID;
     }
     if LONGEST_BLOCK < at {
         return codes::TOO_LONG;

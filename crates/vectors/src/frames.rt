@@ -25,10 +25,13 @@ fn tally(block: &[u8]) {
     print::count(c.items);
 }
 
-// An item's number and id.
+// An item's number and id, and the mark if it has it.
 fn entry(f: Found) {
     print::code(f.code);
     print::hex(f.id as u64, 8);
+    if f.unknown {
+        printing::text(b" unknown");
+    }
 }
 
 fn count(call: &[u8]) {
@@ -37,7 +40,7 @@ fn count(call: &[u8]) {
     tally(wire::head(&bytes, n));
 }
 
-// Number, id, and the payload.
+// Number, id, mark, and the payload.
 fn item(call: &[u8]) {
     let mut bytes = [0u8; LENT];
     let n = decode(word(call, 2), &mut bytes);

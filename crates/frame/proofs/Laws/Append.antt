@@ -7,12 +7,12 @@ use borrow.Author.Tests.{lt-ltb, le-ltb, ltb-false, eq-eqb, ne-eqb, eqb-true, no
 use Rattle.wire.specs.{Numbers.{bytesOf}, Writes.{overlay}, Rows.{_⇒_}, Uvc.{noRoom}}
 use Rattle.wire.proofs.Laws.{Writes.{fits, same-length}, Rows.{quiet}}
 use Rattle.frame.specs.{declared.writer.Appended.{Appended}, Ids.{isKnown}}
-use Rattle.frame.specs.{Writer.{itemBytes, endOf, appendRefusal, appendedOf, writtenOf}, Codes.{unknownId, tooLong, longestBlock}}
+use Rattle.frame.specs.{Writer.{itemBytes, endOf, appendRefusal, appendedOf, writtenOf}, Codes.{invalidId, tooLong, longestBlock}}
 
 module _ (room at id len : ℕ) where
-  pub id-unknown : isKnown id ≡ false → unknownId ≡ appendRefusal room at id len
+  pub id-invalid : isKnown id ≡ false → invalidId ≡ appendRefusal room at id len
   unfolding appendRefusal
-  id-unknown k = simp k
+  id-invalid k = simp k
 
   pub end-long : isKnown id ≡ true → longestBlock < endOf at len → tooLong ≡ appendRefusal room at id len
   unfolding appendRefusal
@@ -35,7 +35,7 @@ module _ (room at id len : ℕ) where
   pub accepted : appendRefusal room at id len ≡ 0 → Fits
   unfolding appendRefusal
   accepted e =
-      let q = quiet ((_ ⇒ unknownId) ∷ (_ ⇒ tooLong) ∷ (_ ⇒ noRoom) ∷ []) [] refl e .0 in
+      let q = quiet ((_ ⇒ invalidId) ∷ (_ ⇒ tooLong) ∷ (_ ⇒ noRoom) ∷ []) [] refl e .0 in
       record { known = not-false _ (q .0); short = ltb-false _ _ (q .1 .0); roomy = ltb-false _ _ (q .1 .1 .0) }
 
   pub refuses : (code : ℕ) → code ≡ appendRefusal room at id len → (code ≡ 0 → ⊥)

@@ -5,11 +5,11 @@ use native.Mathlib.Omega.{arith}
 use lib.{ListN.{length, take, drop, getD, length-append, length-take, length-drop}, Seq.{take-at}, Dec.{ltb}}
 use borrow.Author.Tests.{ltb-false}
 use Rattle.frame.specs.Codes.{longestBlock, tooLong}
-use Rattle.frame.specs.Items.{MetadataItem, BlockReading, refused, sound, _before_, itemsFrom, blockItems, nthItem}
-use Rattle.frame.specs.Writer.{itemBytes, appendRefusal, writtenOf}
+use Rattle.frame.specs.Items.{MetadataItem, BlockReading, refused, sound, _before_, itemsFrom, blockItemsUnder, blockItems, foundItem}
+use Rattle.frame.specs.{Items.{nthItem}, Writer.{itemBytes, appendRefusal, writtenOf}}
 use Rattle.wire.proofs.Laws.Writes as overlays
 use Rattle.frame.proofs.Laws.{Fuel.{nothing-left}, Append.{accepted, writes}, Join.{_then_, Split, every, join}}
-use Rattle.frame.proofs.Laws.Layout.{length-item, reads}
+use Rattle.frame.proofs.Laws.{Ids.{known-readable}, Layout.{length-item, reads}}
 
 -- item k of the items before, and item k of those behind
 pub before-it : (at k : ℕ) (is js : List MetadataItem) → k < length is → nthItem at k (is ++ js) ≡ nthItem at k is
@@ -38,7 +38,7 @@ behind-it = every Behind (λ at k js. ap₂ (λ (n m : ℕ). nthItem n m js) (om
 -- one item behind the others
 pub last-item : (s : List ℕ) (is : List MetadataItem) (i : MetadataItem) → itemsFrom s ≡ sound is
     → nthItem 0 (length is) (is ++ i ∷ [])
-    ≡ record { code = 0; id = i .id; payload = record { at = length s + 8; len = length (i .payload) } }
+    ≡ foundItem (i .id) (length s + 8) (length (i .payload))
 unfolding nthItem
 last-item s is i e =
     let n : length is ≡ length is + 0 = omega arith in
@@ -51,7 +51,7 @@ last-of (j ∷ is) i d = last-of is i d
 
 -- a block that is not refused
 pub sound-block : (s : List ℕ) (is : List MetadataItem) → blockItems s ≡ sound is → (length s ≤ longestBlock) × (itemsFrom s ≡ sound is)
-unfolding blockItems
+unfolding blockItemsUnder
 sound-block s is e = go (ltb longestBlock (length s)) refl e
   where
     go : (b : Bool) → ltb longestBlock (length s) ≡ b → cond b (refused tooLong) (itemsFrom s) ≡ sound is
@@ -90,7 +90,7 @@ module _ (block buf : List ℕ) (id : ℕ) (payload : List ℕ) (begins : take (
       let f = accepted (length buf) (length block) id (length payload) a in
       let i : MetadataItem = record { id = id; payload = payload } in
       let one : itemsFrom (itemBytes id payload) ≡ (i before itemsFrom []) =
-      ap itemsFrom (sym (append-nil (itemBytes id payload))) ∙ reads id payload [] (f .known) small (omega arith) in
+      ap itemsFrom (sym (append-nil (itemBytes id payload))) ∙ reads id payload [] (known-readable id (f .known)) small (omega arith) in
       let last : itemsFrom (itemBytes id payload) ≡ sound (i ∷ []) =
       one ∙ ap (λ (g : BlockReading). i before g) (nothing-left [] (omega arith)) in
       ap itemsFrom new-is ∙ join (itemBytes id payload) block is e ∙ ap (λ (g : BlockReading). is then g) last ∙ then-sound is _

@@ -5,11 +5,12 @@ use native.Mathlib.Omega.{arith}
 use lib.{ListN.{length, drop, length-drop}, Dec.{ltb}}
 use borrow.Author.Tests.{ltb-true, le-ltb, lt-ltb}
 use Rattle.frame.specs.declared.{items.Head.{Head}, items.Head.the-variants.{Bad, Whole}}
-use Rattle.frame.specs.Items.{BlockReading, sound, firstItem, _before_, follow, itemsIn, itemsFrom, itemIn}
+use Rattle.frame.specs.Items.{BlockReading, sound, firstItem, _before_, follow, itemsInUnder, itemsIn, itemsFromUnder, itemsFrom}
+use Rattle.frame.specs.Items.{itemIn}
 use Rattle.frame.proofs.Laws.Heads.{Says, says}
 
 none : (n : ℕ) (s : List ℕ) → length s ≤ 0 → itemsIn n s ≡ sound []
-unfolding itemsIn
+unfolding itemsInUnder
 none zero s h = refl
 none (suc n) s h = simp (le-ltb _ _ h)
 
@@ -21,7 +22,7 @@ same f g s (Whole id size) w k =
     ap (λ (r : BlockReading). itemIn s id size before r) (k (drop size s) (simp length-drop (omega (arith, w .long, w .inside))))
 
 pub enough : (n m : ℕ) (s : List ℕ) → length s ≤ n → length s ≤ m → itemsIn n s ≡ itemsIn m s
-unfolding itemsIn
+unfolding itemsInUnder
 enough zero m s h k = sym (none m s h)
 enough (suc n) zero s h k = none (suc n) s k
 enough (suc n) (suc m) s h k =
@@ -33,15 +34,15 @@ enough (suc n) (suc m) s h k =
     go false e f = refl
 
 pub nothing-left : (s : List ℕ) → length s ≤ 0 → itemsFrom s ≡ sound []
-unfolding itemsFrom
+unfolding itemsFromUnder
 nothing-left s h = none (length s) s h
 
 step : (n : ℕ) (s : List ℕ) → 0 < length s → itemsIn (suc n) s ≡ follow (itemsIn n) s (firstItem s)
-unfolding itemsIn
+unfolding itemsInUnder
 step n s h = simp (lt-ltb _ _ h)
 
 pub one-then : (s : List ℕ) → 0 < length s → itemsFrom s ≡ follow itemsFrom s (firstItem s)
-unfolding itemsFrom
+unfolding itemsFromUnder
 one-then s h =
     enough (length s) (suc (length s)) s (omega arith) (omega arith)
     ∙ step (length s) s h

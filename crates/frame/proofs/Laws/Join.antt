@@ -61,9 +61,9 @@ module _ (P : List ℕ → List MetadataItem → Type 0) (nil : P [] [])
   every s is e = bounded (length s) s is (omega arith) e
 
 -- a sound item stays one with more bytes behind it
-still : (s t : List ℕ) (id size : ℕ) → Sound s id size → Sound (s ++ t) id size
+pub still : (s t : List ℕ) (id size : ℕ) → Sound s id size → Sound (s ++ t) id size
 still s t id size h = record {
-  known = h .known;
+  readable = h .readable;
   long = h .long;
   inside = simp length-append (omega (arith, h .inside));
   its-id = h .its-id ∙ sym (in-front 4 s t 0 (omega (arith, h .long, h .inside)));

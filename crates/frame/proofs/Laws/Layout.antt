@@ -3,8 +3,8 @@ use Prim.Native.Nat.{ℕ, _+_, _-_, _^_, _≤_, _<_}
 use mathlib.Core.{Path.{_≡_, refl, sym, ap, ap₂, _∙_}, List.{List, [], _∷_, _++_, append-assoc}, Bool.{true}}
 use native.Mathlib.Omega.{arith}
 use lib.{ListN.{length, take, drop, length-append, length-take, length-drop, take-append-drop}, Seq.{take-at, drop-at, take-add}}
-use Rattle.frame.specs.{Codes.{longestBlock}, Ids.{isKnown}, Items.{MetadataItem, BlockReading, sound, _before_, itemsFrom}}
-use Rattle.frame.specs.Writer.{itemBytes, layout, Writable}
+use Rattle.frame.specs.{Codes.{longestBlock}, Ids.{isReadable}, Items.{MetadataItem, BlockReading, sound, _before_, itemsFrom}}
+use Rattle.frame.specs.{Writer.{itemBytes, layout}, Theorems.{Readable}}
 use Rattle.wire.specs.Numbers.{bytesOf}
 use Rattle.wire.proofs.Laws.{Numbers.{Bytes, bytes-drop, below}, Bytes.{length-bytes, bytes-at}}
 use Rattle.frame.proofs.Laws.{Heads.{Sound}, Fuel.{nothing-left}, Bytes.{at-front, behind}, Join.{Split, every, front}}
@@ -18,14 +18,14 @@ unfolding itemBytes bytesOf
 body id payload t = take-at payload t (8 + length payload - 8) (omega arith)
 
 -- an item that was written, with any bytes behind it
-module _ (id : ℕ) (payload t : List ℕ) (known : isKnown id ≡ true) (small : id < 256 ^ 4) (short : 8 + length payload < 256 ^ 4) where
+module _ (id : ℕ) (payload t : List ℕ) (readable : isReadable id ≡ true) (small : id < 256 ^ 4) (short : 8 + length payload < 256 ^ 4) where
   parts : itemBytes id payload ++ t ≡ bytesOf 4 id ++ (bytesOf 4 (8 + length payload) ++ (payload ++ t))
   unfolding itemBytes
   parts = simp append-assoc
 
   written : Sound (itemBytes id payload ++ t) id (8 + length payload)
   written = record {
-    known = known;
+    readable = readable;
     long = omega arith;
     inside = simp (length-append, length-item) (omega arith);
     its-id = rw parts (sym (at-front 4 id _ small));
@@ -38,7 +38,7 @@ module _ (id : ℕ) (payload t : List ℕ) (known : isKnown id ≡ true) (small 
       ∙ ap₂ (λ (p r : List ℕ). record { id = id; payload = p } before itemsFrom r) (body id payload t)
       (drop-at (itemBytes id payload) t _ (length-item id payload))
 
-pub reads-all : (is : List MetadataItem) → Writable is → length (layout is) ≤ longestBlock → itemsFrom (layout is) ≡ sound is
+pub reads-all : (is : List MetadataItem) → Readable is → length (layout is) ≤ longestBlock → itemsFrom (layout is) ≡ sound is
 unfolding layout
 reads-all [] g h = nothing-left [] (omega arith)
 reads-all (i ∷ is) g h =
@@ -60,17 +60,17 @@ again s id size h b =
     rw (first, second) (ap (λ (t : List ℕ). t ++ take (size - 8) (drop 8 s)) (sym (take-add 4 4 s)) ∙ sym (take-add 8 (size - 8) s)
     ∙ ap (λ (n : ℕ). take n s) m)
 
-pub written-again : (s : List ℕ) (is : List MetadataItem) → itemsFrom s ≡ sound is → Bytes s → (s ≡ layout is) × Writable is
+pub written-again : (s : List ℕ) (is : List MetadataItem) → itemsFrom s ≡ sound is → Bytes s → (s ≡ layout is) × Readable is
 unfolding layout
-written-again = every (λ (s : List ℕ) (is : List MetadataItem). Bytes s → (s ≡ layout is) × Writable is) (λ b. (refl, tt)) more
+written-again = every (λ (s : List ℕ) (is : List MetadataItem). Bytes s → (s ≡ layout is) × Readable is) (λ b. (refl, tt)) more
   where
     more : (s : List ℕ) (is : List MetadataItem) (p : Split s is)
-        → (Bytes (drop (p .size) s) → (drop (p .size) s ≡ layout (p .rest)) × Writable (p .rest)) → Bytes s
-        → (s ≡ layout is) × Writable is
+        → (Bytes (drop (p .size) s) → (drop (p .size) s ≡ layout (p .rest)) × Readable (p .rest)) → Bytes s
+        → (s ≡ layout is) × Readable is
     more s is p ih b =
         let r = ih (bytes-drop s (p .size) b) in
         let h = p .head in
         rw (p .whole) (
           sym (ap₂ (λ (x y : List ℕ). x ++ y) (again s (p .id) (p .size) h b) (sym (r .0)) ∙ take-append-drop (p .size) s),
-          (h .known, rw (← (h .its-id)) at (below 4 4 s 0 b (omega arith)), r .1),
+          (h .readable, rw (← (h .its-id)) at (below 4 4 s 0 b (omega arith)), r .1),
         )

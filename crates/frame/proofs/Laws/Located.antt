@@ -1,24 +1,25 @@
--- The part handed back for item k lies in the block, and its bytes are the item's payload. Assumes nothing.
+-- The part handed back for item k lies in the block, its bytes are the item's payload, and the mark says what its id is. Assumes nothing.
 use Prim.Native.Nat.{ℕ, zero, suc, _+_, _-_, _≤_, _<_}
 use mathlib.Core.{Path.{_≡_, refl, sym, ap, ap₂, _∙_}, List.{List, [], _∷_}}
 use native.Mathlib.Omega.{arith}
 use lib.{ListN.{length, take, drop, getD, length-take, length-drop}, Seq.{drop-drop}}
-use Rattle.frame.specs.{Codes.{noItem}, Items.{MetadataItem, sound, itemsFrom, itemIn, absent, refusedItem, nthItem}}
+use Rattle.frame.specs.{Codes.{noItem}, Ids.{isNewer}, Items.{MetadataItem, sound, itemsFrom, itemIn, absent, refusedItem, nthItem}}
 use Rattle.wire.specs.Parts.{bytesAt}
-use Rattle.frame.proofs.Laws.{Heads.{Sound}, Join.{Split, every}}
+use Rattle.frame.proofs.Laws.{Ids.{unknown-newer}, Heads.{Sound}, Join.{Split, every}}
 
 pub record Located (s : List ℕ) (at k : ℕ) (is : List MetadataItem) : Type 0 where
   pub inside : nthItem at k is .payload .at + nthItem at k is .payload .len ≤ length s
   pub bytes : bytesAt s (nthItem at k is .payload) ≡ getD is k absent .payload
   pub its-id : nthItem at k is .id ≡ getD is k absent .id
+  pub its-mark : nthItem at k is .unknown ≡ isNewer (getD is k absent .id)
 
 -- the items of the rest of s from `at` on
 abbrev Lie : List ℕ → List MetadataItem → Type 0
 Lie t is = (s : List ℕ) (at : ℕ) → t ≡ drop at s → at ≤ length s → (k : ℕ) → Located s at k is
 
 nil : Lie [] []
-unfolding nthItem
-nil s at e l k = record { inside = omega arith; bytes = refl; its-id = refl }
+unfolding nthItem isNewer
+nil s at e l k = record { inside = omega arith; bytes = refl; its-id = refl; its-mark = refl }
 
 -- the first item, and those behind it
 module _ (t : List ℕ) (id size : ℕ) (js : List MetadataItem) (h : Sound t id size) (s : List ℕ) (at : ℕ) (e : t ≡ drop at s) where
@@ -34,7 +35,7 @@ module _ (t : List ℕ) (id size : ℕ) (js : List MetadataItem) (h : Sound t id
   first =
       let z = sizes in
       let body : drop (at + 8) s ≡ drop 8 t = sym (drop-drop 8 at s) ∙ ap (drop 8) (sym e) in
-      record { inside = omega arith; bytes = ap₂ take (z .0) body; its-id = refl }
+      record { inside = omega arith; bytes = ap₂ take (z .0) body; its-id = refl; its-mark = unknown-newer id (h .readable) }
 
   later : (k : ℕ) → Located s (at + size) k js → Located s at (suc k) (itemIn t id size ∷ js)
   unfolding nthItem
@@ -42,7 +43,7 @@ module _ (t : List ℕ) (id size : ℕ) (js : List MetadataItem) (h : Sound t id
       let z = sizes in
       let end : at + (8 + length (take (size - 8) (drop 8 t))) ≡ at + size = omega arith in
       let l′ : Located s (at + (8 + length (take (size - 8) (drop 8 t)))) k js = rw end l in
-      record { inside = l′ .inside; bytes = l′ .bytes; its-id = l′ .its-id }
+      record { inside = l′ .inside; bytes = l′ .bytes; its-id = l′ .its-id; its-mark = l′ .its-mark }
 
 more : (t : List ℕ) (is : List MetadataItem) (p : Split t is) → Lie (drop (p .size) t) (p .rest) → Lie t is
 more t is p ih s at e l k = rw (p .whole) (go k)

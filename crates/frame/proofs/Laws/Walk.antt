@@ -1,21 +1,22 @@
 -- Laws of the walk over a block: what is left to walk comes to what the whole comes to. Assumes nothing.
 use Prim.Native.Nat.{ℕ, zero, suc, _+_, _-_, _≤_, _<_}
-use mathlib.Core.{Path.{_≡_, refl, sym, ap, ap₂, _∙_}, List.{List, [], _∷_}}
+use mathlib.Core.{Path.{_≡_, refl, sym, ap, ap₂, _∙_}, List.{List, [], _∷_}, Bool.{Bool, not}}
 use native.Mathlib.{Omega.{arith}, Numerals.{add-one}}
 use lib.{ListN.{length, drop, length-take, length-drop}, Seq.{drop-drop}}
 use borrow.Author.Tests.{eq-eqb, ne-eqb, lt-ltb, le-ltb}
 use Rattle.frame.specs.declared.{items.Head.{Head}, items.Head.the-variants.{Bad, Whole}, items.Found.{Found}, items.Survey.{Survey}}
-use Rattle.frame.specs.Codes.{noItem, tooLong, longestBlock}
-use Rattle.frame.specs.Items.{MetadataItem, BlockReading, refused, sound, firstItem, _before_, follow, itemsFrom, blockItems, itemIn}
-use Rattle.frame.specs.Items.{refusedItem, nthItem}
+use Rattle.frame.specs.{Codes.{noItem, tooLong, longestBlock}, Ids.{isKnown}}
+use Rattle.frame.specs.Items.{MetadataItem, BlockReading, refused, sound, firstItem, _before_, follow, itemsFrom, blockItemsUnder}
+use Rattle.frame.specs.Items.{blockItems, itemIn, refusedItem, foundItem, nthItem}
 use Rattle.frame.specs.Steps.{surveyOf, stoppedAt, passItem, walkedOver, onward}
 use Rattle.frame.proofs.Laws.{Heads.{sound-head}, Fuel.{nothing-left, one-then}}
 
 -- one item is passed
-pub pass-hit : (k at n : ℕ) (found : Found) (id len : ℕ) → n ≡ k
-    → _≡_ {A = Found} (record { code = 0; id = id; payload = record { at = at + 8; len = len } }) (passItem k at n found id len)
+pub pass-hit : (k at n : ℕ) (found : Found) (id len : ℕ) (unknown : Bool) → n ≡ k → unknown ≡ not (isKnown id)
+    → _≡_ {A = Found} (record { code = 0; id = id; unknown = unknown; payload = record { at = at + 8; len = len } })
+    (passItem k at n found id len)
 unfolding passItem
-pass-hit k at n found id len e = simp (eq-eqb _ _ e)
+pass-hit k at n found id len unknown e m = rw m (simp (eq-eqb _ _ e))
 
 pub pass-by : (k at n : ℕ) (found : Found) (id len : ℕ) → (n ≡ k → ⊥) → found ≡ passItem k at n found id len
 unfolding passItem
@@ -38,10 +39,10 @@ over-before : (k j at n : ℕ) (is : List MetadataItem) → k ≡ n + j
 unfolding walkedOver nthItem
 over-before k j at n [] h = ap (λ (m : ℕ). record { counted = record { code = 0; items = m }; found = refusedItem noItem }) (omega arith)
 over-before k zero at n (i ∷ is) h =
-    let here : Found = record { code = 0; id = i .id; payload = record { at = at + 8; len = length (i .payload) } } in
+    let here = foundItem (i .id) (at + 8) (length (i .payload)) in
     let next = over-after k (at + (8 + length (i .payload))) (suc n) here is (omega arith) in
     let m : suc n + length is ≡ n + suc (length is) = omega arith in
-    rw (← (pass-hit k at n (refusedItem noItem) (i .id) (length (i .payload)) (omega arith))) (rw m at next)
+    rw (← (pass-hit k at n (refusedItem noItem) (i .id) (length (i .payload)) _ (omega arith) refl)) (rw m at next)
 over-before k (suc j) at n (i ∷ is) h =
     let next = over-before k j (at + (8 + length (i .payload))) (suc n) is (omega arith) in
     let m : suc n + length is ≡ n + suc (length is) = omega arith in
@@ -71,11 +72,11 @@ onward-before k at n found i (sound is) = refl
 
 -- the longest block
 pub too-long : (k : ℕ) (s : List ℕ) → longestBlock < length s → stoppedAt tooLong ≡ surveyOf k (blockItems s)
-unfolding blockItems
+unfolding blockItemsUnder
 too-long k s h = simp (lt-ltb _ _ h)
 
 pub short-enough : (s : List ℕ) → length s ≤ longestBlock → itemsFrom s ≡ blockItems s
-unfolding blockItems
+unfolding blockItemsUnder
 short-enough s h = simp (le-ltb _ _ h)
 
 comes-to : (k at n : ℕ) (found : Found) (s : List ℕ) (w : Survey) → length s ≤ longestBlock → Left k at n found s

@@ -1,5 +1,5 @@
 -- `first_item` meets its contract: each return's tests say which row answers. Assumes nothing.
-use Rattle.frame.proofs.Laws.Heads.{head-short, head-unknown, head-small, head-past, head-whole}
+use Rattle.frame.proofs.Laws.Heads.{head-short, head-invalid, head-small, head-past, head-whole}
 use borrow.Author.{Needs.{needs}, Tests.{not-true, not-false}}
 use native.Mathlib.Omega.{arith}
 use Rattle.frame.proofs.items.first_item.Statement.{statement}
@@ -11,12 +11,12 @@ returns c = head-short _ (omega arith)
 le32-requires : tie.Need-le32-requires
 le32-requires c κs = search needs
 
-is-known-requires : tie.Need-is-known-requires
-is-known-requires c κs = search needs
+is-readable-requires : tie.Need-is-readable-requires
+is-readable-requires c κs = search needs
 
 returns-2 : tie.Need-returns-2
 returns-2 c =
-    head-unknown _ _ _ (omega arith) (c .before .before .le32 .ensures) (c .before .is-known .ensures) (not-true _ (c .if2 .taken))
+    head-invalid _ _ _ (omega arith) (c .before .before .le32 .ensures) (c .before .is-readable .ensures) (not-true _ (c .if2 .taken))
 
 le32-requires-2 : tie.Need-le32-requires-2
 le32-requires-2 c κs = search needs
@@ -26,7 +26,7 @@ cast-size c = search needs
 
 returns-3 : tie.Need-returns-3
 returns-3 c =
-    head-small _ _ _ (omega arith) (c .before .before .before .before .le32 .ensures) (c .before .before .before .is-known .ensures)
+    head-small _ _ _ (omega arith) (c .before .before .before .before .le32 .ensures) (c .before .before .before .is-readable .ensures)
     (not-false _ (c .before .before .if2 .left)) (omega arith)
 
 returns-4 : tie.Need-returns-4
@@ -34,7 +34,7 @@ returns-4 c =
     head-past _ _ _
     (omega arith)
     (c .before .before .before .before .before .le32 .ensures)
-    (c .before .before .before .before .is-known .ensures)
+    (c .before .before .before .before .is-readable .ensures)
     (not-false _ (c .before .before .before .if2 .left))
     (omega arith)
     (omega arith)
@@ -44,7 +44,7 @@ returns-5 c =
     head-whole _ _ _
     (omega arith)
     (c .before .before .before .before .before .le32 .ensures)
-    (c .before .before .before .before .is-known .ensures) _
+    (c .before .before .before .before .is-readable .ensures) _
     (c .before .before .le322 .ensures)
     (not-false _ (c .before .before .before .if2 .left))
     (omega arith)
@@ -56,7 +56,7 @@ first-item-spec =
     (tie.spec
     returns
     le32-requires
-    is-known-requires
+    is-readable-requires
     returns-2
     le32-requires-2
     cast-size

@@ -23,7 +23,8 @@ use types.Part.{whole, sub, look-in, agg}
 use types.Run.{look, init, forget, stop, fld, from, load, and-then, no-more, assigns, land, returns, enter, alloc1, alloc0, params1, pass1}
 use types.Run.{pass0, free1, free0}
 use sound.WpLaws.{FmC, fmOf, WpFn-mono}
-use denote.{RattleType.{RattleType, owns}, Laws.{Is, shows}, Plain.{uint-vals, uint-tells, uint-makes}, Builtin.{u8, u32, usize}}
+use denote.{RattleType.{RattleType, owns}, Laws.{Is, shows}}
+use denote.{Plain.{uint-vals, uint-tells, uint-makes, bool-makes}, Builtin.{bool, u8, u32, usize}}
 use denote.{Ref.{RefT, NamedLft, now}, Signature.{plain, namedLft}}
 use denote.Slice.{sliceTy, sliceVal, ShrSlice, slice-vals, shr-slice-tells, shr-slice-lawful, shr-slice-copy}
 use denote.Triple.Walked.{says, Stays, stay-none, stay-none-slice, walkOf, goes-none, goes-none-slice, Walks, ends-at, walked, walk-meets}
@@ -72,7 +73,7 @@ module _ (r : Found) (u : Val) (is : Is F.the-row r (u ∷ [])) where
   is-lowered = subst (Is F.the-row r) spelt is
 
   its-place : Is P.the-row (r .payload) (P′.lowered (r .payload) ∷ [])
-  its-place = subst (Is P.the-row (r .payload)) (P′.lowers .val-is (r .payload) _ (is .1 .1 .1 .1 .0)) (is .1 .1 .1 .1 .0)
+  its-place = subst (Is P.the-row (r .payload)) (P′.lowers .val-is (r .payload) _ (is .1 .1 .1 .1 .1 .0)) (is .1 .1 .1 .1 .1 .0)
 
 module _ {M : Type 1} (𝓤 : URA M) (H : Heap 𝓤) (A : Atoms 𝓤) (W : Given 𝓤 H A) (mem : Memory → SProp 𝓤) (run : Routine → Fun 𝓤)
     (κ : Lft) (q : Share) (s : RefT (List ℕ)) (k : ℕ) (ok : k < 2 ^ 64) where
@@ -152,12 +153,13 @@ module _ {M : Type 1} (𝓤 : URA M) (H : Heap 𝓤) (A : Atoms 𝓤) (W : Given
   part-said p t = exE 𝓤 _ (λ ws. snd∗ 𝓤 (sem 𝓤 H A (lasts part-at.ended (κ, tt) (s, (p, tt)) ws)) (fact 𝓤 (PartOf s p t)))
 
   abbrev made : Found → RefT (List ℕ) → ItemView
-  made r t = record { code = r .code; id = r .id; payload = t }
+  made r t = record { code = r .code; id = r .id; unknown = r .unknown; payload = t }
 
   views : (r : Found) (t : RefT (List ℕ)) → r ≡ blockItem (now s) k → PartOf s (r .payload) t → Views s (blockItem (now s) k) (made r t)
   views r t e p = record {
     same-code = ap (λ (f : Found). f .code) e;
     same-id = ap (λ (f : Found). f .id) e;
+    same-mark = ap (λ (f : Found). f .unknown) e;
     part = subst (λ (f : Found). PartOf s (f .payload) t) e p;
   }
 
@@ -179,9 +181,10 @@ module _ {M : Type 1} (𝓤 : URA M) (H : Heap 𝓤) (A : Atoms 𝓤) (W : Given
       -- [the part's; the block's]: what the parameters own
       nothing ! $ owned ! usize (Is usize) (uint-makes 𝓤 H A W w64) k _ (refl, ok) $ fjoin ! $ move ! (2 ∷ 0 ∷ []) $ fjoin ! $ frame ! $
       -- [the part's]: what the fields own together, of it and of the numbers' facts, is what the struct owns
-      nothing ! $ move ! (1 ∷ 0 ∷ []) $ fjoin ! $ owned ! u32 (Is u32) (uint-makes 𝓤 H A W w32) (r .id) _ (refl, wt .1 .0 .fits) $ fjoin ! $
+      nothing ! $ move ! (1 ∷ 0 ∷ []) $ fjoin ! $ owned ! bool (Is bool) (bool-makes 𝓤 H A W) (r .unknown) _ refl $ fjoin ! $
+      owned ! u32 (Is u32) (uint-makes 𝓤 H A W w32) (r .id) _ (refl, wt .1 .0 .fits) $ fjoin ! $
       owned ! u8 (Is u8) (uint-makes 𝓤 H A W w8) (r .code) _ (refl, wt .0 .fits) $ fjoin ! $
-      by ! (own-shut 𝓤 H A W (T.the-type α) (T′.the-laws α) (r .code, (r .id, (t, tt))))
+      by ! (own-shut 𝓤 H A W (T.the-type α) (T′.the-laws α) (r .code, (r .id, (r .unknown, (t, tt)))))
 
   module _ (C : Calls 𝓤 H) (Λ : Loops 𝓤 H) (fm : FmC 𝓤 H (W .laws) C)
       (known-item : Triple 𝓤 (C #frame·item) item-is) (known-part : Triple 𝓤 (C #wire·part-at) part-is) where
@@ -205,7 +208,7 @@ module _ {M : Type 1} (𝓤 : URA M) (H : Heap 𝓤) (A : Atoms 𝓤) (W : Given
         use2 W (raw (part-is .pre (to-part (r .payload))) ⊛ ‵ Own) (goes-part (r .payload) (its-place r u is)) $ split ! $
         calls-at ! fm part-is known-part (to-part (r .payload))
         (and-then ! (load ! (from ! (stop !)) (look ! 8 refl))
-        (and-then ! (load ! (from ! (fld ! refl (stop !))) (look-in ! 4 (sub ! 2 refl (whole !)))) (no-more !))) (λ u′.
+        (and-then ! (load ! (from ! (fld ! refl (stop !))) (look-in ! 4 (sub ! 3 refl (whole !)))) (no-more !))) (λ u′.
         use1 W (later (some (λ (t : RefT (List ℕ)). (token ⊛ ‵ (Slice .own t (u′ ∷ []))) ⊛ raw (part-ensured (r .payload) t)))) (id⊢ 𝓤 _) $
         await ! tt $ pick ! (λ t.
         split ! $ move ! (1 ∷ []) $ use1 W (raw (fact 𝓤 (PartOf s (r .payload) t))) (part-said (r .payload) t) $
@@ -219,8 +222,10 @@ module _ {M : Type 1} (𝓤 : URA M) (H : Heap 𝓤) (A : Atoms 𝓤) (W : Given
         assigns !
         (agg ! (and-then ! (load ! (from ! (fld ! refl (stop !))) (look-in ! 5 (sub ! 0 refl (whole !))))
         (and-then ! (load ! (from ! (fld ! refl (stop !))) (look-in ! 5 (sub ! 1 refl (whole !))))
-        (and-then ! (load ! (from ! (stop !)) (look ! 3 refl)) (no-more !)))))
-        (from ! (stop !)) (init ! 11 refl (tt, (answer r u is .0, (answer r u is .1 .0, (a-slice t u′ is′, tt))))) $
+        (and-then ! (load ! (from ! (fld ! refl (stop !))) (look-in ! 5 (sub ! 2 refl (whole !))))
+        (and-then ! (load ! (from ! (stop !)) (look ! 3 refl)) (no-more !))))))
+        (from ! (stop !))
+        (init ! 11 refl (tt, (answer r u is .0, (answer r u is .1 .0, (answer r u is .1 .1 .0, (a-slice t u′ is′, tt)))))) $
         returns ! (look ! 11 refl) $ forget ! 3 refl $ forget ! 5 refl $ forget ! 7 refl $ forget ! 9 refl $ forget ! 11 refl $
         move ! (11 ∷ 12 ∷ []) $ free1 ! $ move ! (9 ∷ 10 ∷ []) $ free1 ! $ move ! (7 ∷ 8 ∷ []) $ free1 ! $ move ! (5 ∷ 6 ∷ []) $ free1 ! $
         move ! (3 ∷ 4 ∷ []) $ free1 ! $ free0 ! $ by ! (exits r t (answer r u is) (views r t e e′)))))))))))))))

@@ -1,5 +1,5 @@
 -- `append_refusal` meets its contract: each return's tests say which row answers. Assumes nothing.
-use Rattle.frame.proofs.Laws.Append.{id-unknown, end-long, room-short, all-fits}
+use Rattle.frame.proofs.Laws.Append.{id-invalid, end-long, room-short, all-fits}
 use borrow.Author.{Tests.{not-true, not-false}, Needs.{needs}}
 use native.Mathlib.Omega.{arith}
 use mathlib.Core.Path.{sym, _∙_}
@@ -10,7 +10,7 @@ is-known-requires : tie.Need-is-known-requires
 is-known-requires c κs = search needs
 
 returns : tie.Need-returns
-returns c = id-unknown _ _ _ _ (sym (c .before .is-known .ensures) ∙ not-true _ (c .if1 .taken))
+returns c = id-invalid _ _ _ _ (sym (c .before .is-known .ensures) ∙ not-true _ (c .if1 .taken))
 
 returns-2 : tie.Need-returns-2
 returns-2 c = end-long _ _ _ _ (sym (c .before .before .is-known .ensures) ∙ not-false _ (c .before .if1 .left)) (omega arith)
