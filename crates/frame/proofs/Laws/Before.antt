@@ -6,7 +6,8 @@ use borrow.Author.Tests.{eqb-true}
 use Rattle.frame.specs.declared.{items.Head.{Head}, items.Head.the-variants.{Bad, Whole}}
 use Rattle.frame.specs.{Ids.{isKnown}, Codes.{invalidId, tooLong, longestBlock}, Theorems.{readBefore}}
 use Rattle.frame.specs.Items.{MetadataItem, BlockReading, refused, sound, itemId, itemSize, itemRefusalUnder, itemRefusal}
-use Rattle.frame.specs.Items.{firstItemUnder, firstItem, _before_, follow, itemIn, itemsInUnder, itemsIn, itemsFromUnder, blockItemsUnder, blockItems, foundIn}
+use Rattle.frame.specs.Items.{firstItemUnder, firstItem, _before_, follow, itemIn, itemsInUnder, itemsIn, itemsFromUnder, foundIn}
+use Rattle.frame.specs.Items.{blockItemsUnder, blockItems}
 use Rattle.frame.proofs.Laws.{Ids.{known-readable}, Heads.{passed}, Known.{AllKnown, unmarked}}
 
 -- one item
