@@ -1,22 +1,23 @@
 -- The owner's demands on frame metadata and what request #105 of document 02 asks, over the definitions that the functions' promises name.
 use Prim.Native.Nat.{ℕ, _^_, _≤_, _<_}
-use mathlib.Core.{Path.{_≡_, refl, sym, ap, _∙_}, List.{List, [], _∷_, _++_}, Bool.{true, not}}
+use mathlib.Core.{Path.{_≡_, refl, sym, ap, _∙_}, List.{List, [], _∷_, _++_}, Bool.{true}}
 use native.Mathlib.Omega.{arith}
 use lib.ListN.{length, take, length-append, List·getD-append}
 use Rattle.frame.specs.{declared.{items.Found.{Found}, view.ItemView.{ItemView}}, Codes.{longestBlock}, View.{Views}}
-use Rattle.frame.specs.{Ids.{isKnown, isReadable, isNewer}, Cut.{withoutUnknown, knownOf, knownIndex}}
+use Rattle.frame.specs.{Ids.{isKnown, isNewer}, Cut.{withoutUnknown, knownOf, knownIndex}}
 use Rattle.frame.specs.Items.{MetadataItem, absent, BlockReading, refused, sound, blockItems, nthItem, foundIn, countIn}
 use Rattle.frame.specs.Items.{blockItem, blockCount, blockPayload}
 use Rattle.frame.specs.Theorems.{FrameRefused, HandedOut, Viewed, AppendReadsBack, appending, afterwards, Readable}
-use Rattle.frame.specs.Theorems.{Marked, NothingCut, SameItem, SameView, KnownStay, KnownIndex, TakenBefore, ReadAsBefore}
-use Rattle.frame.specs.{Writer.{layout}, Calls.{FrameCall, item, count, append, frameOutcome}}
+use Rattle.frame.specs.Theorems.{NoneUnknown, WrittenAgain, Marked, NothingCut, SameItem, SameView, KnownStay, KnownIndex}
+use Rattle.frame.specs.Theorems.{TakenBefore, ReadAsBefore}
+use Rattle.frame.specs.{Writer.{layout, Writable}, Calls.{FrameCall, item, count, append, frameOutcome}}
 use Rattle.wire.proofs.Laws.{Numbers.{Bytes}, Parts.{stands-at}}
 use denote.Ref.{RefT, now}
 use Rattle.wire.specs.Parts.{bytesAt, LiesIn}
 use Rattle.frame.proofs.Laws.{Walk.{short-enough}, Located.{located, there, not-there}, Layout.{reads-all, written-again}}
 use Rattle.frame.proofs.Laws.Appended.{sound-block, before-it, last-item, last-of, new-length, new-items}
-use Rattle.frame.proofs.Laws.{Ids.{unknown-newer}, Known.{known-all, nth-known, unmarked, all-unmarked, kth}}
-use Rattle.frame.proofs.Laws.{Cut.{holds-known, own-cut}, Before.{same-block, before-unmarked}}
+use Rattle.frame.proofs.Laws.Known.{AllKnown, known-all, nth-known, unmarked, all-unmarked, known-writable, kth}
+use Rattle.frame.proofs.Laws.{Ids.{known-readable}, Cut.{holds-known, own-cut}, Before.{same-block, before-unmarked}}
 use Rattle.frame.proofs.Laws.{Append.{accepted, accepts, reports}, Refusals.{item-refused, count-refused, append-refused}}
 
 -- Demand 1: what a refused call leaves.
@@ -96,18 +97,24 @@ appended-reads-back block buf is i e begins small a =
     rw (← (reports (length buf) (length block) (i .id) (length (i .payload)) z))
     (reads-back block _ is i (fits .known) e (sym (short-enough _ (omega arith)) ∙ new))
 
--- Demand 2, the other way round: a sound block is its items written one behind the other, and such a block reads back as those items.
-pub block-written-again : (block : List ℕ) (is : List MetadataItem) → Bytes block → blockItems block ≡ sound is
-    → (block ≡ layout is) × Readable is
-block-written-again block is b e = written-again block is (sound-block block is e .1) b
+-- Demand 2, the other way round: a sound block is its items laid out one behind the other, and such a block reads back as those items.
+all-known : (block : List ℕ) (is : List MetadataItem) → blockItems block ≡ sound is → NoneUnknown block → AllKnown is
+all-known block is e u = all-unmarked 0 is (λ k. sym (ap (λ (f : Found). f .unknown) (found block is k e)) ∙ u k)
+
+pub block-written-again : (block : List ℕ) (is : List MetadataItem) → Bytes block → blockItems block ≡ sound is → WrittenAgain block is
+block-written-again block is b e =
+    let w = written-again block is (sound-block block is e .1) b in
+    record { bytes = w .0; readable = w .1; writable = λ u. known-writable is (w .1) (all-known block is e u) }
 
 pub items-read-back : (is : List MetadataItem) → Readable is → length (layout is) ≤ longestBlock → blockItems (layout is) ≡ sound is
 items-read-back is g h = sym (short-enough (layout is) h) ∙ reads-all is g h
 
--- #105: the ids that are taken and not known are those from 7 to 0x7FFFFFFF, and the mark of every answer says just that of its id.
-pub newer-unknown : (id : ℕ) → isReadable id ≡ true → not (isKnown id) ≡ isNewer id
-newer-unknown = unknown-newer
+-- what may be written may be read
+pub writable-readable : (is : List MetadataItem) → Writable is → Readable is
+writable-readable [] g = tt
+writable-readable (i ∷ is) g = (known-readable (i .id) (g .0), g .1, writable-readable is (g .2))
 
+-- #105: the mark of every answer says just whether its id is from 7 to 0x7FFFFFFF.
 pub marked : (block : List ℕ) (k : ℕ) → Marked block k
 unfolding blockItem isNewer
 marked block k = go (blockItems block) refl
@@ -171,8 +178,7 @@ known-index is k =
 
 -- #105: a sound block without unknown items is its own cut.
 pub nothing-cut : (block : List ℕ) (is : List MetadataItem) → blockItems block ≡ sound is → NothingCut block
-nothing-cut block is e u =
-    own-cut block is (sound-block block is e .1) (all-unmarked 0 is (λ k. sym (ap (λ (f : Found). f .unknown) (found block is k e)) ∙ u k))
+nothing-cut block is e u = own-cut block is (sound-block block is e .1) (all-known block is e u)
 
 -- #105: every block, sound or not, that the rules before it do not refuse 0x41 is read as before.
 pub read-as-before : (block : List ℕ) → TakenBefore block → ReadAsBefore block

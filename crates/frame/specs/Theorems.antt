@@ -8,7 +8,7 @@ use Rattle.frame.specs.{declared.{writer.Appended.{Appended}, view.ItemV
 use Rattle.frame.specs.{Ids.{isKnown, isReadable, isNewer}, Cut.{withoutUnknown, knownOf, knownIndex}}
 use Rattle.frame.specs.Items.{MetadataItem, absent, BlockReading, refused, sound, blockItemsUnder, blockItems, refusedItem, foundIn}
 use Rattle.frame.specs.Items.{countIn, blockItem, blockCount, blockPayload}
-use Rattle.frame.specs.{Writer.{appendedOf, writtenOf}, Calls.{FrameCall, frameLent, FrameOutcome}}
+use Rattle.frame.specs.{Writer.{layout, Writable, appendedOf, writtenOf}, Calls.{FrameCall, frameLent, FrameOutcome}}
 
 -- each of them is x
 abbrev pub All : {A : Type 0} → A → List A → Type 0
@@ -55,18 +55,25 @@ appending block buf i = appendedOf (length buf) (length block) (i .id) (length (
 abbrev pub afterwards : (block buf : List ℕ) → MetadataItem → List ℕ
 afterwards block buf i = take (appending block buf i .end) (writtenOf buf (length block) (i .id) (i .payload))
 
--- items that a reader takes: ids of four bytes, none of them 0
+-- items that may be read: ids that a reader takes, of four bytes
 abbrev pub Readable : List MetadataItem → Type 0
 Readable [] = Unit {0}
 Readable (i ∷ is) = (isReadable (i .id) ≡ true) × (i .id < 256 ^ 4) × Readable is
 
--- #105: an answer is marked exactly where its id is one of the newer, by that request's own bounds. A refusal's id is 0.
-abbrev pub Marked : List ℕ → ℕ → Type 0
-Marked block k = blockItem block k .unknown ≡ isNewer (blockItem block k .id)
-
 -- no item of the block is unknown
 abbrev pub NoneUnknown : List ℕ → Type 0
 NoneUnknown block = (k : ℕ) → blockItem block k .unknown ≡ false
+
+-- Demand 2, the other way round: a sound block is its items laid out one behind the other; the writer could have written them, where none
+-- is unknown.
+pub record WrittenAgain (block : List ℕ) (is : List MetadataItem) : Type 0 where
+  pub bytes : block ≡ layout is
+  pub readable : Readable is
+  pub writable : NoneUnknown block → Writable is
+
+-- #105: an answer is marked exactly where its id is one of the newer, by that request's own bounds. A refusal's id is 0.
+abbrev pub Marked : List ℕ → ℕ → Type 0
+Marked block k = blockItem block k .unknown ≡ isNewer (blockItem block k .id)
 
 -- #105: item k of one block and item l of another have the same number, id, mark and payload bytes
 pub record SameItem (block : List ℕ) (k : ℕ) (other : List ℕ) (l : ℕ) : Type 0 where
@@ -90,7 +97,7 @@ pub record KnownStay (block : List ℕ) (is : List MetadataItem) : Type 0 where
   pub shorter : length (withoutUnknown block) ≤ length block
   pub same : (k : ℕ) → SameItem block (knownIndex k is) (withoutUnknown block) k
 
--- which number `knownIndex` is: of k known items that stand before it and one that follows; or past the last item
+-- which number `knownIndex` is: the item there is known, and k known ones stand before it; or, where there is none, it is past the last
 pub record KnownIndex (is : List MetadataItem) (k : ℕ) : Type 0 where
   pub there : k < length (knownOf is) → (knownIndex k is < length is) × (isKnown (getD is (knownIndex k is) absent .id) ≡ true)
   pub before : k < length (knownOf is) → length (knownOf (take (knownIndex k is) is)) ≡ k

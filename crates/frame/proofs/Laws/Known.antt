@@ -5,6 +5,7 @@ use native.Mathlib.Omega.{arith}
 use lib.ListN.{length, take, getD}
 use borrow.Author.Tests.{not-false}
 use Rattle.frame.specs.{Ids.{isKnown}, Items.{MetadataItem, absent, nthItem}, Cut.{knownOf, knownIndex}}
+use Rattle.frame.specs.{Writer.{Writable}, Theorems.{Readable}}
 
 -- each of them is known
 abbrev pub AllKnown : List MetadataItem → Type 0
@@ -31,6 +32,10 @@ pub all-unmarked : (at : ℕ) (is : List MetadataItem) → ((k : ℕ) → nthIte
 unfolding nthItem
 all-unmarked at [] u = tt
 all-unmarked at (i ∷ is) u = (not-false _ (u 0), all-unmarked (at + (8 + length (i .payload))) is (λ k. u (suc k)))
+
+pub known-writable : (is : List MetadataItem) → Readable is → AllKnown is → Writable is
+known-writable [] g a = tt
+known-writable (i ∷ is) g a = (a .0, g .1, known-writable is (g .2) (a .1))
 
 pub nth-known : (k : ℕ) (is : List MetadataItem) → AllKnown is → k < length is → isKnown (getD is k absent .id) ≡ true
 nth-known k [] a l = absurd (omega arith)
