@@ -1,7 +1,7 @@
 -- `walk` meets its contract: what is left to walk comes to what the whole comes to. Assumes nothing.
 use Rattle.frame.proofs.Laws.Walk.{Left, begins, too-long, ends, Meets, meets, stops, inside, goes-on}
 use Rattle.wire.proofs.Laws.Parts.{rest}
-use Rattle.frame.specs.declared.items.Head.the-variants.{Bad, Whole}
+use Rattle.frame.specs.declared.items.Head.the-variants.{Whole}
 use denote.Ref.{now}
 use Prim.Native.Nat.{_-_, _≤_}
 use mathlib.Core.Path.{_∙_}
@@ -17,24 +17,7 @@ Inv-loop block k at₀ n₀ found₀ at n found = (at ≤ length block) × (n �
 abbrev μ-loop : tie.MeasureT-loop
 μ-loop block k at₀ n₀ found₀ at n found = length block - at
 
--- the item that was read, by what is known once the match has told which it is
-fault-here : (c : tie.After-known-told Inv-loop μ-loop)
-    → Meets
-    (c .before .before .before .before .before .before .before .before .before .before .args .k)
-    (c .before .before .before .before .before .before .loop .at)
-    (c .before .before .before .before .before .before .loop .n)
-    (c .before .before .before .before .before .before .loop .found)
-    (now (c .before .before .before .before .before .before .before .before .before .before .args .block))
-    (Bad (c .before .code .given .0 .0))
-fault-here c =
-    meets _ _ _ _ _ _ _ _
-    (omega arith)
-    (c .before .before .before .before .before .before .loop .inv .2)
-    (omega arith)
-    (rest (c .before .before .before .before .tail .ensures))
-    (c .before .before .before .first-item .ensures)
-    (c .before .code .given .1)
-
+-- the item that was read, by what is known once the match has told that it is one
 item-here : (c : tie.After-known-told2 Inv-loop μ-loop)
     → Meets
     (c .before .before .before .before .before .before .before .before .before .before .args .k)
@@ -77,7 +60,16 @@ stopped-requires-2 : tie.Need-stopped-requires-2 Inv-loop μ-loop
 stopped-requires-2 c κs = search needs
 
 returns-2 : tie.Need-returns-2 Inv-loop μ-loop
-returns-2 c = c .stopped2 .ensures ∙ stops _ _ _ _ _ _ (fault-here (c .before))
+returns-2 c =
+    c .stopped2 .ensures
+    ∙ stops _ _ _ _ _ _
+    (meets _ _ _ _ _ _ _ _
+    (omega arith)
+    (c .before .before .before .before .before .before .before .loop .inv .2)
+    (omega arith)
+    (rest (c .before .before .before .before .before .tail .ensures))
+    (c .before .before .before .before .first-item .ensures)
+    (c .before .before .code .given .1))
 
 enum-known-id : tie.Need-enum-known-id Inv-loop μ-loop
 enum-known-id c = search needs
