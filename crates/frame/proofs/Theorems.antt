@@ -6,8 +6,8 @@ use lib.ListN.{length, take, length-append, List·getD-append}
 use Rattle.frame.specs.{declared.{items.Found.{Found}, view.ItemView.{ItemView}}, Codes.{longestBlock}, View.{Views}}
 use Rattle.frame.specs.{Ids.{isKnown, isNewer}, Cut.{withoutUnknown, knownOf, knownIndex}}
 use Rattle.frame.specs.Items.{MetadataItem, absent, BlockReading, refused, sound, blockItems, nthItem, foundIn, countIn}
-use Rattle.frame.specs.Items.{blockItem, blockCount, blockPayload}
-use Rattle.frame.specs.Theorems.{FrameRefused, HandedOut, Viewed, AppendReadsBack, appending, afterwards, Readable}
+use Rattle.frame.specs.Items.{Readable, blockItem, blockCount, blockPayload}
+use Rattle.frame.specs.Theorems.{FrameRefused, HandedOut, Viewed, AppendReadsBack, appending, afterwards}
 use Rattle.frame.specs.Theorems.{NoneUnknown, WrittenAgain, Marked, NothingCut, SameItem, SameView, KnownStay, KnownIndex}
 use Rattle.frame.specs.Theorems.{TakenBefore, ReadAsBefore}
 use Rattle.frame.specs.{Writer.{layout, Writable}, Calls.{FrameCall, item, count, append, frameOutcome}}

@@ -1,7 +1,7 @@
 -- Which items a metadata block holds, or its first fault, by document 01's tests of an item in its order; and what asking for item k and
 -- for the number of items hand back.
-use Prim.Native.Nat.{ℕ, zero, suc, _-_, _+_}
-use mathlib.Core.{List.{List, [], _∷_}, Bool.{Bool, false, not, cond}}
+use Prim.Native.Nat.{ℕ, zero, suc, _-_, _+_, _^_, _<_}
+use mathlib.Core.{Path.{_≡_}, List.{List, [], _∷_}, Bool.{Bool, true, false, not, cond}}
 use lib.{ListN.{length, take, drop}, Dec.{ltb, eqb}}
 use Rattle.wire.specs.{Numbers.{leAt}, Rows.{_⇒_, firstOf}, Parts.{bytesAt, nowhere}}
 use Rattle.frame.specs.declared.{items.Head.{Head}, items.Head.the-variants.{Bad, Whole}}
@@ -12,6 +12,15 @@ use Rattle.frame.specs.declared.{items.Found.{Found}, items.Counted.{Cou
 pub record MetadataItem : Type 0 where
   pub id : ℕ
   pub payload : List ℕ
+
+-- each of the ids passes a test, and is of four bytes
+abbrev pub EachId : (ℕ → Bool) → List MetadataItem → Type 0
+EachId passes [] = Unit {0}
+EachId passes (i ∷ is) = (passes (i .id) ≡ true) × (i .id < 256 ^ 4) × EachId passes is
+
+-- items that may be read
+abbrev pub Readable : List MetadataItem → Type 0
+Readable = EachId isReadable
 
 -- what stands past the last item
 abbrev pub absent : MetadataItem

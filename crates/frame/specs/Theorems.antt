@@ -1,13 +1,13 @@
 -- What the theorems of this crate say: the owner's demands on frame metadata, and what request #105 of document 02 asks.
-use Prim.Native.Nat.{ℕ, _+_, _^_, _≤_, _<_}
+use Prim.Native.Nat.{ℕ, _+_, _≤_, _<_}
 use mathlib.Core.{Path.{_≡_}, List.{List, [], _∷_, _++_}, Bool.{true, false}}
 use lib.ListN.{length, take, getD}
 use denote.Ref.{RefT, ptr, now}
 use Rattle.wire.specs.Parts.{nowhere}
 use Rattle.frame.specs.{declared.{writer.Appended.{Appended}, view.ItemView.{ItemView}}, Codes.{invalidId, noItem}}
-use Rattle.frame.specs.{Ids.{isKnown, isReadable, isNewer}, Cut.{withoutUnknown, knownOf, knownIndex}}
+use Rattle.frame.specs.{Ids.{isKnown, isNewer}, Cut.{withoutUnknown, knownOf, knownIndex}}
 use Rattle.frame.specs.Items.{MetadataItem, absent, BlockReading, refused, sound, blockItemsUnder, blockItems, refusedItem, foundIn}
-use Rattle.frame.specs.Items.{countIn, blockItem, blockCount, blockPayload}
+use Rattle.frame.specs.Items.{Readable, countIn, blockItem, blockCount, blockPayload}
 use Rattle.frame.specs.{Writer.{layout, Writable, appendedOf, writtenOf}, Calls.{FrameCall, frameLent, FrameOutcome}}
 
 -- each of them is x
@@ -54,11 +54,6 @@ appending block buf i = appendedOf (length buf) (length block) (i .id) (length (
 
 abbrev pub afterwards : (block buf : List ℕ) → MetadataItem → List ℕ
 afterwards block buf i = take (appending block buf i .end) (writtenOf buf (length block) (i .id) (i .payload))
-
--- items that may be read: ids that a reader takes, of four bytes
-abbrev pub Readable : List MetadataItem → Type 0
-Readable [] = Unit {0}
-Readable (i ∷ is) = (isReadable (i .id) ≡ true) × (i .id < 256 ^ 4) × Readable is
 
 -- no item of the block is unknown
 abbrev pub NoneUnknown : List ℕ → Type 0

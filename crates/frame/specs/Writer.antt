@@ -1,10 +1,10 @@
 -- Appending one item at a place of a lent buffer: document 01's tests in its order, and the bytes.
-use Prim.Native.Nat.{ℕ, _+_, _^_, _<_}
-use mathlib.Core.{Path.{_≡_}, List.{List, [], _∷_, _++_}, Bool.{true, not, cond}}
+use Prim.Native.Nat.{ℕ, _+_}
+use mathlib.Core.{List.{List, [], _∷_, _++_}, Bool.{not, cond}}
 use lib.{ListN.{length}, Dec.{ltb, eqb}}
 use Rattle.wire.specs.{Numbers.{bytesOf}, Writes.{overlay}, Uvc.{noRoom}, Rows.{_⇒_, firstOf}}
 use Rattle.frame.specs.{declared.writer.Appended.{Appended}, Codes.{invalidId, tooLong, longestBlock}, Ids.{isKnown}}
-use Rattle.frame.specs.Items.{MetadataItem}
+use Rattle.frame.specs.Items.{MetadataItem, EachId}
 
 -- id, size of the whole item, payload
 unfoldable pub itemBytes : ℕ → List ℕ → List ℕ
@@ -15,10 +15,9 @@ unfoldable pub layout : List MetadataItem → List ℕ
 layout [] = []
 layout (i ∷ is) = itemBytes (i .id) (i .payload) ++ layout is
 
--- items that may be written: known ids, of four bytes
+-- items that may be written
 abbrev pub Writable : List MetadataItem → Type 0
-Writable [] = Unit {0}
-Writable (i ∷ is) = (isKnown (i .id) ≡ true) × (i .id < 256 ^ 4) × Writable is
+Writable = EachId isKnown
 
 -- where an item of so many payload bytes at `at` ends; a sum of numbers without bound, which nothing wraps
 abbrev pub endOf : ℕ → ℕ → ℕ

@@ -5,7 +5,7 @@ use native.Mathlib.Omega.{arith}
 use lib.ListN.{length, take, getD}
 use borrow.Author.Tests.{not-false}
 use Rattle.frame.specs.{Ids.{isKnown}, Items.{MetadataItem, absent, nthItem}, Cut.{knownOf, knownIndex}}
-use Rattle.frame.specs.{Writer.{Writable}, Theorems.{Readable}}
+use Rattle.frame.specs.{Items.{Readable}, Writer.{Writable}}
 
 -- each of them is known
 abbrev pub AllKnown : List MetadataItem → Type 0

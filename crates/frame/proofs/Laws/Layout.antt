@@ -4,7 +4,7 @@ use mathlib.Core.{Path.{_≡_, refl, sym, ap, ap₂, _∙_}, List.{List, [], _�
 use native.Mathlib.Omega.{arith}
 use lib.{ListN.{length, take, drop, length-append, length-take, length-drop, take-append-drop}, Seq.{take-at, drop-at, take-add}}
 use Rattle.frame.specs.{Codes.{longestBlock}, Ids.{isReadable}, Items.{MetadataItem, BlockReading, sound, _before_, itemsFrom}}
-use Rattle.frame.specs.{Writer.{itemBytes, layout}, Theorems.{Readable}}
+use Rattle.frame.specs.{Items.{Readable}, Writer.{itemBytes, layout}}
 use Rattle.wire.specs.Numbers.{bytesOf}
 use Rattle.wire.proofs.Laws.{Numbers.{Bytes, bytes-drop, below}, Bytes.{length-bytes, bytes-at}}
 use Rattle.frame.proofs.Laws.{Heads.{Sound}, Fuel.{nothing-left}, Bytes.{at-front, behind}, Join.{Split, every, front}}
