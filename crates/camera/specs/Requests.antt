@@ -3,8 +3,8 @@ use Prim.Native.Nat.{ℕ}
 use mathlib.Core.{List.{List}, Bool.{Bool, cond, not, _&&_}}
 use lib.Dec.{eqb}
 use Rattle.wire.specs.{Selectors.{throttle}, Uvc.{setCur, wrongState}}
-use Rattle.request.specs.{Setup.{isSetRequest, setupSelector}, Table.{Table}, Tests.{fullAnswer, tableRefusal, requestCode, sentCount}}
-use Rattle.request.specs.Requests.{replied}
+use Rattle.request.specs.{Setup.{setupSelector}, Table.{Table}, Tests.{fullAnswer, tableRefusal, requestCode}}
+use Rattle.request.specs.Requests.{replied, resultBy, doneBy}
 use Rattle.profile.specs.{declared.Profile.{Profile}, Profile.{has, isSettable, setLength, payloadLength}, Items.{setRefusal}}
 use Rattle.settings.specs.{declared.settings.Settings.{Settings}, Settings.{noSettings}, Kept.{settingsWellFormed}, Items.{setGives}}
 use Rattle.answering.specs.Answering.{infoOf, valueOf}
@@ -49,20 +49,21 @@ controlRefusal p streaming = tableRefusal (rules p streaming)
 abbrev pub requestedCode : Camera → List ℕ → List ℕ → ℕ → ℕ
 requestedCode c = requestCode (table c)
 
+-- what a call hands back
+abbrev pub outcomeOf : (code count : ℕ) → Camera → Outcome
+outcomeOf code count c = record { code = code; count = count; camera = c }
+
 -- a refusal: its number, no count, and the record as it came in
 abbrev pub refused : ℕ → Camera → Outcome
-refused code c = record { code = code; count = 0; camera = c }
+refused code c = outcomeOf code 0 c
 
 -- by its number, a call is refused or comes to what it does
 abbrev pub outcomeBy : ℕ → Camera → Outcome → Outcome
-outcomeBy code c done = cond (eqb code 0) done (refused code c)
+outcomeBy = resultBy outcomeOf
 
 -- what an accepted request does: a SET puts its settings in, a GET sends its answer
 unfoldable pub requestDone : Camera → List ℕ → List ℕ → Outcome
-requestDone c s payload =
-    cond (isSetRequest s)
-    (record { code = 0; count = 0; camera = puts c (setGives (c .profile) (setupSelector s) payload) })
-    (record { code = 0; count = sentCount (table c) s; camera = c })
+requestDone c s payload = doneBy outcomeOf (table c) c (puts c (setGives (c .profile) (setupSelector s) payload)) s
 
 unfoldable pub requested : Camera → List ℕ → List ℕ → ℕ → Outcome
 requested c s payload room = outcomeBy (requestedCode c s payload room) c (requestDone c s payload)

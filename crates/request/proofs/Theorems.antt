@@ -1,14 +1,17 @@
 -- What holds of every unit's requests. Assumes nothing.
-use mathlib.Core.{Path.{_≡_, refl, subst}, List.{List, [], _∷_}, Option.{none}, Bool.{true, false}}
+use mathlib.Core.{Path.{_≡_, refl, subst, sym, _∙_}, List.{List, [], _∷_}, Option.{none}, Bool.{Bool, true, false, and-eq-true-iff}}
 use Prim.Native.Nat.{ℕ, suc}
 use native.Mathlib.Omega.{arith}
 use lib.ListN.{length}
-use borrow.Author.Tests.{eq-eqb, ne-eqb}
-use Rattle.wire.specs.Rows.{Row, _⇒_, firstOf, firstFrom, AnswersAt, Quiet}
+use borrow.Author.Tests.{eq-eqb, ne-eqb, eqb-true, le-ltb}
+use Rattle.wire.specs.{Rows.{Row, _⇒_, firstOf, firstFrom, AnswersAt, Quiet}, Uvc.{invalidUnit}}
 use Rattle.wire.proofs.Laws.Rows.{Coded, quiet-own, own-coded, answers-at, answers-none}
+use Rattle.request.specs.Setup.{setupType, setupValueLow, setupUnit, setupInterface, isSetRequest, isGetRequest}
 use Rattle.request.specs.{Table.{Table}, Answers.{answerBy}}
-use Rattle.request.specs.Tests.{requestTests, valueTests, fullAnswer, requestRows, requestCode, testNumber}
-use Rattle.request.specs.{Requests.{requestCount, replied}, Theorems.{AllOrdered, RequestRefusals, GetSends, LenAnswers, InfoAnswers}}
+use Rattle.request.specs.Tests.{isAddressed, requestTests, valueTests, fullAnswer, sentCount, requestRows, requestCode, testNumber}
+use Rattle.request.specs.{Requests.{requestCount, replied}, Theorems.{AllOrdered, RequestRefusals, GetSends, GetAccepted}}
+use Rattle.request.specs.Theorems.{ElsewhereRefused, LenAnswers, InfoAnswers}
+use Rattle.request.proofs.Laws.Tests.{at-tests, at-get}
 
 module _ (t : Table) (setup payload : List ℕ) (room : ℕ) where
   abbrev rows : List Row
@@ -45,6 +48,7 @@ pub ordered : AllOrdered
 unfolding requestRows requestTests valueTests testNumber requestCode
 ordered t setup payload room = record {
   nine = refl;
+  numbers = refl;
   answered = λ i e.
       let r = answers-at 1 (rows t setup payload room) (suc i) e in
       let q : r .0 ≡ i = omega (arith, r .1 .0) in
@@ -61,6 +65,40 @@ refusals t setup payload reply n = let e = ne-eqb (requestCode t setup payload (
 pub get-sends : GetSends
 unfolding requestCount replied
 get-sends t setup payload reply g e = record { count = rw (eq-eqb _ 0 e, g); buffer = rw (eq-eqb _ 0 e, g) }
+
+-- a GET is no SET
+pub get-no-set : (setup : List ℕ) → isGetRequest setup ≡ true → isSetRequest setup ≡ false
+get-no-set setup h =
+    let q = simp and-eq-true-iff at h in
+    let t : setupType setup ≡ 0xA1 = eqb-true (setupType setup) 0xA1 (q .0 .0) in
+    rw t
+
+pub get-accepted : GetAccepted
+unfolding requestTests
+get-accepted t setup room w g y h =
+    let i = get-no-set setup (g .get) in
+    let first : firstOf (requestTests t setup []) ≡ 0 =
+    rw (eq-eqb (length setup) 8 (g .eight), g .addresses, g .present, eq-eqb (setupValueLow setup) 0 (g .low), i, g .get) in
+    at-get t setup [] room w first y i ∙ rw (le-ltb room (sentCount t setup) h)
+
+pub elsewhere-refused : ElsewhereRefused
+unfolding requestTests
+elsewhere-refused t unit interface setup payload room w n a other =
+    let first : firstOf (requestTests t setup payload) ≡ invalidUnit = rw (eq-eqb (length setup) 8 n, no-match) in
+    at-tests t setup payload room w (λ z. omega (arith, first)) ∙ first
+  where
+    no-match : isAddressed (t .unit) (t .interface) setup ≡ false
+    no-match = go (isAddressed (t .unit) (t .interface) setup) refl
+      where
+        go : (b : Bool) → isAddressed (t .unit) (t .interface) setup ≡ b → b ≡ false
+        go true e =
+            let p = simp and-eq-true-iff at a in
+            let q = simp and-eq-true-iff at e in
+            absurd (other (
+              sym (eqb-true (setupUnit setup) unit (p .0)) ∙ eqb-true (setupUnit setup) (t .unit) (q .0),
+              sym (eqb-true (setupInterface setup) interface (p .1)) ∙ eqb-true (setupInterface setup) (t .interface) (q .1),
+            ))
+        go false e = refl
 
 pub len-answers : LenAnswers
 unfolding fullAnswer answerBy

@@ -38,6 +38,15 @@ valueTests t setup payload =
     ∷ answers (cond (isSetRequest setup) (t .values (setupSelector setup) payload) 0)
     ∷ []
 
+-- the number of the first of tests 1 to 7 that fails, before a SET's values and a GET's room are looked at
+unfoldable pub admission : Table → List ℕ → List ℕ → ℕ
+admission t setup payload =
+    firstOf
+    ((not (t .formed) ⇒ malformedRecord)
+    ∷ requestTests t setup payload
+    ++ answers (t .state (setupSelector setup) (setupCode setup))
+    ∷ [])
+
 -- the full answer to a GET, and how much of it is sent
 unfoldable pub fullAnswer : Table → ℕ → ℕ → List ℕ
 fullAnswer t selector code = answerBy code (t .len selector) (t .info selector) (t .value selector code)

@@ -1,16 +1,23 @@
 -- What holds of every unit's requests. proofs/Theorems proves each.
-use Prim.Native.Nat.{ℕ, suc}
-use mathlib.Core.{Path.{_≡_}, List.{List, [], _∷_, _++_}, Option.{none, some}, Bool.{false}}
+use Prim.Native.Nat.{ℕ, suc, _≤_}
+use mathlib.Core.{Path.{_≡_}, List.{List, [], _∷_, _++_, map}, Option.{none, some}, Bool.{true, false, cond}}
 use lib.ListN.{length, take, drop}
-use Rattle.wire.specs.{Numbers.{bytesOf}, Rows.{AnswersAt}, Uvc.{getInfo, getLen}}
-use Rattle.request.specs.{Setup.{isSetRequest}, Table.{Table}}
-use Rattle.request.specs.Tests.{fullAnswer, asked, sentCount, requestRows, requestCode, testNumber}
+use Rattle.wire.specs.{Numbers.{bytesOf}, Rows.{Row, _⇒_, AnswersAt}, Uvc.{getInfo, getLen}}
+use Rattle.request.specs.{Setup.{setupValueLow, setupSelector, setupCode, isSetRequest, isGetRequest}, Table.{Table}}
+use Rattle.request.specs.Tests.{isAddressed, fullAnswer, asked, sentCount, requestRows, requestCode, testNumber}
 use Rattle.request.specs.Requests.{requestCount, replied}
+
+-- the number that a row answers with
+abbrev pub rowNumber : Row → ℕ
+rowNumber (test ⇒ code) = code
 
 -- Nine tests, in 01's order: the place of the first row that fails, from 1 on, is the number of the test that answered. None fails exactly
 -- where the request is accepted.
 pub record Ordered (t : Table) (setup payload : List ℕ) (room : ℕ) : Type 0 where
   pub nine : length (requestRows t setup payload room) ≡ 9
+  pub numbers : map rowNumber (requestRows t setup payload room)
+      ≡ 0x21 ∷ 0xFF ∷ 0x05 ∷ 0x06 ∷ 0x07 ∷ 0xFF ∷ t .state (setupSelector setup) (setupCode setup)
+      ∷ cond (isSetRequest setup) (t .values (setupSelector setup) payload) 0 ∷ 0x20 ∷ []
   pub answered : (i : ℕ) → testNumber t setup payload room ≡ some (suc i) → AnswersAt (requestRows t setup payload room) i
   pub from-one : testNumber t setup payload room ≡ some 0 → ⊥
   pub accepted : requestCode t setup payload room ≡ 0 → testNumber t setup payload room ≡ none
@@ -37,6 +44,26 @@ abbrev pub GetSends : Type 0
 GetSends =
     (t : Table) (setup payload reply : List ℕ) → isSetRequest setup ≡ false → requestCode t setup payload (length reply) ≡ 0
     → Sends t setup payload reply
+
+-- A GET's setup for a control of the unit. With no payload, past test 7 and with room for its answer it is accepted.
+pub record Gets (t : Table) (setup : List ℕ) : Type 0 where
+  pub eight : length setup ≡ 8
+  pub addresses : isAddressed (t .unit) (t .interface) setup ≡ true
+  pub present : t .present (setupSelector setup) ≡ true
+  pub low : setupValueLow setup ≡ 0
+  pub get : isGetRequest setup ≡ true
+
+abbrev pub GetAccepted : Type 0
+GetAccepted =
+    (t : Table) (setup : List ℕ) (room : ℕ) → t .formed ≡ true → Gets t setup → t .state (setupSelector setup) (setupCode setup) ≡ 0
+    → sentCount t setup ≤ room → requestCode t setup [] room ≡ 0
+
+-- A setup of eight bytes whose wIndex has another unit id or another interface is 0x05, where the record is not 0x21.
+abbrev pub ElsewhereRefused : Type 0
+ElsewhereRefused =
+    (t : Table) (unit interface : ℕ) (setup payload : List ℕ) (room : ℕ) → t .formed ≡ true → length setup ≡ 8
+    → isAddressed unit interface setup ≡ true → ((unit ≡ t .unit) × (interface ≡ t .interface) → ⊥)
+    → requestCode t setup payload room ≡ 0x05
 
 -- LEN answers two bytes, and INFO one.
 abbrev pub LenAnswers : Type 0

@@ -57,6 +57,13 @@ pub fn le32(s: &[u8], i: usize) -> u32
     number(s, i, 4) as u32
 }
 
+// The eight-byte number at i.
+pub fn le64(s: &[u8], i: usize) -> u64
+    ensures { λ r. ⌜ r ≡ leAt 8 (now (s .entry)) i ⌝ }
+{
+    number(s, i, 8)
+}
+
 // The two lowest bytes of n.
 pub fn bytes16(n: usize) -> [u8; 2]
     ensures { λ r. ⌜ r ≡ bytesOf 2 n ⌝ }
@@ -77,6 +84,29 @@ pub fn bytes32(n: u32) -> [u8; 4]
         (a % 256) as u8,
         (b % 256) as u8,
         (c % 256) as u8,
+    ]
+}
+
+// The eight bytes of n.
+pub fn bytes64(n: u64) -> [u8; 8]
+    ensures { λ r. ⌜ r ≡ bytesOf 8 n ⌝ }
+{
+    let a = n / 256;
+    let b = a / 256;
+    let c = b / 256;
+    let d = c / 256;
+    let e = d / 256;
+    let f = e / 256;
+    let g = f / 256;
+    [
+        (n % 256) as u8,
+        (a % 256) as u8,
+        (b % 256) as u8,
+        (c % 256) as u8,
+        (d % 256) as u8,
+        (e % 256) as u8,
+        (f % 256) as u8,
+        (g % 256) as u8,
     ]
 }
 

@@ -1,10 +1,10 @@
 -- What the counts of a number's bits say of the bits. Assumes nothing.
 use mathlib.Core.{Path.{_≡_, refl, ap, ap₂, sym, _∙_}, List.{List, [], _∷_}, Bool.{Bool, true, false, cond, _&&_}}
 use Prim.Native.Nat.{ℕ, zero, suc, _+_, _*_, _/_, _%_, _^_, _≤_, _<_}
-use native.Mathlib.{Nat.{pow-succ', lt-of-lt-of-le, div-eq-of-lt, mod-lt, mod-add-div, mul-assoc}, Omega.{arith}}
+use native.Mathlib.{Nat.{pow-succ', lt-of-lt-of-le, div-eq-of-lt, mod-lt, mod-eq-of-lt, mod-add-div, mul-assoc, one-le-pow}, Omega.{arith}}
 use lib.{Pow.{pow-mono, pow-lt}, Dec.{eqb, ltb, lit<}, ListN.{length}, Count.{ones, ones-step, ones-ones, trailingZeros, under}}
 use borrow.Author.Tests.{ltb-true, ltb-false, eqb-true, eqb-false, eq-eqb}
-use Rattle.flags.specs.{declared.Choice.the-variants.{At, Refused}, Flags.{isSet, bitsOf, count, first, hasOne, oneFlag}}
+use Rattle.flags.specs.{declared.Choice.the-variants.{At, Refused}, Flags.{isSet, bitsOf, count, first, hasOneOf, hasOne, oneFlag, isOneOf}}
 
 -- the number that bits stand for, D0 first
 digit : Bool → ℕ
@@ -89,32 +89,50 @@ more-bits (suc k) r q = rw (more-lowest k r q, more-half k r q, more-bits k (r /
 low-bits : (k n : ℕ) → bitsOf k (n % 2 ^ k) ≡ bitsOf k n
 low-bits k n = sym (more-bits k (n % 2 ^ k) (n / 2 ^ k)) ∙ ap (bitsOf k) (mod-add-div n (2 ^ k))
 
--- `oneFlag`, by what the machine counts in the 56 lowest bits of a word
+-- what the machine counts in the w lowest bits of a word
+module _ (w word : ℕ) where
+  abbrev lowest : ℕ
+  lowest = word % 2 ^ w
+
+  small : lowest < 2 ^ w
+  small = mod-lt word (one-le-pow w 2 (lit< tt))
+
+  pub ones-lowest : ones lowest ≡ count (bitsOf w word)
+  ones-lowest = ap ones (sym (value-bits w lowest small)) ∙ ones-value (bitsOf w lowest) ∙ ap count (low-bits w word)
+
+  pub zeros-lowest : w ≤ 64 → hasOneOf w word ≡ true → trailingZeros 64 lowest ≡ first (bitsOf w word)
+  zeros-lowest h p =
+      let q : 0 < count (bitsOf w lowest) = omega (arith, eqb-true (count (bitsOf w word)) 1 p, ap count (low-bits w word)) in
+      ap (trailingZeros 64) (sym (value-bits w lowest small))
+      ∙ zeros-value 64 (bitsOf w lowest) q (omega (arith, length-bits w lowest))
+      ∙ ap first (low-bits w word)
+
+-- `oneFlag`, by that of 56 bits
 module _ (word : ℕ) where
-  abbrev low : ℕ
-  low = word % 2 ^ 56
-
-  small : low < 2 ^ 56
-  small = mod-lt word (lit< tt)
-
-  pub ones-bits : ones low ≡ count (bitsOf 56 word)
-  ones-bits = ap ones (sym (value-bits 56 low small)) ∙ ones-value (bitsOf 56 low) ∙ ap count (low-bits 56 word)
-
-  module _ (p : hasOne word ≡ true) where
-    zeros-bits : trailingZeros 64 low ≡ first (bitsOf 56 word)
-    zeros-bits =
-        let q : 0 < count (bitsOf 56 low) = omega (arith, eqb-true (count (bitsOf 56 word)) 1 p, ap count (low-bits 56 word)) in
-        ap (trailingZeros 64) (sym (value-bits 56 low small))
-        ∙ zeros-value 64 (bitsOf 56 low) q (omega (arith, length-bits 56 low))
-        ∙ ap first (low-bits 56 word)
-
-    pub one : (offered : ℕ) → oneFlag offered word ≡ cond (isSet offered (trailingZeros 64 low)) (At (trailingZeros 64 low)) Refused
-    unfolding oneFlag
-    one offered = rw (p, zeros-bits)
+  pub one : hasOne word ≡ true → (offered : ℕ)
+      → oneFlag offered word ≡ cond (isSet offered (trailingZeros 64 (word % 2 ^ 56))) (At (trailingZeros 64 (word % 2 ^ 56))) Refused
+  unfolding oneFlag
+  one p offered = rw (p, zeros-lowest 56 word (omega arith) p)
 
   pub not-one : hasOne word ≡ false → (offered : ℕ) → oneFlag offered word ≡ Refused
   unfolding oneFlag
   not-one p offered = rw p
+
+-- `isOneOf`, by that of all 64
+module _ (word : ℕ) (h : word < 2 ^ 64) where
+  whole : word % 2 ^ 64 ≡ word
+  whole = mod-eq-of-lt h
+
+  pub one-of : (offered : ℕ) → eqb (ones word) 1 && isSet offered (trailingZeros 64 word) ≡ isOneOf offered word
+  unfolding isOneOf
+  one-of offered = ap (λ (n : ℕ). eqb n 1 && isSet offered (trailingZeros 64 word)) counted ∙ go (hasOneOf 64 word) refl
+    where
+      counted : ones word ≡ count (bitsOf 64 word)
+      counted = ap ones (sym whole) ∙ ones-lowest 64 word
+
+      go : (b : Bool) → hasOneOf 64 word ≡ b → b && isSet offered (trailingZeros 64 word) ≡ b && isSet offered (first (bitsOf 64 word))
+      go true p = ap (isSet offered) (ap (trailingZeros 64) (sym whole) ∙ zeros-lowest 64 word (omega arith) p)
+      go false p = refl
 
 -- bits of which one is set stand for the power of its place
 none-value : (bs : List Bool) → count bs ≡ 0 → value bs ≡ 0
@@ -128,6 +146,25 @@ unfolding value count digit first
 one-value [] e = absurd (omega arith)
 one-value (true ∷ bs) e = omega (arith, none-value bs (omega arith))
 one-value (false ∷ bs) e = omega (arith, one-value bs e, pow-succ' 2 (first bs))
+
+pub one-power : (w n : ℕ) → n < 2 ^ w → count (bitsOf w n) ≡ 1 → n ≡ 2 ^ first (bitsOf w n)
+one-power w n h e = sym (value-bits w n h) ∙ one-value (bitsOf w n) e
+
+-- and of a power the one bit is at its place
+no-bits : (w : ℕ) → count (bitsOf w 0) ≡ 0
+unfolding bitsOf count
+no-bits zero = refl
+no-bits (suc w) = no-bits w
+
+pub power-bits : (w k : ℕ) → k < w → (count (bitsOf w (2 ^ k)) ≡ 1) × (first (bitsOf w (2 ^ k)) ≡ k)
+unfolding bitsOf count first
+power-bits zero k h = absurd (omega arith)
+power-bits (suc w) zero h = (ap suc (no-bits w), refl)
+power-bits (suc w) (suc k) h =
+    let r : 2 ^ suc k % 2 ≡ 0 = omega (arith, pow-succ' 2 k) in
+    let q : 2 ^ suc k / 2 ≡ 2 ^ k = omega (arith, pow-succ' 2 k) in
+    let p = power-bits w k (omega arith) in
+    rw (r, q) (p .0, ap suc (p .1))
 
 -- a bit that is set stands within the width
 pub set-below : (w n k : ℕ) → n < 2 ^ w → isSet n k ≡ true → k < w
@@ -163,7 +200,7 @@ module _ (offered word p : ℕ) (e : oneFlag offered word ≡ At p) where
 
   -- the word is the power of p, and p is within the width of what is offered
   pub chosen-power : word < 2 ^ 56 → word ≡ 2 ^ p
-  chosen-power g = rw (← chosen-first) (sym (value-bits 56 word g) ∙ one-value bits chosen-one)
+  chosen-power g = rw (← chosen-first) (one-power 56 word g chosen-one)
 
   pub chosen-is : (w : ℕ) → offered < 2 ^ w → word < 2 ^ 56 → (word ≡ 2 ^ p) × (p < w)
   chosen-is w h g = (chosen-power g, set-below w offered p h chosen-offered)

@@ -1,12 +1,13 @@
 -- The number that answers a request, by how far its tests go. Assumes nothing.
 use mathlib.Core.{Path.{_≡_, refl, ap, sym, _∙_}, List.{List, [], _∷_, _++_}, Bool.{Bool, true, false, cond, not, _&&_}}
 use Prim.Native.Nat.{ℕ}
+use native.Mathlib.Omega.{arith}
 use lib.{Dec.{eqb, ltb, leb}, ListN.{length}}
-use borrow.Author.Tests.{eq-eqb, ne-eqb, eqb-true, le-ltb, lt-ltb, leb-true, leb-false}
+use borrow.Author.Tests.{eq-eqb, ne-eqb, eqb-true, eqb-false, le-ltb, lt-ltb, leb-true, leb-false}
 use Rattle.wire.specs.{Rows.{Row, _⇒_, answers, firstOf}, Uvc.{malformedRecord, noRoom}}
-use Rattle.wire.proofs.Laws.Rows.{first-append}
+use Rattle.wire.proofs.Laws.Rows.{first-append, answers-number}
 use Rattle.request.specs.{Setup.{setupSelector, setupCode, setupWLength, isSetRequest}, Table.{Table}}
-use Rattle.request.specs.{Tests.{requestTests, valueTests, asked, sentCount, requestRows, requestCode}, Reply.{sentOf, replyOf}}
+use Rattle.request.specs.{Tests.{requestTests, valueTests, admission, asked, sentCount, requestRows, requestCode}, Reply.{sentOf, replyOf}}
 use Rattle.request.specs.Requests.{replied}
 
 -- a row that comes to its own number
@@ -30,6 +31,29 @@ module _ (t : Table) (setup payload : List ℕ) where
 
   abbrev state : ℕ
   state = t .state (setupSelector setup) (setupCode setup)
+
+  -- tests 1 to 7
+  pub admission-unformed : t .formed ≡ false → admission t setup payload ≡ malformedRecord
+  unfolding admission requestTests
+  admission-unformed w = rw w
+
+  pub admission-formed : t .formed ≡ true → admission t setup payload ≡ cond (eqb first 0) state first
+  unfolding admission
+  admission-formed w =
+      ap (λ b. cond (not b) malformedRecord (firstOf (requestTests t setup payload ++ (answers state ∷ [])))) w
+      ∙ then-rows (answers state ∷ [])
+      ∙ ap (λ (n : ℕ). cond (eqb first 0) n first) (answers-number state)
+
+  pub admitted : admission t setup payload ≡ 0 → (t .formed ≡ true) × (first ≡ 0) × (state ≡ 0)
+  admitted e = go (t .formed) refl
+    where
+      go : (b : Bool) → t .formed ≡ b → (t .formed ≡ true) × (first ≡ 0) × (state ≡ 0)
+      go false w = absurd (omega (arith, sym (admission-unformed w) ∙ e))
+      go true w = by (eqb first 0) refl (sym (admission-formed w) ∙ e)
+        where
+          by : (b : Bool) → eqb first 0 ≡ b → cond (eqb first 0) state first ≡ 0 → (t .formed ≡ true) × (first ≡ 0) × (state ≡ 0)
+          by true p q = (w, eqb-true first 0 p, rw p at q)
+          by false p q = absurd (eqb-false first 0 p (rw p at q))
 
   module _ (room : ℕ) where
     abbrev last : Row
@@ -78,6 +102,20 @@ module _ (t : Table) (setup payload : List ℕ) where
 
           pub at-get : isSetRequest setup ≡ false → requestCode t setup payload room ≡ cond (ltb room (sentCount t setup)) noRoom 0
           at-get e = by-state ∙ rw (eq-eqb state 0 y, e)
+
+    -- a request that tests 1 to 7 refuse
+    pub at-admission : (admission t setup payload ≡ 0 → ⊥) → requestCode t setup payload room ≡ admission t setup payload
+    at-admission n = go (t .formed) refl
+      where
+        go : (b : Bool) → t .formed ≡ b → requestCode t setup payload room ≡ admission t setup payload
+        go false w = at-unformed w ∙ sym (admission-unformed w)
+        go true w = by (eqb first 0) refl
+          where
+            by : (b : Bool) → eqb first 0 ≡ b → requestCode t setup payload room ≡ admission t setup payload
+            by true p =
+                let a : admission t setup payload ≡ state = admission-formed w ∙ rw p in
+                at-state w (eqb-true first 0 p) (λ z. n (a ∙ z)) ∙ sym a
+            by false p = at-tests w (eqb-false first 0 p) ∙ sym (admission-formed w ∙ rw p)
 
   -- what a SET leaves in the reply buffer, and what a GET that is past test 8 reports and leaves there
   pub set-replied : (reply : List ℕ) → isSetRequest setup ≡ true → reply ≡ replied t setup payload reply

@@ -1,0 +1,43 @@
+-- Request #101: the unit's record.
+use Prim.Native.Nat.{ℕ}
+use mathlib.Core.Bool.{Bool, _&&_, _||_}
+use lib.Dec.{eqb, leb}
+use Rattle.flags.specs.Flags.{isOneOf}
+use Rattle.peripheral.specs.declared.record.Peripheral.{Peripheral}
+
+-- every control at its default, and no occupants
+abbrev pub fresh : (unit interface mask : ℕ) → Peripheral
+fresh unit interface mask = record { unit = unit; interface = interface; mask = mask; mode = 0; toggle = 0; count = 0; reset = 0 }
+
+-- a mode of frame strategy: 0, or exactly one bit of the mask
+abbrev pub modeValid : (mask mode : ℕ) → Bool
+modeValid mask mode = eqb mode 0 || isOneOf mask mode
+
+-- the toggle and the reset byte are 0 or 1
+abbrev pub isSwitch : ℕ → Bool
+isSwitch n = leb n 1
+
+-- the most occupants that are counted, which is the reading's maximum
+abbrev pub most : ℕ
+most = 0xFF
+
+-- what calls can leave; every other record is 0x21
+unfoldable pub wellFormed : Peripheral → Bool
+wellFormed p = modeValid (p .mask) (p .mode) && isSwitch (p .toggle) && leb (p .count) most && isSwitch (p .reset)
+
+-- the record with one field changed
+abbrev pub withMode : Peripheral → ℕ → Peripheral
+withMode p n =
+    record { unit = p .unit; interface = p .interface; mask = p .mask; mode = n; toggle = p .toggle; count = p .count; reset = p .reset }
+
+abbrev pub withToggle : Peripheral → ℕ → Peripheral
+withToggle p n =
+    record { unit = p .unit; interface = p .interface; mask = p .mask; mode = p .mode; toggle = n; count = p .count; reset = p .reset }
+
+abbrev pub withCount : Peripheral → ℕ → Peripheral
+withCount p n =
+    record { unit = p .unit; interface = p .interface; mask = p .mask; mode = p .mode; toggle = p .toggle; count = n; reset = p .reset }
+
+abbrev pub withReset : Peripheral → ℕ → Peripheral
+withReset p n =
+    record { unit = p .unit; interface = p .interface; mask = p .mask; mode = p .mode; toggle = p .toggle; count = p .count; reset = n }
