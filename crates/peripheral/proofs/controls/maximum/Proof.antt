@@ -1,24 +1,19 @@
-use borrow.Author.Needs.{needs}
+-- `maximum` meets its contract. Assumes nothing.
+use borrow.Author.{Tests.{ne-eqb}, Needs.{needs}}
 use Rattle.peripheral.proofs.controls.maximum.Statement.{statement}
 use Rattle.peripheral.proofs.controls.maximum.Tie as tie
-use Rattle.peripheral.proofs.controls.maximum.Reads as reads
-use Rattle.peripheral.proofs.controls.maximum.Lts as lts
 
--- src/controls.rt:78:9
 returns : tie.Need-returns
-returns c = ?
+returns c = rw (c .if1 .taken)
 
--- src/controls.rt:81:16
 cast-result : tie.Need-cast-result
 cast-result c = search needs
 
--- src/controls.rt:81:9
 returns-2 : tie.Need-returns-2
-returns-2 c = ?
+returns-2 c = rw (c .if2 .taken)
 
--- src/controls.rt:74:1
 returns-3 : tie.Need-returns-3
-returns-3 c = ?
+returns-3 c = simp (ne-eqb _ 0x01 (c .before .if1 .left), ne-eqb _ 0x04 (c .if2 .left))
 
 pub maximum-spec : {M : Type 1} → statement M
 maximum-spec = tie.close (tie.spec returns cast-result returns-2 returns-3)

@@ -1,39 +1,54 @@
-use borrow.Author.Needs.{needs}
+-- `value_refusal` meets its contract. Assumes nothing.
+use mathlib.Core.{Path.{_≡_, ap, sym, _∙_}, Bool.{Bool}}
+use Prim.Native.Nat.{ℕ}
+use native.Mathlib.Omega.{arith}
+use lib.ListN.{getD}
+use borrow.Author.{Tests.{ne-eqb, le-leb, lt-leb}, Needs.{needs}}
+use Rattle.peripheral.specs.{Record.{modeValid}, Controls.{payloadMode, valueRefusal}}
 use Rattle.peripheral.proofs.controls.value_refusal.Statement.{statement}
 use Rattle.peripheral.proofs.controls.value_refusal.Tie as tie
-use Rattle.peripheral.proofs.controls.value_refusal.Reads as reads
-use Rattle.peripheral.proofs.controls.value_refusal.Lts as lts
-use Rattle.peripheral.proofs.record.mode_valid.Reads as mode-valid-reads
-use Rattle.wire.proofs.byte.Reads as byte-reads
-use Rattle.wire.proofs.le64.Reads as le64-reads
 
--- src/controls.rt:62:29
+-- the mode that the payload asks for
+tested : (c : tie.After-mode-valid) → let a = c .before .before .before .before .args in
+    modeValid (a .mask) (payloadMode (a .payload .now)) ≡ c .mode-valid .result
+tested c =
+    let a = c .before .before .before .before .args in
+    sym (c .mode-valid .ensures ∙ ap (λ (n : ℕ). modeValid (a .mask) n) (c .before .le64 .ensures))
+
 le64-requires : tie.Need-le64-requires
 le64-requires c κs = search needs
 
--- src/controls.rt:62:12
 mode-valid-requires : tie.Need-mode-valid-requires
 mode-valid-requires c κs = search needs
 
--- src/controls.rt:63:13
 returns : tie.Need-returns
-returns c = ?
+unfolding valueRefusal
+returns c = rw (c .before .before .before .if1 .taken, tested (c .before) ∙ c .if2 .taken)
 
--- src/controls.rt:65:9
 returns-2 : tie.Need-returns-2
-returns-2 c = ?
+unfolding valueRefusal
+returns-2 c = rw (c .before .before .before .if1 .taken, tested (c .before) ∙ c .if2 .left)
 
--- src/controls.rt:67:8
 byte-requires : tie.Need-byte-requires
 byte-requires c κs = search needs
 
--- src/controls.rt:68:9
 returns-3 : tie.Need-returns-3
-returns-3 c = ?
+unfolding valueRefusal
+returns-3 c =
+    let a = c .before .before .before .before .args in
+    rw (
+      ne-eqb (a .selector) 0x01 (c .before .before .if1 .left),
+      le-leb (getD (a .payload .now) 0 0) 1 (omega (arith, c .before .byte .ensures)),
+    )
 
--- src/controls.rt:58:1
 returns-4 : tie.Need-returns-4
-returns-4 c = ?
+unfolding valueRefusal
+returns-4 c =
+    let a = c .before .before .before .before .args in
+    rw (
+      ne-eqb (a .selector) 0x01 (c .before .before .if1 .left),
+      lt-leb (getD (a .payload .now) 0 0) 1 (omega (arith, c .before .byte .ensures)),
+    )
 
 pub value-refusal-spec : {M : Type 1} → statement M
 value-refusal-spec =

@@ -1,49 +1,58 @@
-use borrow.Author.Needs.{needs}
+-- `after_set` meets its contract. Assumes nothing.
+use mathlib.Core.Path.{ap, sym, _∙_}
+use lib.ListN.{getD}
+use borrow.Author.{Tests.{eq-eqb, ne-eqb}, Needs.{needs}}
+use Rattle.peripheral.specs.{Record.{withMode, withToggle, withReset}, Controls.{afterSet}}
 use Rattle.peripheral.proofs.record.Peripheral.after_set.Statement.{statement}
 use Rattle.peripheral.proofs.record.Peripheral.after_set.Tie as tie
-use Rattle.peripheral.proofs.record.Peripheral.after_set.Reads as reads
-use Rattle.peripheral.proofs.record.Peripheral.after_set.Lts as lts
-use Rattle.peripheral.proofs.record.Peripheral.with_mode.Reads as with-mode-reads
-use Rattle.peripheral.proofs.record.Peripheral.with_reset.Reads as with-reset-reads
-use Rattle.peripheral.proofs.record.Peripheral.with_toggle.Reads as with-toggle-reads
-use Rattle.wire.proofs.byte.Reads as byte-reads
-use Rattle.wire.proofs.le64.Reads as le64-reads
 
--- src/controls.rt:114:35
 le64-requires : tie.Need-le64-requires
 le64-requires c κs = search needs
 
--- src/controls.rt:114:13
 with-mode-requires : tie.Need-with-mode-requires
 with-mode-requires c κs = search needs
 
--- src/controls.rt:114:13
 returns : tie.Need-returns
-returns c = ?
+unfolding afterSet
+returns c =
+    rw (c .before .before .if1 .taken) (c .with-mode .ensures ∙ ap (withMode (c .before .before .before .before .args .self)) (c .before .le64 .ensures))
 
--- src/controls.rt:116:13
 byte-requires : tie.Need-byte-requires
 byte-requires c κs = search needs
 
--- src/controls.rt:118:13
 with-toggle-requires : tie.Need-with-toggle-requires
 with-toggle-requires c κs = search needs
 
--- src/controls.rt:118:13
 returns-2 : tie.Need-returns-2
-returns-2 c = ?
+unfolding afterSet
+returns-2 c =
+    let b = c .before .before in
+    rw (c .before .if2 .taken) (c .with-toggle .ensures ∙ ap (withToggle (b .before .before .before .args .self)) (b .byte .ensures))
 
--- src/controls.rt:121:13
 returns-3 : tie.Need-returns-3
-returns-3 c = ?
+unfolding afterSet
+returns-3 c =
+    let b = c .before .before in
+    let a = b .before .before .before .args in
+    rw (
+      ne-eqb (a .selector) 0x01 (b .before .if1 .left),
+      ne-eqb (a .selector) 0x03 (c .before .if2 .left),
+      eq-eqb (getD (a .payload .now) 0 0) 0 (sym (b .byte .ensures) ∙ c .if3 .taken),
+    )
 
--- src/controls.rt:123:9
 with-reset-requires : tie.Need-with-reset-requires
 with-reset-requires c κs = search needs
 
--- src/controls.rt:110:5
 returns-4 : tie.Need-returns-4
-returns-4 c = ?
+unfolding afterSet
+returns-4 c =
+    let b = c .before .before .before in
+    let a = b .before .before .before .args in
+    rw (
+      ne-eqb (a .selector) 0x01 (b .before .if1 .left),
+      ne-eqb (a .selector) 0x03 (c .before .before .if2 .left),
+      ne-eqb (getD (a .payload .now) 0 0) 0 (λ e. c .before .if3 .left (b .byte .ensures ∙ e)),
+    ) (c .with-reset .ensures ∙ ap (withReset (a .self)) (b .byte .ensures))
 
 pub after-set-spec : {M : Type 1} → statement M
 after-set-spec =

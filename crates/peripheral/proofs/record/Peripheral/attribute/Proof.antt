@@ -1,39 +1,29 @@
-use borrow.Author.Needs.{needs}
+-- `attribute` meets its contract. Assumes nothing.
+use borrow.Author.{Tests.{ne-eqb}, Needs.{needs}}
+use Rattle.wire.specs.Uvc.{getCur, getMax, getRes}
 use Rattle.peripheral.proofs.record.Peripheral.attribute.Statement.{statement}
 use Rattle.peripheral.proofs.record.Peripheral.attribute.Tie as tie
-use Rattle.peripheral.proofs.record.Peripheral.attribute.Reads as reads
-use Rattle.peripheral.proofs.record.Peripheral.attribute.Lts as lts
-use Rattle.peripheral.proofs.controls.maximum.Reads as maximum-reads
-use Rattle.peripheral.proofs.controls.resolution.Reads as resolution-reads
-use Rattle.peripheral.proofs.record.Peripheral.current.Reads as current-reads
 
--- src/controls.rt:146:13
 current-requires : tie.Need-current-requires
 current-requires c κs = search needs
 
--- src/controls.rt:146:13
 returns : tie.Need-returns
-returns c = ?
+returns c = rw (c .before .if1 .taken) (c .current .ensures)
 
--- src/controls.rt:149:13
 maximum-requires : tie.Need-maximum-requires
 maximum-requires c κs = search needs
 
--- src/controls.rt:149:13
 returns-2 : tie.Need-returns-2
-returns-2 c = ?
+returns-2 c = rw (c .before .if2 .taken) (c .maximum .ensures)
 
--- src/controls.rt:152:13
 resolution-requires : tie.Need-resolution-requires
 resolution-requires c κs = search needs
 
--- src/controls.rt:152:13
 returns-3 : tie.Need-returns-3
-returns-3 c = ?
+returns-3 c = rw (c .before .if3 .taken) (c .resolution .ensures)
 
--- src/controls.rt:142:5
 returns-4 : tie.Need-returns-4
-returns-4 c = ?
+returns-4 c = simp (ne-eqb _ getCur (c .before .before .if1 .left), ne-eqb _ getMax (c .before .if2 .left), ne-eqb _ getRes (c .if3 .left))
 
 pub attribute-spec : {M : Type 1} → statement M
 attribute-spec =

@@ -1,36 +1,28 @@
-use borrow.Author.Needs.{needs}
+-- `current` meets its contract. Assumes nothing.
+use borrow.Author.{Tests.{ne-eqb}, Needs.{needs}}
 use Rattle.peripheral.proofs.record.Peripheral.current.Statement.{statement}
 use Rattle.peripheral.proofs.record.Peripheral.current.Tie as tie
-use Rattle.peripheral.proofs.record.Peripheral.current.Reads as reads
-use Rattle.peripheral.proofs.record.Peripheral.current.Lts as lts
 
--- src/controls.rt:130:13
 returns : tie.Need-returns
-returns c = ?
+returns c = rw (c .if1 .taken)
 
--- src/controls.rt:133:20
 cast-result : tie.Need-cast-result
 cast-result c = search needs
 
--- src/controls.rt:133:13
 returns-2 : tie.Need-returns-2
-returns-2 c = ?
+returns-2 c = rw (c .before .if2 .taken)
 
--- src/controls.rt:136:20
 cast-result-2 : tie.Need-cast-result-2
 cast-result-2 c = search needs
 
--- src/controls.rt:136:13
 returns-3 : tie.Need-returns-3
-returns-3 c = ?
+returns-3 c = rw (c .before .if3 .taken)
 
--- src/controls.rt:138:9
 cast-result-3 : tie.Need-cast-result-3
 cast-result-3 c = search needs
 
--- src/controls.rt:126:5
 returns-4 : tie.Need-returns-4
-returns-4 c = ?
+returns-4 c = simp (ne-eqb _ 0x01 (c .before .before .before .if1 .left), ne-eqb _ 0x03 (c .before .before .if2 .left), ne-eqb _ 0x04 (c .before .if3 .left))
 
 pub current-spec : {M : Type 1} → statement M
 current-spec =

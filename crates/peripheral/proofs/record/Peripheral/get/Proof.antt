@@ -1,60 +1,74 @@
+-- `get` meets its contract. Assumes nothing.
+use mathlib.Core.{Path.{_≡_, ap, ap₂, _∙_}, List.{List}}
+use Prim.Native.Nat.{ℕ}
+use native.Mathlib.Omega.{arith}
+use lib.ListN.{length, take}
 use borrow.Author.Needs.{needs}
+use Rattle.wire.specs.Numbers.{bytesOf}
+use Rattle.wire.proofs.Laws.Bytes.{first-bytes}
+use Rattle.request.specs.{declared.reply.Sent.{Sent}, Setup.{setupSelector, setupCode}, Reply.{sentOf, replyOf}, Tests.{asked}}
+use Rattle.peripheral.specs.{Requests.{table, outcomeOf}, Steps.{answerNumber, answerLength, getDone}}
+use Rattle.peripheral.proofs.Laws.Answers.{answer-bytes, answer-most}
 use Rattle.peripheral.proofs.record.Peripheral.get.Statement.{statement}
 use Rattle.peripheral.proofs.record.Peripheral.get.Tie as tie
-use Rattle.peripheral.proofs.record.Peripheral.get.Reads as reads
-use Rattle.peripheral.proofs.record.Peripheral.get.Lts as lts
-use Rattle.peripheral.proofs.controls.answer_length.Reads as answer-length-reads
-use Rattle.peripheral.proofs.record.Peripheral.answer_number.Reads as answer-number-reads
-use Rattle.request.proofs.send.Reads as send-reads
-use Rattle.request.proofs.code.Reads as code-reads
-use Rattle.request.proofs.selector.Reads as selector-reads
-use Rattle.request.proofs.wlength.Reads as wlength-reads
-use Rattle.wire.proofs.bytes64.Reads as bytes64-reads
-use Rattle.wire.proofs.head.Reads as head-reads
 
--- src/requests.rt:60:13
+-- the bytes that are sent are the answer that the setup asks for
+is-asked : (c : tie.After-head) → let a = c .before .before .before .before .before .before .before .before .before .args in
+    c .head .result .now ≡ asked (table (a .self)) (a .setup .now)
+is-asked c =
+    let l = c .before .before in
+    let n = l .before .before in
+    let k = n .before in
+    let a = k .before .before .before .before .args in
+    let s = setupSelector (a .setup .now) in
+    let code = setupCode (a .setup .now) in
+    let number = n .answer-number .ensures ∙ ap₂ (answerNumber (a .self)) (k .before .selector .ensures) (k .code .ensures) in
+    let size = l .answer-length .ensures ∙ ap₂ answerLength (k .before .selector .ensures) (k .code .ensures) in
+    c .head .ensures .bytes
+    ∙ ap₂ (λ (m : ℕ) (b : List ℕ). take m b) size (l .before .bytes64 .ensures ∙ ap (bytesOf 8) number)
+    ∙ first-bytes (answerLength s code) 8 (answerNumber (a .self) s code) (answer-most s code)
+    ∙ answer-bytes (a .self) s code
+
 selector-requires : tie.Need-selector-requires
 selector-requires c κs = search needs
 
--- src/requests.rt:61:13
 code-requires : tie.Need-code-requires
 code-requires c κs = search needs
 
--- src/requests.rt:62:35
 answer-number-requires : tie.Need-answer-number-requires
 answer-number-requires c κs = search needs
 
--- src/requests.rt:62:21
 bytes64-requires : tie.Need-bytes64-requires
 bytes64-requires c κs = search needs
 
--- src/requests.rt:63:13
 answer-length-requires : tie.Need-answer-length-requires
 answer-length-requires c κs = search needs
 
--- src/requests.rt:64:45
 slice-aggregate-head : tie.Need-slice-aggregate-head
 slice-aggregate-head c = search needs
 
--- src/requests.rt:64:34
 head-requires : tie.Need-head-requires
 head-requires c κs = search needs
 
--- src/requests.rt:64:59
 wlength-requires : tie.Need-wlength-requires
 wlength-requires c κs = search needs
 
--- src/requests.rt:64:13
 send-requires : tie.Need-send-requires
 send-requires c κs = search needs
 
--- src/requests.rt:55:5
 same-length : tie.Need-same-length
 same-length c = search needs
 
--- src/requests.rt:55:5
 returns : tie.Need-returns
-returns c = ?
+unfolding getDone
+returns c =
+    let s = c .before .before in
+    let w = s .before .before in
+    let h = w .before in
+    let a = h .before .before .before .before .before .before .before .before .before .args in
+    let u = ap₂ (λ (l : List ℕ) (n : ℕ). sentOf l n (length (a .reply .now))) (is-asked h) (w .wlength .ensures .0) in
+    let v = ap₂ (λ (l : List ℕ) (n : ℕ). replyOf l n (a .reply .now)) (is-asked h) (w .wlength .ensures .0) in
+    (ap (λ (t : Sent). outcomeOf (t .code) (t .count) (a .self)) (s .send .ensures .0 ∙ u), s .send .ensures .1 ∙ v)
 
 pub get-spec : {M : Type 1} → statement M
 get-spec =

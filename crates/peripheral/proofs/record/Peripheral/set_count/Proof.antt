@@ -1,39 +1,36 @@
-use borrow.Author.Needs.{needs}
+-- `set_count` meets its contract. Assumes nothing.
+use mathlib.Core.{Path.{_≡_, ap, sym, _∙_}, Bool.{true}}
+use borrow.Author.{Tests.{not-true, not-false, lt-ltb, le-ltb}, Needs.{needs}}
+use Rattle.peripheral.specs.{Record.{wellFormed, most}, Requests.{outcomeOf}, Calls.{countCode, counted}}
 use Rattle.peripheral.proofs.record.Peripheral.set_count.Statement.{statement}
 use Rattle.peripheral.proofs.record.Peripheral.set_count.Tie as tie
-use Rattle.peripheral.proofs.record.Peripheral.set_count.Reads as reads
-use Rattle.peripheral.proofs.record.Peripheral.set_count.Lts as lts
-use Rattle.peripheral.proofs.record.Peripheral.refuse.Reads as refuse-reads
-use Rattle.peripheral.proofs.record.Peripheral.well_formed.Reads as well-formed-reads
-use Rattle.peripheral.proofs.record.Peripheral.with_count.Reads as with-count-reads
 
--- src/calls.rt:31:13
+formed : (c : tie.Else1) → wellFormed (c .before .before .args .self) ≡ true
+formed c = sym (c .before .well-formed .ensures) ∙ not-false _ (c .if1 .left)
+
 well-formed-requires : tie.Need-well-formed-requires
 well-formed-requires c κs = search needs
 
--- src/calls.rt:32:13
 refuse-requires : tie.Need-refuse-requires
 refuse-requires c κs = search needs
 
--- src/calls.rt:32:13
 returns : tie.Need-returns
-returns c = ?
+unfolding counted countCode
+returns c = rw (sym (c .before .before .well-formed .ensures) ∙ not-true _ (c .before .if1 .taken)) (c .refuse .ensures)
 
--- src/calls.rt:35:13
 refuse-requires-2 : tie.Need-refuse-requires-2
 refuse-requires-2 c κs = search needs
 
--- src/calls.rt:35:13
 returns-2 : tie.Need-returns-2
-returns-2 c = ?
+unfolding counted countCode
+returns-2 c = rw (formed (c .before .before), lt-ltb most _ (c .before .if2 .taken)) (c .refuse2 .ensures)
 
--- src/calls.rt:37:13
 with-count-requires : tie.Need-with-count-requires
 with-count-requires c κs = search needs
 
--- src/calls.rt:28:5
 returns-3 : tie.Need-returns-3
-returns-3 c = ?
+unfolding counted countCode
+returns-3 c = rw (formed (c .before .before), le-ltb most _ (c .before .if2 .left)) (ap (outcomeOf 0 0) (c .with-count .ensures))
 
 pub set-count-spec : {M : Type 1} → statement M
 set-count-spec =
