@@ -12,8 +12,7 @@ use Rattle.wire.specs.Selectors as selector
 use Rattle.wire.proofs.Laws.Numbers.{Bytes}
 use Rattle.request.specs.Setup.{setupType, setupCode, setupValueLow, setupSelector, setupWLength, isSetRequest, isGetRequest}
 use Rattle.request.specs.{Answers.{answerBy}, Tests.{fullAnswer, asked, requestTests, sentCount}}
-use Rattle.request.proofs.Laws.Tests.{at-get}
-use Rattle.request.proofs.Theorems.{len-answers}
+use Rattle.request.proofs.Theorems.{get-no-set, len-answers}
 use Rattle.request.proofs.Theorems as requests
 use Rattle.controls.specs.{declared.HeldNumber.{HeldNumber}, Controls.{numberOr}}
 use Rattle.controls.specs.declared.HeldNumber.the-variants as N
@@ -37,7 +36,7 @@ use Rattle.settings.specs.Items.{allGiven, setGives, putAll}
 use Rattle.answering.specs.Answering.{valueOf}
 use Rattle.profile.proofs.Laws.{Profile.{valid-presence, valid-face}, KnownControl.{control-known}}
 use Rattle.camera.specs.{declared.record.Camera.{Camera}, Record.{fresh, held, puts, recordWellFormed}}
-use Rattle.camera.specs.Requests.{stateRefusal, table, cameraAnswer, requestedCode, requestDone, requested}
+use Rattle.camera.specs.Requests.{stateRefusal, table, rules, cameraAnswer, requestedCode, requestDone, requested}
 use Rattle.camera.specs.{Loading.{selectorAt, recordItem, loadGives}, Calls.{sensed, Call, request, load, outcome, left, next}}
 use Rattle.camera.proofs.Laws.Record.{formed-profile}
 use Rattle.demands.specs.{Runs.{acceptsSet, gives, run}, Cameras.{Ok, Typed, Same}}
@@ -48,8 +47,8 @@ use Rattle.demands.proofs.Laws.Current.{ev-current, face-current, face-
 use Rattle.demands.proofs.Laws.Same.{settings-same}
 use Rattle.demands.proofs.Laws.ReadBack.{answer-back, Taken, entry-taken, face-put, After, after, payload-entry, place-at}
 use Rattle.demands.proofs.Laws.ReadBack.{face-sized, current-entry, current-length, current-held, current-same, face-none}
-use Rattle.demands.proofs.Laws.Steps.{step, outcome-code, set-answer, load-answer, refused-none, request-next, accepted-control}
-use Rattle.demands.proofs.Laws.Steps.{accepted-length, accepted-values, set-control}
+use Rattle.demands.proofs.Laws.Steps.{step, outcome-code, set-answer, load-answer, refused-none, request-next, set-control}
+use Rattle.request.proofs.Laws.Sets.{accepted-control, accepted-length, accepted-values}
 use Rattle.demands.proofs.Lists.{writes, snapshot-decodes, snapshot-formed, written-item}
 
 -- new settings, of any call
@@ -234,9 +233,9 @@ pub set-then-get : (c : Camera) → Ok (c .profile) c → (s payload reply : Lis
 set-then-get c o s payload reply b i e =
     let p = c .profile in
     let a : acceptsSet p (c .streaming) s payload ≡ true = set-answer c s payload (length reply) (o .formed) i ∙ eq-eqb _ 0 e in
-    let n = accepted-length p (c .streaming) s payload a in
-    let z = accepted-values p (c .streaming) s payload a in
-    let h = accepted-control p (c .streaming) s payload a in
+    let n = accepted-length (rules p (c .streaming)) s payload a in
+    let z = accepted-values (rules p (c .streaming)) s payload a in
+    let h = accepted-control (rules p (c .streaming)) s payload a in
     let r = set-control p (c .streaming) s payload a in
     let k = control-known (p .controls) (setupSelector s) (valid-presence p (formed-profile c (o .formed))) (h .0) in
     let d : next c (request s payload reply) ≡ puts c (setGives p (setupSelector s) payload) = set-next c o s payload reply a in
@@ -263,12 +262,6 @@ get-sends c s payload reply i e =
       camera = ap (λ o. o .camera) done;
     }
 
-get-no-set : (s : List ℕ) → isGetRequest s ≡ true → isSetRequest s ≡ false
-get-no-set s h =
-    let q = simp and-eq-true-iff at h in
-    let t : setupType s ≡ 0xA1 = eqb-true (setupType s) 0xA1 (q .0 .0) in
-    rw t
-
 -- test 7 is of SETs alone
 get-state : (streaming : Bool) (control : ℕ) (s : List ℕ) → isGetRequest s ≡ true → stateRefusal streaming control (setupCode s) ≡ 0
 get-state streaming control s h =
@@ -282,15 +275,11 @@ get-state streaming control s h =
 
 pub get-accepted : (c : Camera) → recordWellFormed c ≡ true → (s reply : List ℕ) → Gets (c .profile) s
     → min (setupWLength s) (length (asked (table c) s)) ≤ length reply → outcome c (request s [] reply) .code ≡ 0
-unfolding requested requestDone requestTests
+unfolding requested requestDone
 get-accepted c w s reply g h =
-    let i = get-no-set s (g .get) in
-    let z : requestDone c s [] .code ≡ 0 = rw i in
-    let first : firstOf (requestTests (table c) s []) ≡ 0 =
-    rw (eq-eqb (length s) 8 (g .eight), g .addresses, g .present, eq-eqb (setupValueLow s) 0 (g .low), i, g .get) in
+    let z : requestDone c s [] .code ≡ 0 = rw (get-no-set s (g .get)) in
     outcome-code (requestedCode c s [] (length reply)) c (requestDone c s []) z
-    ∙ at-get (table c) s [] (length reply) w first (get-state (c .streaming) (setupSelector s) s (g .get)) i
-    ∙ rw (le-ltb (length reply) (sentCount (table c) s) h)
+    ∙ requests.get-accepted (table c) s (length reply) w g (get-state (c .streaming) (setupSelector s) s (g .get)) h
 
 -- GET_CUR of a control after any call is accepted, given room, and sends its full answer.
 get-after : (c : Camera) → Ok (c .profile) c → (call : Call) (g buffer : List ℕ) → Gets (c .profile) g → setupCode g ≡ getCur

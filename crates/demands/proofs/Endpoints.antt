@@ -31,7 +31,7 @@ use Rattle.settings.specs.{Held.{settingsHeld}, Kept.{valueRefusal, kept, setti
 use Rattle.answering.specs.Answering.{valueOf, controlAnswer}
 use Rattle.answering.proofs.Laws.Answering.{answer-fits}
 use Rattle.camera.specs.{declared.record.Camera.{Camera}, Record.{recordWellFormed, recordWellFormedUnder}}
-use Rattle.camera.specs.{Requests.{table, cameraAnswer, refused, requestDone, requested}, Writing.{snapshot}, Calls.{request, outcome}}
+use Rattle.camera.specs.{Requests.{table, rules, cameraAnswer, refused, requestDone, requested}, Writing.{snapshot}, Calls.{request, outcome}}
 use Rattle.camera.specs.Loading.{selectorAt, recordItem, loadCode, loadCodeUnder, loaded, loadedUnder}
 use Rattle.camera.proofs.Laws.Record.{formed-profile}
 use Rattle.encoding.specs.Encoding.{recordOf}
@@ -40,7 +40,8 @@ use Rattle.demands.specs.Endpoints.{AllCameraLengths, LengthsReached, fu
 use Rattle.demands.specs.Endpoints.{Unlisted, RefusesUnlisted, AllNewSnapshots}
 use Rattle.demands.proofs.{Refusals.{by-number}, Loading.{record-as-set, load-fault}}
 use Rattle.demands.proofs.Laws.{Longest.{snapshot-short, snapshot-most}, Older.{load-narrow}, Sets.{is-kind}}
-use Rattle.demands.proofs.Laws.Steps.{set-answer, accepted-control, accepted-length}
+use Rattle.demands.proofs.Laws.Steps.{set-answer}
+use Rattle.request.proofs.Laws.Sets.{accepted-control, accepted-length}
 
 -- the longest
 
@@ -70,8 +71,8 @@ module _ (c : Camera) (w : recordWellFormed c ≡ true) where
       → outcome c (request setup payload reply) .code ≡ 0 → length payload ≤ longestAnswer
   payload-short setup payload reply i f e =
       let a = set-answer c setup payload (length reply) w i ∙ eq-eqb _ 0 e in
-      let h : has (c .profile) selector.face ≡ true = rw f at (accepted-control _ (c .streaming) setup payload a .0) in
-      let l : length payload ≡ setLength (c .profile) selector.face payload = rw f at (accepted-length _ (c .streaming) setup payload a) in
+      let h : has (c .profile) selector.face ≡ true = rw f at (accepted-control (rules (c .profile) (c .streaming)) setup payload a .0) in
+      let l : length payload ≡ setLength (c .profile) selector.face payload = rw f at (accepted-length (rules (c .profile) (c .streaming)) setup payload a) in
       omega (arith, few h, len-longest (c .profile .face) (valid-face (c .profile) (formed-profile c w) h) payload)
 
 pub camera-lengths : AllCameraLengths

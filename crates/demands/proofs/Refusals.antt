@@ -4,12 +4,14 @@ use Prim.Native.Nat.{ℕ}
 use lib.{Dec.{eqb}, IntN.{pos}, ListN.{length}}
 use borrow.Author.Tests.{ne-eqb}
 use Rattle.wire.specs.Uvc.{malformedRecord}
-use Rattle.request.specs.Setup.{isSetRequest}
+use Rattle.request.specs.Setup.{setupSelector}
 use Rattle.request.proofs.Laws.Tests.{at-unformed}
+use Rattle.request.proofs.Laws.Requests as laws
 use Rattle.request.proofs.Theorems as requests
 use Rattle.exposure.specs.Exposure.{sensorValue}
-use Rattle.camera.specs.{declared.{record.Camera.{Camera}, calls.Outcome.{Outcome}}, Record.{recordWellFormed}}
-use Rattle.camera.specs.Requests.{table, requestedCode, refused, outcomeBy, requestDone, requested}
+use Rattle.settings.specs.Items.{setGives}
+use Rattle.camera.specs.{declared.{record.Camera.{Camera}, calls.Outcome.{Outcome}}, Record.{puts, recordWellFormed}}
+use Rattle.camera.specs.Requests.{table, requestedCode, outcomeOf, refused, outcomeBy, requestDone, requested}
 use Rattle.camera.specs.{Loading.{loadCode, loadCodeUnder, loadedUnder}, Writing.{writeCode, written, writtenOut}}
 use Rattle.camera.specs.Calls.{recordCode, streamed, sensed, Call, request, stream, load, write, sense, outcome}
 use Rattle.demands.specs.Refusals.{Unchanged}
@@ -17,20 +19,12 @@ use Rattle.demands.specs.Refusals.{Unchanged}
 -- a call by its number: where that is not 0, it is refused
 pub by-number : (code : ℕ) (c : Camera) (done : Outcome) → done .code ≡ 0 → (outcomeBy code c done .code ≡ 0 → ⊥)
     → (code ≡ 0 → ⊥) × (outcomeBy code c done ≡ refused code c)
-by-number code c done z n = go (eqb code 0) refl n
-  where
-    go : (b : Bool) → eqb code 0 ≡ b → (cond b done (refused code c) .code ≡ 0 → ⊥)
-        → (code ≡ 0 → ⊥) × (cond b done (refused code c) ≡ refused code c)
-    go true e m = absurd (m z)
-    go false e m = (m, refl)
+by-number = laws.result-refused outcomeOf (λ o. o .code) (λ code count c. refl)
 
 done-code : (c : Camera) (s payload : List ℕ) → requestDone c s payload .code ≡ 0
 unfolding requestDone
-done-code c s payload = go (isSetRequest s) _ _ refl refl
-  where
-    go : (b : Bool) (set get : Outcome) → set .code ≡ 0 → get .code ≡ 0 → cond b set get .code ≡ 0
-    go true set get p q = p
-    go false set get p q = q
+done-code c s payload =
+    laws.done-code outcomeOf (λ o. o .code) (λ code count c. refl) (table c) c (puts c (setGives (c .profile) (setupSelector s) payload)) s
 
 -- every refusal, of every call, for all bytes and any record
 pub refusals : (c : Camera) (call : Call) → (outcome c call .code ≡ 0 → ⊥) → Unchanged c call

@@ -5,7 +5,8 @@ use mathlib.Core.{Path.{_≡_}, List.{List, [], _∷_, _++_}, Option.{none, some
 use lib.{Dec.{eqb}, ListN.{length, getD, take, drop}}
 use Rattle.wire.specs.{Endpoints.{firstAddress}, Numbers.{bytesOf}, Uvc.{getCur, getDef, getLen}}
 use Rattle.wire.specs.Selectors as selector
-use Rattle.request.specs.{Setup.{setupValueLow, setupSelector, setupWLength, isGetRequest}, Tests.{isAddressed}}
+use Rattle.request.specs.Setup.{setupWLength}
+use Rattle.request.specs.Theorems as unit
 use Rattle.snapshot.specs.{Keys.{keyFor, longestWritten}, Form.{wellFormed}, Records.{decode}, Given.{over, lastOf}}
 use Rattle.controls.specs.declared.{EvSetting.{EvSetting}, ThrottleSetting.{ThrottleSetting}, Item.the-variants.{Given}}
 use Rattle.controls.specs.declared.Setting.the-variants as S
@@ -107,12 +108,8 @@ pub record CameraSends (c : Camera) (s payload reply full : List ℕ) : Type 0 w
   pub camera : next c (request s payload reply) ≡ c
 
 -- A GET's setup for a control of the profile; with no payload and room it is accepted.
-pub record Gets (p : Profile) (s : List ℕ) : Type 0 where
-  pub eight : length s ≡ 8
-  pub addresses : isAddressed (p .unit) (p .interface) s ≡ true
-  pub present : has p (setupSelector s) ≡ true
-  pub low : setupValueLow s ≡ 0
-  pub get : isGetRequest s ≡ true
+abbrev pub Gets : Profile → List ℕ → Type 0
+Gets p = unit.Gets (p .unit) (p .interface) (has p)
 
 -- A written snapshot reads back: it is well formed, has the record of every setting held and no other, and each record read as a SET is
 -- that setting again. With room for it, writing leaves these bytes.

@@ -3,3 +3,4 @@ pub mod Packed
 pub mod Tests
 pub mod Reply
 pub mod Requests
+pub mod Sets

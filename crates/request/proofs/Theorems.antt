@@ -9,7 +9,7 @@ use Rattle.wire.proofs.Laws.Rows.{Coded, quiet-own, own-coded, answers-at, answ
 use Rattle.request.specs.Setup.{setupType, setupValueLow, setupUnit, setupInterface, isSetRequest, isGetRequest}
 use Rattle.request.specs.{Table.{Table}, Answers.{answerBy}}
 use Rattle.request.specs.Tests.{isAddressed, requestTests, valueTests, fullAnswer, sentCount, requestRows, requestCode, testNumber}
-use Rattle.request.specs.{Requests.{requestCount, replied}, Theorems.{AllOrdered, RequestRefusals, GetSends, GetAccepted}}
+use Rattle.request.specs.{Requests.{requestCount, replied}, Theorems.{AllOrdered, RequestRefusals, GetSends, Gets, GetAccepted}}
 use Rattle.request.specs.Theorems.{ElsewhereRefused, LenAnswers, InfoAnswers}
 use Rattle.request.proofs.Laws.Tests.{at-tests, at-get}
 
@@ -73,13 +73,22 @@ get-no-set setup h =
     let t : setupType setup ≡ 0xA1 = eqb-true (setupType setup) 0xA1 (q .0 .0) in
     rw t
 
-pub get-accepted : GetAccepted
+-- a GET of a control passes tests 2 to 6
+pub gets-tests : (t : Table) (setup : List ℕ) → Gets (t .unit) (t .interface) (t .present) setup → firstOf (requestTests t setup []) ≡ 0
 unfolding requestTests
+gets-tests t setup g =
+    rw (
+      eq-eqb (length setup) 8 (g .eight),
+      g .addresses,
+      g .there,
+      eq-eqb (setupValueLow setup) 0 (g .low),
+      get-no-set setup (g .get),
+      g .get,
+    )
+
+pub get-accepted : GetAccepted
 get-accepted t setup room w g y h =
-    let i = get-no-set setup (g .get) in
-    let first : firstOf (requestTests t setup []) ≡ 0 =
-    rw (eq-eqb (length setup) 8 (g .eight), g .addresses, g .present, eq-eqb (setupValueLow setup) 0 (g .low), i, g .get) in
-    at-get t setup [] room w first y i ∙ rw (le-ltb room (sentCount t setup) h)
+    at-get t setup [] room w (gets-tests t setup g) y (get-no-set setup (g .get)) ∙ rw (le-ltb room (sentCount t setup) h)
 
 pub elsewhere-refused : ElsewhereRefused
 unfolding requestTests

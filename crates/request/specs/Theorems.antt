@@ -1,6 +1,6 @@
 -- What holds of every unit's requests. proofs/Theorems proves each.
 use Prim.Native.Nat.{ℕ, suc, _≤_}
-use mathlib.Core.{Path.{_≡_}, List.{List, [], _∷_, _++_, map}, Option.{none, some}, Bool.{true, false, cond}}
+use mathlib.Core.{Path.{_≡_}, List.{List, [], _∷_, _++_, map}, Option.{none, some}, Bool.{Bool, true, false, cond}}
 use lib.ListN.{length, take, drop}
 use Rattle.wire.specs.{Numbers.{bytesOf}, Rows.{Row, _⇒_, AnswersAt}, Uvc.{getInfo, getLen}}
 use Rattle.request.specs.{Setup.{setupValueLow, setupSelector, setupCode, isSetRequest, isGetRequest}, Table.{Table}}
@@ -45,18 +45,18 @@ GetSends =
     (t : Table) (setup payload reply : List ℕ) → isSetRequest setup ≡ false → requestCode t setup payload (length reply) ≡ 0
     → Sends t setup payload reply
 
--- A GET's setup for a control of the unit. With no payload, past test 7 and with room for its answer it is accepted.
-pub record Gets (t : Table) (setup : List ℕ) : Type 0 where
+-- A GET's setup for a control that is present. With no payload, past test 7 and with room for its answer it is accepted.
+pub record Gets (unit interface : ℕ) (present : ℕ → Bool) (setup : List ℕ) : Type 0 where
   pub eight : length setup ≡ 8
-  pub addresses : isAddressed (t .unit) (t .interface) setup ≡ true
-  pub present : t .present (setupSelector setup) ≡ true
+  pub addresses : isAddressed unit interface setup ≡ true
+  pub there : present (setupSelector setup) ≡ true
   pub low : setupValueLow setup ≡ 0
   pub get : isGetRequest setup ≡ true
 
 abbrev pub GetAccepted : Type 0
 GetAccepted =
-    (t : Table) (setup : List ℕ) (room : ℕ) → t .formed ≡ true → Gets t setup → t .state (setupSelector setup) (setupCode setup) ≡ 0
-    → sentCount t setup ≤ room → requestCode t setup [] room ≡ 0
+    (t : Table) (setup : List ℕ) (room : ℕ) → t .formed ≡ true → Gets (t .unit) (t .interface) (t .present) setup
+    → t .state (setupSelector setup) (setupCode setup) ≡ 0 → sentCount t setup ≤ room → requestCode t setup [] room ≡ 0
 
 -- A setup of eight bytes whose wIndex has another unit id or another interface is 0x05, where the record is not 0x21.
 abbrev pub ElsewhereRefused : Type 0

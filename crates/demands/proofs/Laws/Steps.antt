@@ -8,7 +8,9 @@ use Rattle.wire.specs.{Endpoints.{places}, Rows.{Row, _⇒_, firstOf, Quiet}, U
 use Rattle.wire.specs.Selectors as selectors
 use Rattle.wire.proofs.Laws.Rows.{quiet, quiet-own, own-coded, own-quiet, first-quiet}
 use Rattle.request.specs.{Setup.{isSetRequest, setupSelector, setupValueLow, setupWLength}, Table.{Table}}
-use Rattle.request.specs.Tests.{requestTests, isSized, sentCount, valueTests, requestRows, requestCode, setAccepted}
+use Rattle.request.specs.Tests.{requestTests, sentCount, valueTests, setAccepted}
+use Rattle.request.proofs.Laws.{Requests.{result-code}, Sets.{accepted-control, next-record}}
+use Rattle.request.proofs.Laws.Sets as sets
 use Rattle.snapshot.specs.{Keys.{keys, metadataKey, hdrKey}, Records.{decode}, Given.{over, lastOf}}
 use Rattle.controls.specs.declared.{Item.{Item}, Item.the-variants.{Refused, Given}, Setting.{Setting}}
 use Rattle.profile.specs.{declared.Profile.{Profile}, Profile.{has, isSettable, setLength, profileValid, profileRefusal}}
@@ -17,7 +19,7 @@ use Rattle.settings.specs.Items.{givenOf, setGives, putAll}
 use Rattle.settings.proofs.Laws.Kept.{control-kept}
 use Rattle.profile.proofs.Laws.{Profile.{valid-presence}, KnownControl.{control-known}}
 use Rattle.camera.specs.{declared.{record.Camera.{Camera}, calls.Outcome.{Outcome}}, Record.{held, recordWellFormed, puts}}
-use Rattle.camera.specs.Requests.{requestedCode, refused, outcomeBy, requestDone, requested, rules, table, controlRefusal}
+use Rattle.camera.specs.Requests.{requestedCode, outcomeOf, refused, outcomeBy, requestDone, requested, rules, table, controlRefusal}
 use Rattle.camera.specs.Calls.{sensed, Call, request, stream, load, write, sense, outcome, next}
 use Rattle.camera.specs.Loading.{selectorAt, recordItem, loadTests, loadCodeUnder, loadGives, loaded, loadedUnder}
 use Rattle.camera.specs.Writing.{snapshot, written, writeCode}
@@ -33,20 +35,12 @@ testsOf p streaming s payload = requestTests (rules p streaming) s payload ++ va
 -- the number of a SET, on a well-formed record
 set-code : (c : Camera) (s payload : List ℕ) (room : ℕ) → recordWellFormed c ≡ true → isSetRequest s ≡ true
     → requestedCode c s payload room ≡ firstOf (testsOf (c .profile) (c .streaming) s payload)
-unfolding requestCode requestRows requestTests valueTests
-set-code c s payload room w e =
-    let last = (not (isSetRequest s) && ltb room (sentCount (table c) s) ⇒ noRoom) ∷ [] in
-    let z : firstOf last ≡ 0 = rw e in
-    ap (λ b. cond (not b) malformedRecord (firstOf (testsOf (c .profile) (c .streaming) s payload ++ last))) w
-    ∙ first-quiet (testsOf (c .profile) (c .streaming) s payload) last z
+unfolding requestTests valueTests
+set-code c = sets.set-code (table c)
 
 -- a call's number is that of its tests
 pub outcome-code : (code : ℕ) (c : Camera) (done : Outcome) → done .code ≡ 0 → outcomeBy code c done .code ≡ code
-outcome-code code c done z = go (eqb code 0) refl
-  where
-    go : (b : Bool) → eqb code 0 ≡ b → cond b done (refused code c) .code ≡ code
-    go true e = z ∙ sym (eqb-true code 0 e)
-    go false e = refl
+outcome-code = result-code outcomeOf (λ o. o .code) (λ code count c. refl)
 
 -- a SET is accepted where the request answers 0
 pub set-answer : (c : Camera) (s payload : List ℕ) (room : ℕ) → recordWellFormed c ≡ true → isSetRequest s ≡ true
@@ -80,29 +74,17 @@ refused-none c w sense n = refl
 -- what a request leaves of the record
 pub request-next : (c : Camera) (s payload reply : List ℕ) → recordWellFormed c ≡ true
     → requested c s payload (length reply) .camera ≡ puts c (gives (c .profile) (c .streaming) (request s payload reply))
-unfolding requested requestDone gives putAll setAccepted
-request-next c s payload reply w = go (isSetRequest s) refl
+unfolding requested requestDone gives putAll requestTests valueTests setAccepted
+request-next c s payload reply w =
+    next-record outcomeOf (λ o. o .camera) (λ code count c. refl) (table c) c (puts c set) s payload (length reply) w
+    ∙ go (acceptsSet (c .profile) (c .streaming) s payload)
   where
-    set : ℕ → Bool → Outcome
-    set code b = cond b (record { code = 0; count = 0; camera = puts c (setGives (c .profile) (setupSelector s) payload) }) (refused code c)
+    set : List (ℕ × Setting)
+    set = setGives (c .profile) (setupSelector s) payload
 
-    taken : (code : ℕ) (b : Bool) → set code b .camera ≡ puts c (cond b (setGives (c .profile) (setupSelector s) payload) [])
-    taken code true = refl
-    taken code false = refl
-
-    get : (b : Bool) (done bad : Outcome) → done .camera ≡ c → bad .camera ≡ c → cond b done bad .camera ≡ c
-    get true done bad p q = p
-    get false done bad p q = q
-
-    go : (b : Bool) → isSetRequest s ≡ b
-        → requested c s payload (length reply) .camera ≡ puts c (gives (c .profile) (c .streaming) (request s payload reply))
-    go true e =
-        let n = set-code c s payload (length reply) w e in
-        let code = firstOf (testsOf (c .profile) (c .streaming) s payload) in
-        rw (e, n) (taken code (eqb code 0))
-    go false e =
-        rw e (get (eqb (requestedCode c s payload (length reply)) 0) (record { code = 0; count = sentCount (table c) s; camera = c })
-        (refused (requestedCode c s payload (length reply)) c) refl refl)
+    go : (b : Bool) → cond b (puts c set) c ≡ puts c (cond b set [])
+    go true = refl
+    go false = refl
 
 pub load-next : (c : Camera) (s : List ℕ) → recordWellFormed c ≡ true
     → loaded c s .camera ≡ puts c (gives (c .profile) (c .streaming) (load s))
@@ -125,49 +107,15 @@ write-next c out = go (eqb (writeCode c (length out)) 0)
     go true = refl
     go false = refl
 
--- what tests 2 to 8 of an accepted SET say
+-- the control of an accepted SET
 module _ (p : Profile) (streaming : Bool) (s payload : List ℕ) (a : acceptsSet p streaming s payload ≡ true) where
-  abbrev t : Table
-  t = rules p streaming
-
   abbrev selector : ℕ
   selector = setupSelector s
 
-  accepted-zero : (isSetRequest s ≡ true) × (firstOf (testsOf p streaming s payload) ≡ 0)
-  unfolding setAccepted
-  accepted-zero = let q = and-eq-true-iff (isSetRequest s) _ .0 a in (q .0, eqb-true _ 0 (q .1))
-
-  accepted-set : isSetRequest s ≡ true
-  accepted-set = accepted-zero .0
-
-  accepted-quiet : Quiet (requestTests t s payload) × (firstOf (valueTests t s payload) ≡ 0)
-  unfolding requestTests
-  accepted-quiet = quiet (requestTests t s payload) (valueTests t s payload) refl (accepted-zero .1)
-
-  -- its control is there and takes a SET
-  pub accepted-control : (has p selector ≡ true) × (isSettable p selector ≡ true)
-  unfolding requestTests
-  accepted-control =
-      let q = accepted-quiet .0 .1 .1 in
-      let u = and-eq-true-iff (eqb (setupValueLow s) 0) _ .0 (not-false _ (q .1 .0)) .1 in
-      (not-false _ (q .0), rw accepted-set at u)
-
-  -- the payload has the control's length
-  pub accepted-length : length payload ≡ setLength p selector payload
-  unfolding requestTests
-  accepted-length =
-      let z = rw accepted-set at (not-false (isSized (setLength p selector payload) s payload) (accepted-quiet .0 .1 .1 .1 .1 .0)) in
-      eqb-true (length payload) _ (and-eq-true-iff (eqb (length payload) (setupWLength s)) _ .0 z .1)
-
-  -- and no value test refuses it
-  pub accepted-values : setRefusal p selector payload ≡ 0
-  unfolding valueTests
-  accepted-values =
-      let v = quiet-own (valueTests t s payload) (own-coded _, (own-coded _, tt)) (accepted-quiet .1) in
-      rw accepted-set at (own-quiet (cond (isSetRequest s) (setRefusal p selector payload) 0) (v .1 .0))
-
   pub set-control : profileRefusal p selector ≡ 0
-  set-control = eqb-true _ 0 (control-kept p selector ∙ rw (accepted-control .0, accepted-control .1))
+  set-control =
+      let q = accepted-control (rules p streaming) s payload a in
+      eqb-true _ 0 (control-kept p selector ∙ rw (q .0, q .1))
 
 -- which items give a setting
 unfoldable pub isGiven : Item → Bool
@@ -213,7 +161,7 @@ module _ (p : Profile) (v : profileValid p ≡ true) where
   unfolding setGives
   set-good streaming s payload a =
       let c = set-control p streaming s payload a in
-      let k = control-known (p .controls) (setupSelector s) (valid-presence p v) (accepted-control p streaming s payload a .0) in
+      let k = control-known (p .controls) (setupSelector s) (valid-presence p v) (accepted-control (rules p streaming) s payload a .0) in
       all-good p (itemCount (setupSelector s) payload) 0 (λ i. givenOf (profileItem p (setupSelector s) payload i))
       (λ i. given-good p (profileItem p (setupSelector s) payload i) (λ t e. item-good p v payload i t (setupSelector s) k c e))
 

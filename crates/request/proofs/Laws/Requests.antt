@@ -1,13 +1,13 @@
 -- What a request hands back and leaves in the reply buffer, by the first of its tests that fails, whatever the unit. Assumes nothing.
-use mathlib.Core.{Path.{_≡_, refl, sym, _∙_}, List.{List}, Bool.{Bool, true, false, cond}}
+use mathlib.Core.{Path.{_≡_, refl, ap₂, sym, _∙_}, List.{List, [], _∷_, _++_}, Bool.{Bool, true, false, cond, not, _&&_}}
 use Prim.Native.Nat.{ℕ}
 use native.Mathlib.Omega.{arith}
-use lib.{Dec.{eqb}, ListN.{length}}
+use lib.{Dec.{eqb, ltb}, ListN.{length}}
 use borrow.Author.Tests.{ne-eqb, eqb-true}
-use Rattle.wire.specs.{Rows.{firstOf}, Uvc.{malformedRecord}}
+use Rattle.wire.specs.{Rows.{Row, _⇒_, answers, firstOf}, Uvc.{malformedRecord, noRoom}}
 use Rattle.request.specs.{declared.reply.Sent.{Sent}, Setup.{setupSelector, setupCode, setupWLength, isSetRequest}, Table.{Table}}
-use Rattle.request.specs.{Tests.{requestTests, admission, asked, sentCount, requestCode}, Reply.{sentOf, replyOf}}
-use Rattle.request.specs.Requests.{replied, resultBy, doneBy, requestedBy}
+use Rattle.request.specs.{Tests.{requestTests, valueTests, admission, asked, sentCount, requestRows, requestCode}, Reply.{sentLength, sentOf, replyOf}}
+use Rattle.request.specs.Requests.{requestCount, replied, resultBy, doneBy, requestedBy}
 use Rattle.request.proofs.Laws.Tests.{at-unformed, at-tests, at-state, at-set, at-get, at-admission, admitted, set-replied, get-sent}
 
 -- a call by its number, where `code` reads it off what is handed back
@@ -32,6 +32,23 @@ module _ {R O : Type 0} (out : ℕ → ℕ → R → O) (code : O → ℕ) (read
       go : (b : Bool) → code (cond b (out 0 0 set) (out 0 (sentCount t setup) before)) ≡ 0
       go true = reads 0 0 set
       go false = reads 0 (sentCount t setup) before
+
+-- what it reports, which `count` reads off
+pub requested-count : {R O : Type 0} (out : ℕ → ℕ → R → O) (count : O → ℕ) → ((code n : ℕ) (r : R) → count (out code n r) ≡ n)
+    → (t : Table) (before set : R) (setup payload : List ℕ) (room : ℕ)
+    → count (requestedBy out t before set setup payload room) ≡ requestCount t setup payload room
+unfolding requestCount
+requested-count out count reads t before set setup payload room = go (eqb code 0) (isSetRequest setup)
+  where
+    code : ℕ
+    code = requestCode t setup payload room
+
+    go : (a b : Bool) → count (cond a (cond b (out 0 0 set) (out 0 (sentCount t setup) before)) (out code 0 before))
+        ≡ cond (a && not b) (sentCount t setup) 0
+    go true true = reads 0 0 set
+    go true false = reads 0 (sentCount t setup) before
+    go false true = reads code 0 before
+    go false false = reads code 0 before
 
 module _ {R O : Type 0} (out : ℕ → ℕ → R → O) (t : Table) (before set : R) (setup payload reply : List ℕ) where
   abbrev number : ℕ
@@ -95,3 +112,37 @@ module _ {R O : Type 0} (out : ℕ → ℕ → R → O) (t : Table) (before set 
     pub admitted-get : isSetRequest setup ≡ false → let sent = sentOf (asked t setup) (setupWLength setup) (length reply) in
         Answers (out (sent .code) (sent .count) before) (replyOf (asked t setup) (setupWLength setup) reply)
     admitted-get = a-get (passed .0) (passed .1) (passed .2)
+
+-- two units that a request finds alike: whatever is no SET is answered alike
+module _ (t u : Table) (setup payload : List ℕ) (no-set : isSetRequest setup ≡ false) (formed : t .formed ≡ u .formed)
+    (tests : requestTests t setup payload ≡ requestTests u setup payload)
+    (state : t .state (setupSelector setup) (setupCode setup) ≡ u .state (setupSelector setup) (setupCode setup))
+    (answer : asked t setup ≡ asked u setup) where
+  pub same-code : (room : ℕ) → requestCode t setup payload room ≡ requestCode u setup payload room
+  unfolding requestCode requestRows valueTests
+  same-code room =
+      of t
+      ∙ ap₂ (λ f rows. code f rows (t .state (setupSelector setup) (setupCode setup)) (asked t setup)) formed tests
+      ∙ ap₂ (code (u .formed) (requestTests u setup payload)) state answer
+      ∙ sym (of u)
+    where
+      code : Bool → List Row → ℕ → List ℕ → ℕ
+      code f rows n full =
+          firstOf
+          ((not f ⇒ malformedRecord)
+          ∷ rows
+          ++ (answers n ∷ answers 0 ∷ [])
+          ++ (ltb room (sentLength full (setupWLength setup)) ⇒ noRoom)
+          ∷ [])
+
+      of : (x : Table) → requestCode x setup payload room
+          ≡ code (x .formed) (requestTests x setup payload) (x .state (setupSelector setup) (setupCode setup)) (asked x setup)
+      of x = rw no-set
+
+  pub same-count : (room : ℕ) → requestCount t setup payload room ≡ requestCount u setup payload room
+  unfolding requestCount
+  same-count room = rw (same-code room, answer)
+
+  pub same-replied : (reply : List ℕ) → replied t setup payload reply ≡ replied u setup payload reply
+  unfolding replied
+  same-replied reply = rw (same-code (length reply), answer)

@@ -5,7 +5,7 @@ use native.Mathlib.Omega.{arith}
 use lib.{Dec.{eqb, ltb, leb}, ListN.{length}}
 use borrow.Author.Tests.{eq-eqb, ne-eqb, eqb-true, eqb-false, le-ltb, lt-ltb, leb-true, leb-false}
 use Rattle.wire.specs.{Rows.{Row, _⇒_, answers, firstOf}, Uvc.{malformedRecord, noRoom}}
-use Rattle.wire.proofs.Laws.Rows.{first-append, answers-number}
+use Rattle.wire.proofs.Laws.Rows.{first-append, answers-number, avoided}
 use Rattle.request.specs.{Setup.{setupSelector, setupCode, setupWLength, isSetRequest}, Table.{Table}}
 use Rattle.request.specs.{Tests.{requestTests, valueTests, admission, asked, sentCount, requestRows, requestCode}, Reply.{sentOf, replyOf}}
 use Rattle.request.specs.Requests.{replied}
@@ -116,6 +116,24 @@ module _ (t : Table) (setup payload : List ℕ) where
                 let a : admission t setup payload ≡ state = admission-formed w ∙ rw p in
                 at-state w (eqb-true first 0 p) (λ z. n (a ∙ z)) ∙ sym a
             by false p = at-tests w (eqb-false first 0 p) ∙ sym (admission-formed w ∙ rw p)
+
+    -- a well-formed record is never 0x21, unless tests 7 and 8 say so
+    pub never-malformed : t .formed ≡ true → (state ≡ malformedRecord → ⊥) → (t .values (setupSelector setup) payload ≡ malformedRecord → ⊥)
+        → requestCode t setup payload room ≡ malformedRecord → ⊥
+    unfolding requestCode requestRows requestTests valueTests
+    never-malformed w y v e =
+        avoided malformedRecord rest
+        (λ z. omega arith, (
+          λ z. omega arith,
+          (λ z. omega arith, (λ z. omega arith, (λ z. omega arith, (y, (set-value (isSetRequest setup), (λ z. omega arith, λ z. omega arith)))))),
+        )) (sym (ap (λ b. cond (not b) malformedRecord (firstOf rest)) w) ∙ e)
+      where
+        rest : List Row
+        rest = requestTests t setup payload ++ valueTests t setup payload ++ (last ∷ [])
+
+        set-value : (b : Bool) → cond b (t .values (setupSelector setup) payload) 0 ≡ malformedRecord → ⊥
+        set-value true z = v z
+        set-value false z = omega arith
 
   -- what a SET leaves in the reply buffer, and what a GET that is past test 8 reports and leaves there
   pub set-replied : (reply : List ℕ) → isSetRequest setup ≡ true → reply ≡ replied t setup payload reply
