@@ -1,17 +1,17 @@
 -- What holds of every unit's requests. Assumes nothing.
-use mathlib.Core.{Path.{_≡_, refl, subst, sym, _∙_}, List.{List, [], _∷_}, Option.{none}, Bool.{Bool, true, false, and-eq-true-iff}}
+use mathlib.Core.{Path.{_≡_, refl, subst, sym, _∙_}, List.{List, [], _∷_}, Option.{none}, Bool.{Bool, true, false, cond, _&&_, and-eq-true-iff}}
 use Prim.Native.Nat.{ℕ, suc}
 use native.Mathlib.Omega.{arith}
-use lib.ListN.{length}
+use lib.{Dec.{eqb}, ListN.{length}}
 use borrow.Author.Tests.{eq-eqb, ne-eqb, eqb-true, le-ltb}
 use Rattle.wire.specs.{Rows.{Row, _⇒_, firstOf, firstFrom, AnswersAt, Quiet}, Uvc.{invalidUnit}}
 use Rattle.wire.proofs.Laws.Rows.{Coded, quiet-own, own-coded, answers-at, answers-none}
 use Rattle.request.specs.Setup.{setupType, setupValueLow, setupUnit, setupInterface, isSetRequest, isGetRequest}
 use Rattle.request.specs.{Table.{Table}, Answers.{answerBy}}
 use Rattle.request.specs.Tests.{isAddressed, requestTests, valueTests, fullAnswer, sentCount, requestRows, requestCode, testNumber}
-use Rattle.request.specs.{Requests.{requestCount, replied}, Theorems.{AllOrdered, RequestRefusals, GetSends, Gets, GetAccepted}}
-use Rattle.request.specs.Theorems.{ElsewhereRefused, LenAnswers, InfoAnswers}
-use Rattle.request.proofs.Laws.Tests.{at-tests, at-get}
+use Rattle.request.specs.{Requests.{requestCount, replied, doneBy}, Theorems.{AllOrdered, RequestRefusals, GetSends, Gets, GetAccepted}}
+use Rattle.request.specs.Theorems.{ElsewhereRefused, LenAnswers, InfoAnswers, AllUnits}
+use Rattle.request.proofs.Laws.{Tests.{at-tests, at-get, set-replied}, Requests.{result-code, done-code, requested-count}}
 
 module _ (t : Table) (setup payload : List ℕ) (room : ℕ) where
   abbrev rows : List Row
@@ -116,3 +116,23 @@ len-answers t selector = refl
 pub info-answers : InfoAnswers
 unfolding fullAnswer answerBy
 info-answers t selector = refl
+
+pub all-units : AllUnits
+unfolding requestCount
+all-units R O out code count reads t before set setup payload reply =
+    let number = requestCode t setup payload (length reply) in
+    let code-is =
+    result-code out code (λ n k r. reads n k r .0) number before (doneBy out t before set setup)
+    (done-code out code (λ n k r. reads n k r .0) t before set setup) in
+    let count-is = requested-count out count (λ n k r. reads n k r .1) t before set setup payload (length reply) in
+    record {
+      ordered = ordered t setup payload (length reply);
+      answered = code-is;
+      refused = λ n. let r = refusals t setup payload reply (λ z. n (code-is ∙ z)) in (count-is ∙ r .count, r .buffer);
+      set = λ e. (count-is ∙ rw e (no-count (eqb number 0)), sym (set-replied t setup payload reply e));
+      sent = λ e z. let r = get-sends t setup payload reply e (sym code-is ∙ z) in (count-is ∙ r .count, r .buffer);
+    }
+  where
+    no-count : (b : Bool) → cond (b && false) (sentCount t setup) 0 ≡ 0
+    no-count true = refl
+    no-count false = refl

@@ -5,7 +5,7 @@ use lib.ListN.{length, take, drop}
 use Rattle.wire.specs.{Numbers.{bytesOf}, Rows.{Row, _⇒_, AnswersAt}, Uvc.{getInfo, getLen}}
 use Rattle.request.specs.{Setup.{setupValueLow, setupSelector, setupCode, isSetRequest, isGetRequest}, Table.{Table}}
 use Rattle.request.specs.Tests.{isAddressed, fullAnswer, asked, sentCount, requestRows, requestCode, testNumber}
-use Rattle.request.specs.Requests.{requestCount, replied}
+use Rattle.request.specs.Requests.{requestCount, replied, requestedBy}
 
 -- the number that a row answers with
 abbrev pub rowNumber : Row → ℕ
@@ -71,3 +71,20 @@ LenAnswers = (t : Table) (selector : ℕ) → fullAnswer t selector getLen ≡ b
 
 abbrev pub InfoAnswers : Type 0
 InfoAnswers = (t : Table) (selector : ℕ) → fullAnswer t selector getInfo ≡ t .info selector ∷ []
+
+-- All of this of one request, where a unit hands back this number and this count and leaves these bytes in the reply buffer.
+pub record AsAnyUnit (t : Table) (setup payload reply : List ℕ) (code count : ℕ) (left : List ℕ) : Type 0 where
+  pub ordered : Ordered t setup payload (length reply)
+  pub answered : code ≡ requestCode t setup payload (length reply)
+  pub refused : (code ≡ 0 → ⊥) → (count ≡ 0) × (left ≡ reply)
+  pub set : isSetRequest setup ≡ true → (count ≡ 0) × (left ≡ reply)
+  pub sent : isSetRequest setup ≡ false → code ≡ 0
+      → (count ≡ sentCount t setup) × (left ≡ take (sentCount t setup) (asked t setup) ++ drop (sentCount t setup) reply)
+
+-- Every unit's requests are so, whatever its record R is and what it hands back, O.
+abbrev pub AllUnits : Type 1
+AllUnits =
+    (R O : Type 0) (out : ℕ → ℕ → R → O) (code count : O → ℕ) → ((n k : ℕ) (r : R) → (code (out n k r) ≡ n) × (count (out n k r) ≡ k))
+    → (t : Table) (before set : R) (setup payload reply : List ℕ)
+    → let o = requestedBy out t before set setup payload (length reply) in
+    AsAnyUnit t setup payload reply (code o) (count o) (replied t setup payload reply)

@@ -1,4 +1,4 @@
--- A setup that is another unit's. Assumes nothing.
+-- What both units share, and a setup that is another unit's. Assumes nothing.
 use mathlib.Core.{Path.{_≡_, refl, ap, sym, _∙_}, List.{List}, Bool.{true}}
 use Prim.Native.Nat.{ℕ}
 use native.Mathlib.Omega.{arith}
@@ -11,7 +11,18 @@ use Rattle.camera.specs.{declared.record.Camera.{Camera}, Record.{puts}}
 use Rattle.camera.specs.Requests as cameras
 use Rattle.peripheral.specs.{declared.record.Peripheral.{Peripheral}, Controls.{afterSet}}
 use Rattle.peripheral.specs.Requests as peripherals
-use Rattle.units.specs.Board.{AllOthersRefuse}
+use Rattle.units.specs.Board.{AllBothUnits, AllOthersRefuse}
+
+pub both-units : AllBothUnits
+unfolding cameras.requested cameras.requestDone peripherals.requested
+both-units setup payload reply = record {
+  of-camera = λ c.
+      requests.all-units _ _ cameras.outcomeOf (λ o. o .code) (λ o. o .count) (λ n k r. (refl, refl)) (cameras.table c) c
+      (puts c (setGives (c .profile) (setupSelector setup) payload)) setup payload reply;
+  of-peripheral = λ p.
+      requests.all-units _ _ peripherals.outcomeOf (λ o. o .code) (λ o. o .count) (λ n k r. (refl, refl)) (peripherals.table p) p
+      (afterSet p (setupSelector setup) payload) setup payload reply;
+}
 
 -- 0x05, whatever the unit
 module _ {R O : Type 0} (out : ℕ → ℕ → R → O) (t : Table) (before set : R) (setup payload reply : List ℕ)

@@ -1,12 +1,25 @@
--- Two units on one board: a setup of eight bytes whose wIndex is one unit's is 0x05 to the other, which has another unit id or interface.
+-- Two units on one board: what is shown of any unit's requests is shown of both, and a setup of eight bytes whose wIndex is one unit's is
+-- 0x05 to the other, which has another unit id or interface.
 use Prim.Native.Nat.{ℕ}
 use mathlib.Core.{Path.{_≡_}, List.{List}, Bool.{true}}
 use lib.ListN.{length}
-use Rattle.request.specs.Tests.{isAddressed}
+use Rattle.request.specs.{Tests.{isAddressed}, Theorems.{AsAnyUnit}}
 use Rattle.camera.specs.{declared.record.Camera.{Camera}, Record.{recordWellFormed}}
+use Rattle.camera.specs.Requests as camera
 use Rattle.camera.specs.Calls as cameras
 use Rattle.peripheral.specs.{declared.record.Peripheral.{Peripheral}, Record.{wellFormed}}
+use Rattle.peripheral.specs.Requests as peripheral
 use Rattle.peripheral.specs.Calls as peripherals
+
+-- the nine tests and their order, what a refusal leaves and what a GET sends, as `request` has them of any table of controls
+pub record BothUnits (setup payload reply : List ℕ) : Type 0 where
+  pub of-camera : (c : Camera) → let o = cameras.outcome c (cameras.request setup payload reply) in
+      AsAnyUnit (camera.table c) setup payload reply (o .code) (o .count) (cameras.left c (cameras.request setup payload reply))
+  pub of-peripheral : (p : Peripheral) → let o = peripherals.outcome p (peripherals.request setup payload reply) in
+      AsAnyUnit (peripheral.table p) setup payload reply (o .code) (o .count) (peripherals.left p (peripherals.request setup payload reply))
+
+abbrev pub AllBothUnits : Type 0
+AllBothUnits = (setup payload reply : List ℕ) → BothUnits setup payload reply
 
 abbrev pub Apart : Camera → Peripheral → Type 0
 Apart c p = (c .profile .unit ≡ p .unit) × (c .profile .interface ≡ p .interface) → ⊥
