@@ -4,13 +4,13 @@ use mathlib.Core.Bool.{Bool, true, false, cond, not, _&&_, and-eq-true-iff}
 use Prim.Native.Nat.{ℕ, _+_, _*_, _≤_, _<_, min}
 use native.Mathlib.Omega.{arith}
 use lib.{Dec.{eqb}, ListN.{length, getD}}
-use borrow.Author.Tests.{eq-eqb, ne-eqb, eqb-true, le-ltb, leb-true}
+use borrow.Author.Tests.{eq-eqb, ne-eqb, leb-true}
 use Rattle.snapshot.specs.Keys.{metadataKey, hdrKey, throttleKey}
 use Rattle.wire.specs.{Endpoints.{firstAddress, places}, Numbers.{bytesOf}, Rows.{firstOf}}
 use Rattle.wire.specs.Uvc.{setCur, getCur, getLen, getDef, wrongState}
 use Rattle.wire.specs.Selectors as selector
 use Rattle.wire.proofs.Laws.Numbers.{Bytes}
-use Rattle.request.specs.Setup.{setupType, setupCode, setupValueLow, setupSelector, setupWLength, isSetRequest, isGetRequest}
+use Rattle.request.specs.Setup.{setupCode, setupSelector, setupWLength, isSetRequest, isGetRequest}
 use Rattle.request.specs.{Answers.{answerBy}, Tests.{fullAnswer, asked, requestTests, sentCount}}
 use Rattle.request.proofs.Theorems.{get-no-set, len-answers}
 use Rattle.request.proofs.Theorems as requests

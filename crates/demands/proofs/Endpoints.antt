@@ -31,7 +31,8 @@ use Rattle.settings.specs.{Held.{settingsHeld}, Kept.{valueRefusal, kept, setti
 use Rattle.answering.specs.Answering.{valueOf, controlAnswer}
 use Rattle.answering.proofs.Laws.Answering.{answer-fits}
 use Rattle.camera.specs.{declared.record.Camera.{Camera}, Record.{recordWellFormed, recordWellFormedUnder}}
-use Rattle.camera.specs.{Requests.{table, rules, cameraAnswer, refused, requestDone, requested}, Writing.{snapshot}, Calls.{request, outcome}}
+use Rattle.camera.specs.{Requests.{table, rules, cameraAnswer, refused, requestDone, requested}, Writing.{snapshot}}
+use Rattle.camera.specs.Calls.{request, outcome}
 use Rattle.camera.specs.Loading.{selectorAt, recordItem, loadCode, loadCodeUnder, loaded, loadedUnder}
 use Rattle.camera.proofs.Laws.Record.{formed-profile}
 use Rattle.encoding.specs.Encoding.{recordOf}
@@ -72,7 +73,8 @@ module _ (c : Camera) (w : recordWellFormed c ≡ true) where
   payload-short setup payload reply i f e =
       let a = set-answer c setup payload (length reply) w i ∙ eq-eqb _ 0 e in
       let h : has (c .profile) selector.face ≡ true = rw f at (accepted-control (rules (c .profile) (c .streaming)) setup payload a .0) in
-      let l : length payload ≡ setLength (c .profile) selector.face payload = rw f at (accepted-length (rules (c .profile) (c .streaming)) setup payload a) in
+      let l : length payload ≡ setLength (c .profile) selector.face payload =
+      rw f at (accepted-length (rules (c .profile) (c .streaming)) setup payload a) in
       omega (arith, few h, len-longest (c .profile .face) (valid-face (c .profile) (formed-profile c w) h) payload)
 
 pub camera-lengths : AllCameraLengths

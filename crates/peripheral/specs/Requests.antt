@@ -4,8 +4,8 @@ use mathlib.Core.List.{List}
 use Rattle.wire.specs.Numbers.{bytesOf}
 use Rattle.request.specs.{Setup.{setupSelector}, Table.{Table, hasControl}, Requests.{replied, requestedBy}}
 use Rattle.peripheral.specs.{declared.{record.Peripheral.{Peripheral}, calls.Outcome.{Outcome}}, Selectors.{presence}}
-use Rattle.peripheral.specs.{Record.{wellFormed}, Controls.{payloadLength, infoOf, isSettable, stateRefusal, valueRefusal}}
-use Rattle.peripheral.specs.Controls.{afterSet, attribute}
+use Rattle.peripheral.specs.{Record.{wellFormed}, Values.{payloadLength, infoOf, isSettable, stateRefusal, valueRefusal}}
+use Rattle.peripheral.specs.Values.{afterSet, attribute}
 
 -- the table of the unit's controls
 abbrev pub table : Peripheral → Table

@@ -3,10 +3,10 @@
 // the selectors, the lengths and the information bytes, document 02 the rules. `request` has 01's nine tests, over this unit's table of
 // controls; here are its record, its values and its calls, each a method that hands the next record back.
 mod calls;
-mod controls;
 mod record;
 mod requests;
 pub mod selectors;
+mod values;
 
 pub use calls::Outcome;
 pub use record::Peripheral;

@@ -43,7 +43,10 @@ impl Peripheral {
     pub(crate) fn well_formed(self) -> bool
         ensures { λ r. ⌜ r ≡ wellFormed self ⌝ }
     {
-        mode_valid(self.mask, self.mode) & (self.toggle <= 1) & (self.count <= MOST) & (self.reset <= 1)
+        mode_valid(self.mask, self.mode)
+            & (self.toggle <= 1)
+            & (self.count <= MOST)
+            & (self.reset <= 1)
     }
 
     pub(crate) fn with_mode(self, mode: u64) -> Peripheral

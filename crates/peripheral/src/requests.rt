@@ -1,11 +1,11 @@
 // Requests to the unit: document 01's nine tests, then a SET or a GET.
 use crate::calls::Outcome;
-use crate::controls::answer_length;
-use crate::controls::control;
-use crate::controls::state_refusal;
-use crate::controls::value_refusal;
 use crate::record::Peripheral;
 use crate::selectors;
+use crate::values::answer_length;
+use crate::values::control;
+use crate::values::state_refusal;
+use crate::values::value_refusal;
 use request::Unit;
 use wire::uvc;
 ghost use mathlib.Core.Path.{_≡_};

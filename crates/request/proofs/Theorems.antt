@@ -1,5 +1,6 @@
 -- What holds of every unit's requests. Assumes nothing.
-use mathlib.Core.{Path.{_≡_, refl, subst, sym, _∙_}, List.{List, [], _∷_}, Option.{none}, Bool.{Bool, true, false, cond, _&&_, and-eq-true-iff}}
+use mathlib.Core.{Path.{_≡_, refl, subst, sym, _∙_}, List.{List, [], _∷_}, Option.{none}}
+use mathlib.Core.Bool.{Bool, true, false, cond, _&&_, and-eq-true-iff}
 use Prim.Native.Nat.{ℕ, suc}
 use native.Mathlib.Omega.{arith}
 use lib.{Dec.{eqb}, ListN.{length}}
@@ -9,8 +10,9 @@ use Rattle.wire.proofs.Laws.Rows.{Coded, quiet-own, own-coded, answers-at, answ
 use Rattle.request.specs.Setup.{setupType, setupValueLow, setupUnit, setupInterface, isSetRequest, isGetRequest}
 use Rattle.request.specs.{Table.{Table}, Answers.{answerBy}}
 use Rattle.request.specs.Tests.{isAddressed, requestTests, valueTests, fullAnswer, sentCount, requestRows, requestCode, testNumber}
-use Rattle.request.specs.{Requests.{requestCount, replied, doneBy}, Theorems.{AllOrdered, RequestRefusals, GetSends, Gets, GetAccepted}}
-use Rattle.request.specs.Theorems.{ElsewhereRefused, LenAnswers, InfoAnswers, AllUnits}
+use Rattle.request.specs.Requests.{requestCount, replied, doneBy}
+use Rattle.request.specs.Theorems.{AllOrdered, RequestRefusals, GetSends, Gets, GetAccepted, ElsewhereRefused, LenAnswers}
+use Rattle.request.specs.Theorems.{InfoAnswers, AllUnits}
 use Rattle.request.proofs.Laws.{Tests.{at-tests, at-get, set-replied}, Requests.{result-code, done-code, requested-count}}
 
 module _ (t : Table) (setup payload : List ℕ) (room : ℕ) where

@@ -1,9 +1,9 @@
 -- Answers of the peripheral unit: what is set reads back, what the reading reads, and what no setting touches. Assumes nothing.
 use mathlib.Core.{Path.{_≡_, refl, ap, ap₂, sym, _∙_, subst}, List.{List, []}, Bool.{Bool, true, false, cond, not, _&&_, _||_, false≢true}}
-use Prim.Native.Nat.{ℕ, zero, suc, _+_, _-_, _*_, _≤_, _<_, min}
+use Prim.Native.Nat.{ℕ, zero, suc, _-_, _≤_}
 use native.Mathlib.Omega.{arith}
 use lib.{Dec.{eqb, leb, lit<}, ListN.{length, getD, take, drop}, Seq.{take-all}}
-use borrow.Author.Tests.{eq-eqb, ne-eqb, eqb-true, eqb-false, le-leb, not-true}
+use borrow.Author.Tests.{eq-eqb, ne-eqb, eqb-true, le-leb, not-true}
 use Rattle.wire.specs.{Numbers.{number, leAt, bytesOf}, Uvc.{getCur, wrongState}}
 use Rattle.wire.proofs.Laws.{Numbers.{Bytes, front}, Bytes.{bytes-at}}
 use Rattle.flags.specs.Flags.{isSet}
@@ -13,13 +13,15 @@ use Rattle.request.specs.Requests.{requestCount}
 use Rattle.request.specs.Tests.{requestTests, fullAnswer, asked, sentCount, requestCode, setAccepted}
 use Rattle.request.proofs.Laws.Tests.{at-unformed, at-state}
 use Rattle.request.proofs.Laws.{Requests.{requested-count, same-code, same-count, same-replied}}
-use Rattle.request.proofs.Laws.Sets.{set-answer, accepted-control, accepted-length, accepted-values}
+use Rattle.request.proofs.Laws.Sets.{set-answer, accepted-control, accepted-length}
 use Rattle.request.proofs.Theorems as requests
 use Rattle.peripheral.specs.Selectors as selector
 use Rattle.peripheral.specs.{declared.record.Peripheral.{Peripheral}, Record.{fresh, wellFormed, withMode, withToggle, withReset}}
-use Rattle.peripheral.specs.Controls.{payloadMode, payloadSwitch, payloadLength, infoOf, isSettable, stateRefusal, afterSet, current, attribute}
+use Rattle.peripheral.specs.Values.{payloadMode, payloadSwitch, payloadLength, infoOf, isSettable, stateRefusal, afterSet, current}
+use Rattle.peripheral.specs.Values.{attribute}
 use Rattle.peripheral.specs.{Requests.{table, outcomeOf, requested}, Calls.{refused, request, outcome, left, next, run}}
-use Rattle.units.specs.Answers.{FourControls, GetsCurrent, Sends, Answers, ReadsBack, SetThenGet, ReadingAfter, SameUnit, Alike, FixedAnswers}
+use Rattle.units.specs.Answers.{FourControls, GetsCurrent, Sends, Answers, ReadsBack, SetThenGet, ReadingAfter, SameUnit, Alike}
+use Rattle.units.specs.Answers.{FixedAnswers}
 use Rattle.units.specs.Lists.{lastCount}
 use Rattle.units.proofs.{Refusals.{code-is}, Lists.{fresh-formed}}
 use Rattle.units.proofs.Laws.Steps.{request-next, step, run-leaves}

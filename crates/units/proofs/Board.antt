@@ -9,7 +9,7 @@ use Rattle.request.proofs.Theorems as requests
 use Rattle.settings.specs.Items.{setGives}
 use Rattle.camera.specs.{declared.record.Camera.{Camera}, Record.{puts}}
 use Rattle.camera.specs.Requests as cameras
-use Rattle.peripheral.specs.{declared.record.Peripheral.{Peripheral}, Controls.{afterSet}}
+use Rattle.peripheral.specs.{declared.record.Peripheral.{Peripheral}, Values.{afterSet}}
 use Rattle.peripheral.specs.Requests as peripherals
 use Rattle.units.specs.Board.{AllBothUnits, AllOthersRefuse}
 
@@ -35,7 +35,8 @@ unfolding cameras.requested cameras.requestDone peripherals.requested
 all-others-refuse c p apart setup payload reply n = record {
   cameras-setup = λ a w.
       refused peripherals.outcomeOf (peripherals.table p) p (afterSet p (setupSelector setup) payload) setup payload reply
-      (requests.elsewhere-refused (peripherals.table p) (c .profile .unit) (c .profile .interface) setup payload (length reply) w n a apart);
+      (requests.elsewhere-refused (peripherals.table p) (c .profile .unit) (c .profile .interface) setup payload (length reply) w n a
+      apart);
   peripherals-setup = λ a w.
       refused cameras.outcomeOf (cameras.table c) c (puts c (setGives (c .profile) (setupSelector setup) payload)) setup payload reply
       (requests.elsewhere-refused (cameras.table c) (p .unit) (p .interface) setup payload (length reply) w n a

@@ -1,10 +1,8 @@
 -- Lists of calls from a fresh unit: none is refused 0x21, and every record that isn't is left by one of them. Assumes nothing.
 use mathlib.Core.{Path.{_≡_, refl, ap, sym, _∙_, subst}, List.{List, [], _∷_}, Bool.{Bool, true, false, cond, _&&_}}
-use Prim.Native.Nat.{ℕ, zero, suc, _/_, _%_, _^_, _<_}
+use Prim.Native.Nat.{ℕ, zero, suc, _/_, _^_, _<_}
 use native.Mathlib.{Nat.{mod-lt}, Omega.{arith}}
 use lib.{Dec.{eqb, leb, lit<}, ListN.{length, getD}}
-use mir.Syntax.{w8}
-use mir.Val.{Fits}
 use borrow.Author.Tests.{eq-eqb, eqb-true, leb-true, not-true}
 use Rattle.wire.specs.{Numbers.{number, leAt, bytesOf}, Uvc.{setCur}}
 use Rattle.wire.proofs.Laws.{Numbers.{Bytes}, Bytes.{length-bytes, number-bytes}}
@@ -14,8 +12,8 @@ use Rattle.request.proofs.Laws.Sets.{Sets, sets-code}
 use Rattle.peripheral.specs.Selectors as selector
 use Rattle.peripheral.specs.{declared.record.Peripheral.{Peripheral}, Record.{fresh, isSwitch, most, wellFormed}}
 use Rattle.peripheral.specs.Record.{withMode, withToggle, withCount, withReset}
-use Rattle.peripheral.specs.{Controls.{payloadLength, isSettable, valueRefusal, afterSet}, Requests.{table, outcomeOf, requested}}
-use Rattle.peripheral.specs.Calls.{Call, request, count, restart, next, run}
+use Rattle.peripheral.specs.{Values.{payloadLength, isSettable, valueRefusal, afterSet}, Requests.{table, outcomeOf, requested}}
+use Rattle.peripheral.specs.Calls.{Call, request, count, next, run}
 use Rattle.units.specs.Lists.{NeverMalformed, Typed, Reached, AllReached}
 use Rattle.units.proofs.Refusals.{refusals}
 use Rattle.units.proofs.Laws.Formed.{Formed, formed-fields, fields-formed}

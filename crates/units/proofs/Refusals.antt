@@ -8,8 +8,9 @@ use Rattle.request.specs.{Setup.{setupSelector, setupCode}, Tests.{requestCode}
 use Rattle.request.proofs.Laws.{Tests.{at-unformed, never-malformed}, Requests.{result-code, result-refused, done-code}}
 use Rattle.request.proofs.Theorems as requests
 use Rattle.peripheral.specs.Selectors as selector
-use Rattle.peripheral.specs.{declared.{record.Peripheral.{Peripheral}, calls.Outcome.{Outcome}}, Record.{modeValid, isSwitch, most, wellFormed}}
-use Rattle.peripheral.specs.Controls.{payloadMode, payloadSwitch, stateRefusal, valueRefusal, afterSet}
+use Rattle.peripheral.specs.declared.{record.Peripheral.{Peripheral}, calls.Outcome.{Outcome}}
+use Rattle.peripheral.specs.Record.{modeValid, isSwitch, most, wellFormed}
+use Rattle.peripheral.specs.Values.{payloadMode, payloadSwitch, stateRefusal, valueRefusal, afterSet}
 use Rattle.peripheral.specs.{Requests.{table, outcomeOf, requested}, Calls.{countCode, counted, restartCode, restarted}}
 use Rattle.peripheral.specs.Calls.{Call, request, count, restart, outcome}
 use Rattle.units.specs.Refusals.{Unchanged, AllRefusals}

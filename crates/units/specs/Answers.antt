@@ -7,7 +7,7 @@ use Rattle.wire.proofs.Laws.Numbers.{Bytes}
 use Rattle.request.specs.{Setup.{setupSelector, setupCode, setupWLength, isSetRequest}, Table.{hasControl}}
 use Rattle.request.specs.Theorems as unit
 use Rattle.peripheral.specs.Selectors as selector
-use Rattle.peripheral.specs.{declared.record.Peripheral.{Peripheral}, Record.{fresh, wellFormed}, Controls.{payloadSwitch}}
+use Rattle.peripheral.specs.{declared.record.Peripheral.{Peripheral}, Record.{fresh, wellFormed}, Values.{payloadSwitch}}
 use Rattle.peripheral.specs.{Requests.{outcomeOf}, Calls.{Call, request, outcome, left, next, refused, run}}
 use Rattle.units.specs.Lists.{lastCount}
 

@@ -1,14 +1,13 @@
 -- What one call leaves of a well-formed record: the settings that it gives are put in, and the flag is set. Assumes nothing.
 use mathlib.Core.{Path.{_≡_, refl, ap, sym, _∙_, subst}, List.{List, [], _∷_, _++_}, Option.{Option, none, some, Option·elim}}
-use mathlib.Core.Bool.{Bool, true, false, cond, not, _&&_, true≢false, and-eq-true-iff}
+use mathlib.Core.Bool.{Bool, true, false, cond, true≢false}
 use Prim.Native.Nat.{ℕ}
 use lib.{Dec.{eqb, ltb, leb}, ListN.{length, drop}}
-use borrow.Author.Tests.{ne-eqb, eqb-true, not-false}
+use borrow.Author.Tests.{ne-eqb, eqb-true}
 use Rattle.wire.specs.{Endpoints.{places}, Rows.{Row, _⇒_, firstOf, Quiet}, Uvc.{malformedRecord, noRoom}}
 use Rattle.wire.specs.Selectors as selectors
-use Rattle.wire.proofs.Laws.Rows.{quiet, quiet-own, own-coded, own-quiet, first-quiet}
 use Rattle.request.specs.{Setup.{isSetRequest, setupSelector, setupValueLow, setupWLength}, Table.{Table}}
-use Rattle.request.specs.Tests.{requestTests, sentCount, valueTests, setAccepted}
+use Rattle.request.specs.Tests.{requestTests, valueTests, setAccepted}
 use Rattle.request.proofs.Laws.{Requests.{result-code}, Sets.{accepted-control, next-record}}
 use Rattle.request.proofs.Laws.Sets as sets
 use Rattle.snapshot.specs.{Keys.{keys, metadataKey, hdrKey}, Records.{decode}, Given.{over, lastOf}}

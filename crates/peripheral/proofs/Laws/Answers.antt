@@ -6,7 +6,7 @@ use lib.Dec.{eqb}
 use Rattle.wire.specs.{Numbers.{bytesOf}, Uvc.{getInfo, getLen}}
 use Rattle.request.specs.{Answers.{answerBy}, Tests.{fullAnswer}}
 use Rattle.peripheral.specs.Selectors as selector
-use Rattle.peripheral.specs.{declared.record.Peripheral.{Peripheral}, Controls.{payloadLength, infoOf, attribute}, Requests.{table}}
+use Rattle.peripheral.specs.{declared.record.Peripheral.{Peripheral}, Values.{payloadLength, infoOf, attribute}, Requests.{table}}
 use Rattle.peripheral.specs.Steps.{answerNumber, answerLength}
 
 -- INFO is of one byte

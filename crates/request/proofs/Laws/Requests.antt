@@ -6,7 +6,8 @@ use lib.{Dec.{eqb, ltb}, ListN.{length}}
 use borrow.Author.Tests.{ne-eqb, eqb-true}
 use Rattle.wire.specs.{Rows.{Row, _⇒_, answers, firstOf}, Uvc.{malformedRecord, noRoom}}
 use Rattle.request.specs.{declared.reply.Sent.{Sent}, Setup.{setupSelector, setupCode, setupWLength, isSetRequest}, Table.{Table}}
-use Rattle.request.specs.{Tests.{requestTests, valueTests, admission, asked, sentCount, requestRows, requestCode}, Reply.{sentLength, sentOf, replyOf}}
+use Rattle.request.specs.Tests.{requestTests, valueTests, admission, asked, sentCount, requestRows, requestCode}
+use Rattle.request.specs.Reply.{sentLength, sentOf, replyOf}
 use Rattle.request.specs.Requests.{requestCount, replied, resultBy, doneBy, requestedBy}
 use Rattle.request.proofs.Laws.Tests.{at-unformed, at-tests, at-state, at-set, at-get, at-admission, admitted, set-replied, get-sent}
 
@@ -66,7 +67,8 @@ module _ {R O : Type 0} (out : ℕ → ℕ → R → O) (t : Table) (before set 
   malformed w = refusal-answers malformedRecord (at-unformed t setup payload (length reply) w) (λ e. omega arith)
 
   module _ (w : t .formed ≡ true) where
-    pub tests-fail : (firstOf (requestTests t setup payload) ≡ 0 → ⊥) → Answers (out (firstOf (requestTests t setup payload)) 0 before) reply
+    pub tests-fail : (firstOf (requestTests t setup payload) ≡ 0 → ⊥)
+        → Answers (out (firstOf (requestTests t setup payload)) 0 before) reply
     tests-fail n = refusal-answers _ (at-tests t setup payload (length reply) w n) n
 
     module _ (z : firstOf (requestTests t setup payload) ≡ 0) where
@@ -103,10 +105,12 @@ module _ {R O : Type 0} (out : ℕ → ℕ → R → O) (t : Table) (before set 
   not-admitted n = refusal-answers _ (at-admission t setup payload (length reply) n) n
 
   module _ (z : admission t setup payload ≡ 0) where
-    abbrev passed : (t .formed ≡ true) × (firstOf (requestTests t setup payload) ≡ 0) × (t .state (setupSelector setup) (setupCode setup) ≡ 0)
+    abbrev passed : (t .formed ≡ true) × (firstOf (requestTests t setup payload) ≡ 0)
+        × (t .state (setupSelector setup) (setupCode setup) ≡ 0)
     passed = admitted t setup payload z
 
-    pub admitted-set : isSetRequest setup ≡ true → Answers (resultBy out (t .values (setupSelector setup) payload) before (out 0 0 set)) reply
+    pub admitted-set : isSetRequest setup ≡ true
+        → Answers (resultBy out (t .values (setupSelector setup) payload) before (out 0 0 set)) reply
     admitted-set = a-set (passed .0) (passed .1) (passed .2)
 
     pub admitted-get : isSetRequest setup ≡ false → let sent = sentOf (asked t setup) (setupWLength setup) (length reply) in

@@ -53,7 +53,8 @@ module _ (t : Table) (setup payload : List ℕ) where
     pub accepted-length : length payload ≡ t .setLength selector payload
     unfolding requestTests
     accepted-length =
-        let z = rw (accepted-zero .0) at (not-false (isSized (t .setLength selector payload) setup payload) (accepted-quiet .0 .1 .1 .1 .1 .0)) in
+        let q = not-false (isSized (t .setLength selector payload) setup payload) (accepted-quiet .0 .1 .1 .1 .1 .0) in
+        let z = rw (accepted-zero .0) at q in
         eqb-true (length payload) _ (and-eq-true-iff (eqb (length payload) (setupWLength setup)) _ .0 z .1)
 
     -- and no value test refuses it

@@ -5,9 +5,10 @@ use native.Mathlib.Omega.{arith}
 use lib.{Dec.{eqb, ltb, leb}, ListN.{length}}
 use borrow.Author.Tests.{eq-eqb, ne-eqb, eqb-true, eqb-false, le-ltb, lt-ltb, leb-true, leb-false}
 use Rattle.wire.specs.{Rows.{Row, _⇒_, answers, firstOf}, Uvc.{malformedRecord, noRoom}}
-use Rattle.wire.proofs.Laws.Rows.{first-append, answers-number, avoided}
+use Rattle.wire.proofs.Laws.Rows.{first-append, answers-number, Avoids, avoided}
 use Rattle.request.specs.{Setup.{setupSelector, setupCode, setupWLength, isSetRequest}, Table.{Table}}
-use Rattle.request.specs.{Tests.{requestTests, valueTests, admission, asked, sentCount, requestRows, requestCode}, Reply.{sentOf, replyOf}}
+use Rattle.request.specs.Tests.{requestTests, valueTests, admission, asked, sentCount, requestRows, requestCode}
+use Rattle.request.specs.Reply.{sentOf, replyOf}
 use Rattle.request.specs.Requests.{replied}
 
 -- a row that comes to its own number
@@ -123,10 +124,8 @@ module _ (t : Table) (setup payload : List ℕ) where
     unfolding requestCode requestRows requestTests valueTests
     never-malformed w y v e =
         avoided malformedRecord rest
-        (λ z. omega arith, (
-          λ z. omega arith,
-          (λ z. omega arith, (λ z. omega arith, (λ z. omega arith, (y, (set-value (isSetRequest setup), (λ z. omega arith, λ z. omega arith)))))),
-        )) (sym (ap (λ b. cond (not b) malformedRecord (firstOf rest)) w) ∙ e)
+        (λ z. omega arith, (λ z. omega arith, (λ z. omega arith, (λ z. omega arith, (λ z. omega arith, (y, values-and-room))))))
+        (sym (ap (λ b. cond (not b) malformedRecord (firstOf rest)) w) ∙ e)
       where
         rest : List Row
         rest = requestTests t setup payload ++ valueTests t setup payload ++ (last ∷ [])
@@ -134,6 +133,10 @@ module _ (t : Table) (setup payload : List ℕ) where
         set-value : (b : Bool) → cond b (t .values (setupSelector setup) payload) 0 ≡ malformedRecord → ⊥
         set-value true z = v z
         set-value false z = omega arith
+
+        values-and-room : Avoids malformedRecord
+            (answers (cond (isSetRequest setup) (t .values (setupSelector setup) payload) 0) ∷ last ∷ [])
+        values-and-room = (set-value (isSetRequest setup), (λ z. omega arith, λ z. omega arith))
 
   -- what a SET leaves in the reply buffer, and what a GET that is past test 8 reports and leaves there
   pub set-replied : (reply : List ℕ) → isSetRequest setup ≡ true → reply ≡ replied t setup payload reply

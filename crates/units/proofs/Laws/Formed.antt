@@ -3,10 +3,9 @@ use mathlib.Core.{Path.{_≡_, refl}, List.{List}, Bool.{Bool, true, false, cond
 use Prim.Native.Nat.{ℕ}
 use native.Mathlib.Omega.{arith}
 use lib.Dec.{eqb, leb}
-use Rattle.wire.specs.Uvc.{invalidValue, outOfRange}
 use Rattle.peripheral.specs.Selectors as selector
 use Rattle.peripheral.specs.{declared.record.Peripheral.{Peripheral}, Record.{modeValid, isSwitch, most, wellFormed, withCount, withReset}}
-use Rattle.peripheral.specs.Controls.{payloadMode, payloadSwitch, valueRefusal, afterSet}
+use Rattle.peripheral.specs.Values.{payloadMode, payloadSwitch, valueRefusal}
 
 pub record Formed (p : Peripheral) : Type 0 where
   pub mode : modeValid (p .mask) (p .mode) ≡ true
@@ -32,7 +31,8 @@ pass true n e = refl
 pass false n e = absurd (omega arith)
 
 -- a mode, and a switch, that a SET takes
-pub taken-mode : (mask : ℕ) (payload : List ℕ) → valueRefusal mask selector.strategy payload ≡ 0 → modeValid mask (payloadMode payload) ≡ true
+pub taken-mode : (mask : ℕ) (payload : List ℕ) → valueRefusal mask selector.strategy payload ≡ 0
+    → modeValid mask (payloadMode payload) ≡ true
 unfolding valueRefusal
 taken-mode mask payload e = pass _ 7 e
 

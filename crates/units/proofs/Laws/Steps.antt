@@ -1,14 +1,14 @@
 -- What one call, and a list of calls, leaves of a well-formed record. Assumes nothing.
 use mathlib.Core.{Path.{_≡_, refl, ap, sym, _∙_, subst}, List.{List, [], _∷_}, Bool.{Bool, true, false, cond, not}}
 use Prim.Native.Nat.{ℕ}
-use native.Mathlib.Omega.{arith}
 use lib.{Dec.{eqb, leb, ltb}, ListN.{length}}
-use borrow.Author.Tests.{eqb-true, eqb-false, le-ltb, lt-ltb, le-leb, leb-true, leb-false}
+use borrow.Author.Tests.{eqb-true, le-ltb, lt-ltb, leb-true, leb-false}
 use Rattle.request.specs.{Setup.{setupSelector}, Tests.{setAccepted}}
 use Rattle.request.proofs.Laws.Sets.{next-record, accepted-values}
 use Rattle.peripheral.specs.Selectors as selector
-use Rattle.peripheral.specs.{declared.record.Peripheral.{Peripheral}, Record.{most, isSwitch, wellFormed, withMode, withToggle, withCount, withReset}}
-use Rattle.peripheral.specs.{Controls.{payloadMode, payloadSwitch, valueRefusal, afterSet}, Requests.{table, outcomeOf, requested}}
+use Rattle.peripheral.specs.declared.record.Peripheral.{Peripheral}
+use Rattle.peripheral.specs.Record.{most, wellFormed, withMode, withToggle, withCount, withReset}
+use Rattle.peripheral.specs.{Values.{payloadMode, payloadSwitch, valueRefusal, afterSet}, Requests.{table, outcomeOf, requested}}
 use Rattle.peripheral.specs.Calls.{countCode, counted, restartCode, restarted, Call, request, count, restart, next, run}
 use Rattle.units.specs.{Lists.{lastCount}, Answers.{SameUnit}}
 use Rattle.units.proofs.Laws.Formed.{Formed, formed-fields, fields-formed, taken-mode, taken-switch}
@@ -39,7 +39,8 @@ module _ (p : Peripheral) (w : wellFormed p ≡ true) where
           (cond a (withMode p (payloadMode payload))
           (cond b (withToggle p (payloadSwitch payload)) (cond c p (withReset p (payloadSwitch payload)))))
       go true b c q =
-          let v = taken-mode (p .mask) payload (ap (λ (n : ℕ). valueRefusal (p .mask) n payload) (sym (eqb-true s selector.strategy q)) ∙ e) in
+          let r = ap (λ (n : ℕ). valueRefusal (p .mask) n payload) (sym (eqb-true s selector.strategy q)) ∙ e in
+          let v = taken-mode (p .mask) payload r in
           kept (withMode p (payloadMode payload)) (record { mode = v; toggle = f .toggle; count = f .count; reset = f .reset })
           (record { unit = refl; interface = refl; mask = refl }) refl
       go false true c q =
@@ -58,7 +59,8 @@ module _ (p : Peripheral) (w : wellFormed p ≡ true) where
       ≡ cond (setAccepted (table p) setup payload) (afterSet p (setupSelector setup) payload) p
   unfolding requested
   request-next setup payload room =
-      next-record outcomeOf (λ o. o .peripheral) (λ code n d. refl) (table p) p (afterSet p (setupSelector setup) payload) setup payload room w
+      next-record outcomeOf (λ o. o .peripheral) (λ code n d. refl) (table p) p (afterSet p (setupSelector setup) payload) setup payload
+      room w
 
   -- a count of the detector's is taken, or not
   pub count-next : (n : ℕ) → counted p n .peripheral ≡ cond (leb n most) (withCount p n) p
@@ -76,7 +78,8 @@ module _ (p : Peripheral) (w : wellFormed p ≡ true) where
   restart-next = rw w
 
   pub step : (call : Call) → Leaves p (lastCount (p .count) (call ∷ [])) (next p call)
-  step (request setup payload reply) = subst (Leaves p (p .count)) (sym (request-next setup payload (length reply))) (go (setAccepted (table p) setup payload) refl)
+  step (request setup payload reply) =
+      subst (Leaves p (p .count)) (sym (request-next setup payload (length reply))) (go (setAccepted (table p) setup payload) refl)
     where
       go : (b : Bool) → setAccepted (table p) setup payload ≡ b
           → Leaves p (p .count) (cond b (afterSet p (setupSelector setup) payload) p)

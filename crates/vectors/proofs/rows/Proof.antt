@@ -6,13 +6,16 @@ use Rattle.vectors.proofs.rows.Statement.{statement}
 use Rattle.vectors.proofs.rows.Tie as tie
 
 abbrev Inv-loop : tie.InvT-loop
-Inv-loop s camera₀ at₀ camera at = at ≤ length s + 1
+Inv-loop s board₀ at₀ board at = at ≤ length s + 1
 
 abbrev μ-loop : tie.MeasureT-loop
-μ-loop s camera₀ at₀ camera at = length s + 1 - at
+μ-loop s board₀ at₀ board at = length s + 1 - at
 
 first-requires : tie.Need-first-requires Inv-loop μ-loop
 first-requires c κs = search needs
+
+blank-requires : tie.Need-blank-requires Inv-loop μ-loop
+blank-requires c κs = search needs
 
 loop-holds : tie.Need-loop-holds Inv-loop μ-loop
 loop-holds c = search needs
@@ -20,8 +23,8 @@ loop-holds c = search needs
 until-requires : tie.Need-until-requires Inv-loop μ-loop
 until-requires c κs = search needs
 
-sub-t6 : tie.Need-sub-t6 Inv-loop μ-loop
-sub-t6 c = search needs
+sub-len : tie.Need-sub-len Inv-loop μ-loop
+sub-len c = search needs
 
 part-at-requires : tie.Need-part-at-requires Inv-loop μ-loop
 part-at-requires c κs = search needs
@@ -48,9 +51,10 @@ rows-spec =
     Inv-loop
     μ-loop
     first-requires
+    blank-requires
     loop-holds
     until-requires
-    sub-t6
+    sub-len
     part-at-requires
     row-requires
     add-at

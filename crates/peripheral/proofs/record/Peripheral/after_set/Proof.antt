@@ -2,7 +2,7 @@
 use mathlib.Core.Path.{ap, sym, _∙_}
 use lib.ListN.{getD}
 use borrow.Author.{Tests.{eq-eqb, ne-eqb}, Needs.{needs}}
-use Rattle.peripheral.specs.{Record.{withMode, withToggle, withReset}, Controls.{afterSet}}
+use Rattle.peripheral.specs.{Record.{withMode, withToggle, withReset}, Values.{afterSet}}
 use Rattle.peripheral.proofs.record.Peripheral.after_set.Statement.{statement}
 use Rattle.peripheral.proofs.record.Peripheral.after_set.Tie as tie
 
@@ -15,7 +15,8 @@ with-mode-requires c κs = search needs
 returns : tie.Need-returns
 unfolding afterSet
 returns c =
-    rw (c .before .before .if1 .taken) (c .with-mode .ensures ∙ ap (withMode (c .before .before .before .before .args .self)) (c .before .le64 .ensures))
+    let s = c .before .before .before .before in
+    rw (c .before .before .if1 .taken) (c .with-mode .ensures ∙ ap (withMode (s .args .self)) (c .before .le64 .ensures))
 
 byte-requires : tie.Need-byte-requires
 byte-requires c κs = search needs

@@ -22,7 +22,9 @@ cast-result-3 : tie.Need-cast-result-3
 cast-result-3 c = search needs
 
 returns-4 : tie.Need-returns-4
-returns-4 c = simp (ne-eqb _ 0x01 (c .before .before .before .if1 .left), ne-eqb _ 0x03 (c .before .before .if2 .left), ne-eqb _ 0x04 (c .before .if3 .left))
+returns-4 c =
+    let t = c .before .before in
+    simp (ne-eqb _ 0x01 (t .before .if1 .left), ne-eqb _ 0x03 (t .if2 .left), ne-eqb _ 0x04 (c .before .if3 .left))
 
 pub current-spec : {M : Type 1} → statement M
 current-spec =

@@ -1,7 +1,6 @@
 -- `get` meets its contract. Assumes nothing.
 use mathlib.Core.{Path.{_≡_, ap, ap₂, _∙_}, List.{List}}
 use Prim.Native.Nat.{ℕ}
-use native.Mathlib.Omega.{arith}
 use lib.ListN.{length, take}
 use borrow.Author.Needs.{needs}
 use Rattle.wire.specs.Numbers.{bytesOf}

@@ -5,7 +5,7 @@ use borrow.Author.{Tests.{eq-eqb, ne-eqb, not-true, not-false}, Needs.{needs}}
 use Rattle.wire.specs.Rows.{firstOf}
 use Rattle.request.specs.{declared.tests.Unit.{Unit}, Setup.{setupSelector, setupCode}, Table.{tableOf}, Tests.{requestTests, admission}}
 use Rattle.request.proofs.Laws.Tests.{admission-unformed, admission-formed}
-use Rattle.peripheral.specs.{Selectors.{presence}, Controls.{stateRefusal}, Requests.{table}, Steps.{controlOf}}
+use Rattle.peripheral.specs.{Selectors.{presence}, Values.{stateRefusal}, Requests.{table}, Steps.{controlOf}}
 use Rattle.peripheral.proofs.record.Peripheral.refusal.Statement.{statement}
 use Rattle.peripheral.proofs.record.Peripheral.refusal.Tie as tie
 
@@ -22,14 +22,16 @@ tests c =
 
 -- and the first seven, by what they and test 7 come to
 by-tests : (c : tie.After-state-refusal) → let a = c .before .before .before .before .before .before .before .before .before .args in
-    admission (table (a .self)) (a .setup .now) (a .payload .now) ≡ cond (eqb (c .before .before .refusal .result) 0) (c .state-refusal .result) (c .before .before .refusal .result)
+    let first = c .before .before .refusal .result in
+    admission (table (a .self)) (a .setup .now) (a .payload .now) ≡ cond (eqb first 0) (c .state-refusal .result) first
 by-tests c =
     let r = c .before .before in
     let w = r .before .before .before in
     let a = w .before .before .before .before .args in
     let state : c .state-refusal .result ≡ stateRefusal (a .self .toggle) (setupSelector (a .setup .now)) (setupCode (a .setup .now)) =
     c .state-refusal .ensures ∙ ap₂ (stateRefusal (a .self .toggle)) (r .before .before .selector .ensures) (c .before .code .ensures) in
-    admission-formed (table (a .self)) (a .setup .now) (a .payload .now) (sym (w .before .well-formed .ensures) ∙ not-false _ (w .if1 .left))
+    admission-formed (table (a .self)) (a .setup .now) (a .payload .now)
+    (sym (w .before .well-formed .ensures) ∙ not-false _ (w .if1 .left))
     ∙ rw (← state, ← tests r)
 
 well-formed-requires : tie.Need-well-formed-requires

@@ -1,6 +1,5 @@
 -- `set` meets its contract. Assumes nothing.
-use mathlib.Core.Path.{ap, sym, _∙_}
-use Prim.Native.Nat.{ℕ}
+use mathlib.Core.Path.{ap, sym}
 use borrow.Author.{Tests.{eq-eqb, ne-eqb}, Needs.{needs}}
 use Rattle.peripheral.specs.{Requests.{outcomeOf}, Steps.{setDone}}
 use Rattle.peripheral.proofs.record.Peripheral.set.Statement.{statement}
@@ -25,7 +24,8 @@ returns-2 : tie.Need-returns-2
 unfolding setDone
 returns-2 c =
     let v = c .before .before in
-    rw (sym (v .value-refusal .ensures), eq-eqb (v .value-refusal .result) 0 (c .before .if1 .left)) (ap (outcomeOf 0 0) (c .after-set .ensures))
+    rw (sym (v .value-refusal .ensures), eq-eqb (v .value-refusal .result) 0 (c .before .if1 .left))
+    (ap (outcomeOf 0 0) (c .after-set .ensures))
 
 pub set-spec : {M : Type 1} → statement M
 set-spec =

@@ -4,9 +4,9 @@ use Prim.Native.Nat.{ℕ}
 use native.Mathlib.Omega.{arith}
 use lib.ListN.{getD}
 use borrow.Author.{Tests.{ne-eqb, le-leb, lt-leb}, Needs.{needs}}
-use Rattle.peripheral.specs.{Record.{modeValid}, Controls.{payloadMode, valueRefusal}}
-use Rattle.peripheral.proofs.controls.value_refusal.Statement.{statement}
-use Rattle.peripheral.proofs.controls.value_refusal.Tie as tie
+use Rattle.peripheral.specs.{Record.{modeValid}, Values.{payloadMode, valueRefusal}}
+use Rattle.peripheral.proofs.values.value_refusal.Statement.{statement}
+use Rattle.peripheral.proofs.values.value_refusal.Tie as tie
 
 -- the mode that the payload asks for
 tested : (c : tie.After-mode-valid) → let a = c .before .before .before .before .args in

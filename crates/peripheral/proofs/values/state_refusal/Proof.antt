@@ -1,6 +1,6 @@
 -- `state_refusal` meets its contract. Assumes nothing.
-use Rattle.peripheral.proofs.controls.state_refusal.Statement.{statement}
-use Rattle.peripheral.proofs.controls.state_refusal.Tie as tie
+use Rattle.peripheral.proofs.values.state_refusal.Statement.{statement}
+use Rattle.peripheral.proofs.values.state_refusal.Tie as tie
 
 returns : tie.Need-returns
 returns c = rw (c .if1 .taken)

@@ -1,4 +1,4 @@
-// The four controls: their lengths, information bytes and tests, what a SET leaves, and the answers to a GET.
+// The values of the four controls: their lengths, information bytes and tests, what a SET leaves, and the answers to a GET.
 // A selector that is none of theirs never comes here: test 4 refuses it.
 use crate::record::MOST;
 use crate::record::Peripheral;
@@ -7,8 +7,8 @@ use crate::selectors;
 use request::Control;
 use wire::uvc;
 ghost use mathlib.Core.Path.{_≡_};
-ghost use Rattle.peripheral.specs.Controls.{payloadLength, infoOf, isSettable, stateRefusal, valueRefusal, afterSet};
-ghost use Rattle.peripheral.specs.Controls.{current, maximum, resolution, attribute};
+ghost use Rattle.peripheral.specs.Values.{payloadLength, infoOf, isSettable, stateRefusal, valueRefusal, afterSet};
+ghost use Rattle.peripheral.specs.Values.{current, maximum, resolution, attribute};
 ghost use Rattle.peripheral.specs.Steps.{controlOf, answerNumber, answerLength};
 
 fn payload_length(selector: u8) -> u8

@@ -1,7 +1,7 @@
 -- `maximum` meets its contract. Assumes nothing.
 use borrow.Author.{Tests.{ne-eqb}, Needs.{needs}}
-use Rattle.peripheral.proofs.controls.maximum.Statement.{statement}
-use Rattle.peripheral.proofs.controls.maximum.Tie as tie
+use Rattle.peripheral.proofs.values.maximum.Statement.{statement}
+use Rattle.peripheral.proofs.values.maximum.Tie as tie
 
 returns : tie.Need-returns
 returns c = rw (c .if1 .taken)

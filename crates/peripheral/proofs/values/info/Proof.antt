@@ -1,7 +1,7 @@
 -- `info` meets its contract. Assumes nothing.
 use borrow.Author.Tests.{ne-eqb}
-use Rattle.peripheral.proofs.controls.info.Statement.{statement}
-use Rattle.peripheral.proofs.controls.info.Tie as tie
+use Rattle.peripheral.proofs.values.info.Statement.{statement}
+use Rattle.peripheral.proofs.values.info.Tie as tie
 
 returns : tie.Need-returns
 returns c = rw (c .if1 .taken)

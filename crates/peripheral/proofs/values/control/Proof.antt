@@ -1,7 +1,7 @@
 -- `control` meets its contract. Assumes nothing.
 use borrow.Author.Needs.{needs}
-use Rattle.peripheral.proofs.controls.control.Statement.{statement}
-use Rattle.peripheral.proofs.controls.control.Tie as tie
+use Rattle.peripheral.proofs.values.control.Statement.{statement}
+use Rattle.peripheral.proofs.values.control.Tie as tie
 
 payload-length-requires : tie.Need-payload-length-requires
 payload-length-requires c κs = search needs

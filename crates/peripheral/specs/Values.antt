@@ -1,10 +1,11 @@
--- Request #101: the four controls. What is said of a selector that is none of theirs is never asked, by test 4.
+-- Request #101: the values of the four controls. What is said of a selector that is none of theirs is never asked, by test 4.
 use Prim.Native.Nat.{ℕ}
 use mathlib.Core.{List.{List}, Bool.{Bool, cond, not, _&&_}}
 use lib.{Dec.{eqb}, ListN.{getD}}
 use Rattle.wire.specs.{Numbers.{leAt}, Uvc.{getCur, getMax, getRes, wrongState, outOfRange, invalidValue}}
 use Rattle.peripheral.specs.Selectors as selector
-use Rattle.peripheral.specs.{declared.record.Peripheral.{Peripheral}, Record.{modeValid, isSwitch, most, withMode, withToggle, withReset}}
+use Rattle.peripheral.specs.declared.record.Peripheral.{Peripheral}
+use Rattle.peripheral.specs.Record.{modeValid, isSwitch, most, withMode, withToggle, withReset}
 
 -- frame strategy has eight bytes, the reading two, the toggle and the reset one
 abbrev pub payloadLength : ℕ → ℕ

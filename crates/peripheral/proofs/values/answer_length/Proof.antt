@@ -1,8 +1,8 @@
 -- `answer_length` meets its contract. Assumes nothing.
 use borrow.Author.{Tests.{ne-eqb}, Needs.{needs}}
 use Rattle.wire.specs.Uvc.{getLen, getInfo}
-use Rattle.peripheral.proofs.controls.answer_length.Statement.{statement}
-use Rattle.peripheral.proofs.controls.answer_length.Tie as tie
+use Rattle.peripheral.proofs.values.answer_length.Statement.{statement}
+use Rattle.peripheral.proofs.values.answer_length.Tie as tie
 
 returns : tie.Need-returns
 returns c = rw (c .if1 .taken)

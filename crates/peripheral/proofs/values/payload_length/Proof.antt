@@ -1,7 +1,7 @@
 -- `payload_length` meets its contract. Assumes nothing.
 use borrow.Author.Tests.{ne-eqb}
-use Rattle.peripheral.proofs.controls.payload_length.Statement.{statement}
-use Rattle.peripheral.proofs.controls.payload_length.Tie as tie
+use Rattle.peripheral.proofs.values.payload_length.Statement.{statement}
+use Rattle.peripheral.proofs.values.payload_length.Tie as tie
 
 returns : tie.Need-returns
 returns c = rw (c .if1 .taken)

@@ -1,7 +1,7 @@
 -- `resolution` meets its contract. Assumes nothing.
 use borrow.Author.Tests.{ne-eqb}
-use Rattle.peripheral.proofs.controls.resolution.Statement.{statement}
-use Rattle.peripheral.proofs.controls.resolution.Tie as tie
+use Rattle.peripheral.proofs.values.resolution.Statement.{statement}
+use Rattle.peripheral.proofs.values.resolution.Tie as tie
 
 returns : tie.Need-returns
 returns c = rw (c .if1 .taken)
