@@ -25,19 +25,19 @@ most = 0xFF
 unfoldable pub wellFormed : Peripheral → Bool
 wellFormed p = modeValid (p .mask) (p .mode) && isSwitch (p .toggle) && leb (p .count) most && isSwitch (p .reset)
 
--- the record with one field changed
+-- the same unit with another mode, toggle, count and reset byte, and with one of them changed
+abbrev pub holding : Peripheral → (mode toggle count reset : ℕ) → Peripheral
+holding p mode toggle count reset =
+    record { unit = p .unit; interface = p .interface; mask = p .mask; mode = mode; toggle = toggle; count = count; reset = reset }
+
 abbrev pub withMode : Peripheral → ℕ → Peripheral
-withMode p n =
-    record { unit = p .unit; interface = p .interface; mask = p .mask; mode = n; toggle = p .toggle; count = p .count; reset = p .reset }
+withMode p mode = holding p mode (p .toggle) (p .count) (p .reset)
 
 abbrev pub withToggle : Peripheral → ℕ → Peripheral
-withToggle p n =
-    record { unit = p .unit; interface = p .interface; mask = p .mask; mode = p .mode; toggle = n; count = p .count; reset = p .reset }
+withToggle p toggle = holding p (p .mode) toggle (p .count) (p .reset)
 
 abbrev pub withCount : Peripheral → ℕ → Peripheral
-withCount p n =
-    record { unit = p .unit; interface = p .interface; mask = p .mask; mode = p .mode; toggle = p .toggle; count = n; reset = p .reset }
+withCount p count = holding p (p .mode) (p .toggle) count (p .reset)
 
 abbrev pub withReset : Peripheral → ℕ → Peripheral
-withReset p n =
-    record { unit = p .unit; interface = p .interface; mask = p .mask; mode = p .mode; toggle = p .toggle; count = p .count; reset = n }
+withReset p reset = holding p (p .mode) (p .toggle) (p .count) reset

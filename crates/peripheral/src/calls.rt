@@ -34,7 +34,7 @@ impl Peripheral {
         if MOST < occupants {
             return self.refuse(uvc::OUT_OF_RANGE);
         }
-        let peripheral = self.with_count(occupants);
+        let peripheral = self.holding(self.mode, self.toggle, occupants, self.reset);
         Outcome {
             code: 0,
             count: 0,
@@ -49,7 +49,7 @@ impl Peripheral {
         if !self.well_formed() {
             return self.refuse(uvc::MALFORMED_RECORD);
         }
-        let peripheral = self.with_reset(0);
+        let peripheral = self.holding(self.mode, self.toggle, self.count, 0);
         Outcome {
             code: 0,
             count: 0,

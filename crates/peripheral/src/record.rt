@@ -1,6 +1,6 @@
 // The unit's record: its id and interface, the modes of frame strategy that it supports, and what is set, counted and asked for.
 ghost use mathlib.Core.Path.{_≡_};
-ghost use Rattle.peripheral.specs.Record.{fresh, modeValid, wellFormed, withMode, withToggle, withCount, withReset};
+ghost use Rattle.peripheral.specs.Record.{fresh, modeValid, wellFormed, holding};
 
 // `mask` has a bit for each mode that is supported, and `mode` is one of them or 0; `count` is the detector's last.
 pub struct Peripheral {
@@ -49,58 +49,17 @@ impl Peripheral {
             & (self.reset <= 1)
     }
 
-    pub(crate) fn with_mode(self, mode: u64) -> Peripheral
-        ensures { λ r. ⌜ r ≡ withMode self mode ⌝ }
+    // The same unit, with these.
+    pub(crate) fn holding(self, mode: u64, toggle: u8, count: u32, reset: u8) -> Peripheral
+        ensures { λ r. ⌜ r ≡ holding self mode toggle count reset ⌝ }
     {
         Peripheral {
             unit: self.unit,
             interface: self.interface,
             mask: self.mask,
             mode,
-            toggle: self.toggle,
-            count: self.count,
-            reset: self.reset,
-        }
-    }
-
-    pub(crate) fn with_toggle(self, toggle: u8) -> Peripheral
-        ensures { λ r. ⌜ r ≡ withToggle self toggle ⌝ }
-    {
-        Peripheral {
-            unit: self.unit,
-            interface: self.interface,
-            mask: self.mask,
-            mode: self.mode,
             toggle,
-            count: self.count,
-            reset: self.reset,
-        }
-    }
-
-    pub(crate) fn with_count(self, count: u32) -> Peripheral
-        ensures { λ r. ⌜ r ≡ withCount self count ⌝ }
-    {
-        Peripheral {
-            unit: self.unit,
-            interface: self.interface,
-            mask: self.mask,
-            mode: self.mode,
-            toggle: self.toggle,
             count,
-            reset: self.reset,
-        }
-    }
-
-    pub(crate) fn with_reset(self, reset: u8) -> Peripheral
-        ensures { λ r. ⌜ r ≡ withReset self reset ⌝ }
-    {
-        Peripheral {
-            unit: self.unit,
-            interface: self.interface,
-            mask: self.mask,
-            mode: self.mode,
-            toggle: self.toggle,
-            count: self.count,
             reset,
         }
     }

@@ -92,15 +92,20 @@ fn resolution(mask: u64, selector: u8) -> u64
     1
 }
 
+// LEN answers two bytes, and INFO one.
+const LEN_SIZE: usize = 2;
+
+const INFO_SIZE: usize = 1;
+
 // How many bytes a GET's full answer has.
 pub(crate) fn answer_length(selector: u8, code: u8) -> usize
     ensures { λ r. ⌜ r ≡ answerLength selector code ⌝ }
 {
     if code == uvc::GET_LEN {
-        return 2;
+        return LEN_SIZE;
     }
     if code == uvc::GET_INFO {
-        return 1;
+        return INFO_SIZE;
     }
     payload_length(selector) as usize
 }
@@ -111,16 +116,16 @@ impl Peripheral {
         ensures { λ r. ⌜ r ≡ afterSet self selector (now (payload .entry)) ⌝ }
     {
         if selector == selectors::FRAME_STRATEGY {
-            return self.with_mode(wire::le64(payload, 0));
+            return self.holding(wire::le64(payload, 0), self.toggle, self.count, self.reset);
         }
         let asked = wire::byte(payload, 0);
         if selector == selectors::OCCUPANCY_TOGGLE {
-            return self.with_toggle(asked);
+            return self.holding(self.mode, asked, self.count, self.reset);
         }
         if asked == 0 {
             return self;
         }
-        self.with_reset(asked)
+        self.holding(self.mode, self.toggle, self.count, asked)
     }
 
     fn current(self, selector: u8) -> u64

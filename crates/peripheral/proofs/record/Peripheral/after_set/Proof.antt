@@ -9,26 +9,26 @@ use Rattle.peripheral.proofs.record.Peripheral.after_set.Tie as tie
 le64-requires : tie.Need-le64-requires
 le64-requires c κs = search needs
 
-with-mode-requires : tie.Need-with-mode-requires
-with-mode-requires c κs = search needs
+holding-requires : tie.Need-holding-requires
+holding-requires c κs = search needs
 
 returns : tie.Need-returns
 unfolding afterSet
 returns c =
     let s = c .before .before .before .before in
-    rw (c .before .before .if1 .taken) (c .with-mode .ensures ∙ ap (withMode (s .args .self)) (c .before .le64 .ensures))
+    rw (c .before .before .if1 .taken) (c .holding .ensures ∙ ap (withMode (s .args .self)) (c .before .le64 .ensures))
 
 byte-requires : tie.Need-byte-requires
 byte-requires c κs = search needs
 
-with-toggle-requires : tie.Need-with-toggle-requires
-with-toggle-requires c κs = search needs
+holding-requires-2 : tie.Need-holding-requires-2
+holding-requires-2 c κs = search needs
 
 returns-2 : tie.Need-returns-2
 unfolding afterSet
 returns-2 c =
     let b = c .before .before in
-    rw (c .before .if2 .taken) (c .with-toggle .ensures ∙ ap (withToggle (b .before .before .before .args .self)) (b .byte .ensures))
+    rw (c .before .if2 .taken) (c .holding2 .ensures ∙ ap (withToggle (b .before .before .before .args .self)) (b .byte .ensures))
 
 returns-3 : tie.Need-returns-3
 unfolding afterSet
@@ -41,8 +41,8 @@ returns-3 c =
       eq-eqb (getD (a .payload .now) 0 0) 0 (sym (b .byte .ensures) ∙ c .if3 .taken),
     )
 
-with-reset-requires : tie.Need-with-reset-requires
-with-reset-requires c κs = search needs
+holding-requires-3 : tie.Need-holding-requires-3
+holding-requires-3 c κs = search needs
 
 returns-4 : tie.Need-returns-4
 unfolding afterSet
@@ -53,18 +53,18 @@ returns-4 c =
       ne-eqb (a .selector) 0x01 (b .before .if1 .left),
       ne-eqb (a .selector) 0x03 (c .before .before .if2 .left),
       ne-eqb (getD (a .payload .now) 0 0) 0 (λ e. c .before .if3 .left (b .byte .ensures ∙ e)),
-    ) (c .with-reset .ensures ∙ ap (withReset (a .self)) (b .byte .ensures))
+    ) (c .holding3 .ensures ∙ ap (withReset (a .self)) (b .byte .ensures))
 
 pub after-set-spec : {M : Type 1} → statement M
 after-set-spec =
     tie.close
     (tie.spec
     le64-requires
-    with-mode-requires
+    holding-requires
     returns
     byte-requires
-    with-toggle-requires
+    holding-requires-2
     returns-2
     returns-3
-    with-reset-requires
+    holding-requires-3
     returns-4)

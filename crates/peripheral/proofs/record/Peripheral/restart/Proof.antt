@@ -15,14 +15,14 @@ returns : tie.Need-returns
 unfolding restarted restartCode
 returns c = rw (sym (c .before .before .well-formed .ensures) ∙ not-true _ (c .before .if1 .taken)) (c .refuse .ensures)
 
-with-reset-requires : tie.Need-with-reset-requires
-with-reset-requires c κs = search needs
+holding-requires : tie.Need-holding-requires
+holding-requires c κs = search needs
 
 returns-2 : tie.Need-returns-2
 unfolding restarted restartCode
 returns-2 c =
-    rw (sym (c .before .before .well-formed .ensures) ∙ not-false _ (c .before .if1 .left)) (ap (outcomeOf 0 0) (c .with-reset .ensures))
+    rw (sym (c .before .before .well-formed .ensures) ∙ not-false _ (c .before .if1 .left)) (ap (outcomeOf 0 0) (c .holding .ensures))
 
 pub restart-spec : {M : Type 1} → statement M
 restart-spec =
-    tie.close (tie.spec well-formed-requires refuse-requires returns with-reset-requires returns-2)
+    tie.close (tie.spec well-formed-requires refuse-requires returns holding-requires returns-2)

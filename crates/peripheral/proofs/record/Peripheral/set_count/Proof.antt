@@ -25,12 +25,12 @@ returns-2 : tie.Need-returns-2
 unfolding counted countCode
 returns-2 c = rw (formed (c .before .before), lt-ltb most _ (c .before .if2 .taken)) (c .refuse2 .ensures)
 
-with-count-requires : tie.Need-with-count-requires
-with-count-requires c κs = search needs
+holding-requires : tie.Need-holding-requires
+holding-requires c κs = search needs
 
 returns-3 : tie.Need-returns-3
 unfolding counted countCode
-returns-3 c = rw (formed (c .before .before), le-ltb most _ (c .before .if2 .left)) (ap (outcomeOf 0 0) (c .with-count .ensures))
+returns-3 c = rw (formed (c .before .before), le-ltb most _ (c .before .if2 .left)) (ap (outcomeOf 0 0) (c .holding .ensures))
 
 pub set-count-spec : {M : Type 1} → statement M
 set-count-spec =
@@ -41,5 +41,5 @@ set-count-spec =
     returns
     refuse-requires-2
     returns-2
-    with-count-requires
+    holding-requires
     returns-3)
