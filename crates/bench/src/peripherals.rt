@@ -91,9 +91,8 @@ fn reset_rows(p: Peripheral) {
 
 pub(crate) fn rows() {
     text(b"\nThe peripheral control unit, unit 6 on interface 0\n");
-    text(
-        b"call                setup                    payload                  number  count  reply                    mode                     toggle  occupants  reset\n",
-    );
+    text(b"call                setup                    payload                  number  count  ");
+    text(b"reply                    mode                     toggle  occupants  reset\n");
     let a = strategy_rows(Peripheral::fresh(6, 0, 0x85));
     reset_rows(occupancy_rows(a));
 }

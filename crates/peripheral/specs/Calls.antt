@@ -5,7 +5,7 @@ use lib.{Dec.{ltb}, ListN.{length}}
 use Rattle.wire.specs.{Rows.{_⇒_, firstOf}, Uvc.{malformedRecord, outOfRange}}
 use Rattle.request.specs.Requests.{resultBy}
 use Rattle.peripheral.specs.declared.{record.Peripheral.{Peripheral}, calls.Outcome.{Outcome}}
-use Rattle.peripheral.specs.{Record.{wellFormed, most, withCount, withReset}, Requests.{outcomeOf, requested, requestedReply}}
+use Rattle.peripheral.specs.{Record.{recordWellFormed, most, withCount, withReset}, Requests.{outcomeOf, requested, requestedReply}}
 
 -- a refusal: its number, no count, and the record as it came in
 abbrev pub refused : ℕ → Peripheral → Outcome
@@ -13,14 +13,14 @@ refused code p = outcomeOf code 0 p
 
 -- the detector's count, whether the toggle is 1 or 0
 unfoldable pub countCode : Peripheral → ℕ → ℕ
-countCode p n = firstOf ((not (wellFormed p) ⇒ malformedRecord) ∷ (ltb most n ⇒ outOfRange) ∷ [])
+countCode p n = firstOf ((not (recordWellFormed p) ⇒ malformedRecord) ∷ (ltb most n ⇒ outOfRange) ∷ [])
 
 unfoldable pub counted : Peripheral → ℕ → Outcome
 counted p n = resultBy outcomeOf (countCode p n) p (outcomeOf 0 0 (withCount p n))
 
 -- the restart clears the reset byte and nothing else
 unfoldable pub restartCode : Peripheral → ℕ
-restartCode p = firstOf ((not (wellFormed p) ⇒ malformedRecord) ∷ [])
+restartCode p = firstOf ((not (recordWellFormed p) ⇒ malformedRecord) ∷ [])
 
 unfoldable pub restarted : Peripheral → Outcome
 restarted p = resultBy outcomeOf (restartCode p) p (outcomeOf 0 0 (withReset p 0))

@@ -22,8 +22,8 @@ abbrev pub most : ℕ
 most = 0xFF
 
 -- what calls can leave; every other record is 0x21
-unfoldable pub wellFormed : Peripheral → Bool
-wellFormed p = modeValid (p .mask) (p .mode) && isSwitch (p .toggle) && leb (p .count) most && isSwitch (p .reset)
+unfoldable pub recordWellFormed : Peripheral → Bool
+recordWellFormed p = modeValid (p .mask) (p .mode) && isSwitch (p .toggle) && leb (p .count) most && isSwitch (p .reset)
 
 -- the same unit with another mode, toggle, count and reset byte, and with one of them changed
 abbrev pub holding : Peripheral → (mode toggle count reset : ℕ) → Peripheral

@@ -4,20 +4,20 @@ use mathlib.Core.List.{List}
 use Rattle.wire.specs.Numbers.{bytesOf}
 use Rattle.request.specs.{Setup.{setupSelector}, Table.{Table, hasControl}, Requests.{replied, requestedBy}}
 use Rattle.peripheral.specs.{declared.{record.Peripheral.{Peripheral}, calls.Outcome.{Outcome}}, Selectors.{presence}}
-use Rattle.peripheral.specs.{Record.{wellFormed}, Values.{payloadLength, infoOf, isSettable, stateRefusal, valueRefusal}}
+use Rattle.peripheral.specs.{Record.{recordWellFormed}, Values.{payloadLength, infoOf, isSettable, stateRefusal, setRefusal}}
 use Rattle.peripheral.specs.Values.{afterSet, attribute}
 
 -- the table of the unit's controls
 abbrev pub table : Peripheral → Table
 table p = record {
-  formed = wellFormed p;
+  formed = recordWellFormed p;
   unit = p .unit;
   interface = p .interface;
   present = hasControl presence;
   settable = isSettable;
   setLength = λ selector payload. payloadLength selector;
   state = stateRefusal (p .toggle);
-  values = valueRefusal (p .mask);
+  values = setRefusal (p .mask);
   len = payloadLength;
   info = infoOf;
   value = λ selector code. bytesOf (payloadLength selector) (attribute p selector code);

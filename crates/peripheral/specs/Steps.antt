@@ -5,7 +5,7 @@ use lib.Dec.{eqb}
 use Rattle.wire.specs.Uvc.{getInfo, getLen}
 use Rattle.request.specs.{declared.tests.Control.{Control}, Setup.{setupWLength}, Reply.{sentOf}, Tests.{asked}, Requests.{resultBy}}
 use Rattle.peripheral.specs.declared.{record.Peripheral.{Peripheral}, calls.Outcome.{Outcome}}
-use Rattle.peripheral.specs.Values.{payloadLength, infoOf, isSettable, valueRefusal, afterSet, attribute}
+use Rattle.peripheral.specs.Values.{payloadLength, infoOf, isSettable, setRefusal, afterSet, attribute}
 use Rattle.peripheral.specs.Requests.{table, outcomeOf}
 
 -- what tests 5 and 6 ask of a control
@@ -23,7 +23,7 @@ answerLength selector code = cond (eqb code getLen) 2 (cond (eqb code getInfo) 1
 -- past test 7: a SET of a selector, and a GET
 unfoldable pub setDone : Peripheral → ℕ → List ℕ → Outcome
 setDone p selector payload =
-    resultBy outcomeOf (valueRefusal (p .mask) selector payload) p (outcomeOf 0 0 (afterSet p selector payload))
+    resultBy outcomeOf (setRefusal (p .mask) selector payload) p (outcomeOf 0 0 (afterSet p selector payload))
 
 unfoldable pub getDone : Peripheral → List ℕ → ℕ → Outcome
 getDone p setup room =

@@ -30,8 +30,8 @@ abbrev pub payloadSwitch : List ℕ → ℕ
 payloadSwitch payload = getD payload 0 0
 
 -- test 8 of a SET
-unfoldable pub valueRefusal : (mask selector : ℕ) → List ℕ → ℕ
-valueRefusal mask s payload =
+unfoldable pub setRefusal : (mask selector : ℕ) → List ℕ → ℕ
+setRefusal mask s payload =
     cond (eqb s selector.strategy)
     (cond (modeValid mask (payloadMode payload)) 0 invalidValue)
     (cond (isSwitch (payloadSwitch payload)) 0 outOfRange)

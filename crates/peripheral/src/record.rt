@@ -1,6 +1,6 @@
 // The unit's record: its id and interface, the modes of frame strategy that it supports, and what is set, counted and asked for.
 ghost use mathlib.Core.Path.{_≡_};
-ghost use Rattle.peripheral.specs.Record.{fresh, modeValid, wellFormed, holding};
+ghost use Rattle.peripheral.specs.Record.{fresh, modeValid, recordWellFormed, holding};
 
 // `mask` has a bit for each mode that is supported, and `mode` is one of them or 0; `count` is the detector's last.
 pub struct Peripheral {
@@ -41,7 +41,7 @@ impl Peripheral {
 
     // Whether calls can leave such a record; all others are 0x21.
     pub(crate) fn well_formed(self) -> bool
-        ensures { λ r. ⌜ r ≡ wellFormed self ⌝ }
+        ensures { λ r. ⌜ r ≡ recordWellFormed self ⌝ }
     {
         mode_valid(self.mask, self.mode)
             & (self.toggle <= 1)

@@ -4,8 +4,8 @@ use crate::record::Peripheral;
 use crate::selectors;
 use crate::values::answer_length;
 use crate::values::control;
+use crate::values::set_refusal;
 use crate::values::state_refusal;
-use crate::values::value_refusal;
 use request::Unit;
 use wire::uvc;
 ghost use mathlib.Core.Path.{_≡_};
@@ -39,7 +39,7 @@ impl Peripheral {
     fn set(self, selector: u8, payload: &[u8]) -> Outcome
         ensures { λ r. ⌜ r ≡ setDone self selector (now (payload .entry)) ⌝ }
     {
-        let code = value_refusal(self.mask, selector, payload);
+        let code = set_refusal(self.mask, selector, payload);
         if code != 0 {
             return self.refuse(code);
         }

@@ -7,7 +7,7 @@ use crate::selectors;
 use request::Control;
 use wire::uvc;
 ghost use mathlib.Core.Path.{_≡_};
-ghost use Rattle.peripheral.specs.Values.{payloadLength, infoOf, isSettable, stateRefusal, valueRefusal, afterSet};
+ghost use Rattle.peripheral.specs.Values.{payloadLength, infoOf, isSettable, stateRefusal, setRefusal, afterSet};
 ghost use Rattle.peripheral.specs.Values.{current, maximum, resolution, attribute};
 ghost use Rattle.peripheral.specs.Steps.{controlOf, answerNumber, answerLength};
 
@@ -55,8 +55,8 @@ pub(crate) fn state_refusal(toggle: u8, selector: u8, code: u8) -> u8
 }
 
 // Test 8 of a SET.
-pub(crate) fn value_refusal(mask: u64, selector: u8, payload: &[u8]) -> u8
-    ensures { λ r. ⌜ r ≡ valueRefusal mask selector (now (payload .entry)) ⌝ }
+pub(crate) fn set_refusal(mask: u64, selector: u8, payload: &[u8]) -> u8
+    ensures { λ r. ⌜ r ≡ setRefusal mask selector (now (payload .entry)) ⌝ }
 {
     if selector == selectors::FRAME_STRATEGY {
         if mode_valid(mask, wire::le64(payload, 0)) {

@@ -16,12 +16,12 @@ use Rattle.request.proofs.Laws.{Requests.{requested-count, same-code, same-coun
 use Rattle.request.proofs.Laws.Sets.{set-answer, accepted-control, accepted-length}
 use Rattle.request.proofs.Theorems as requests
 use Rattle.peripheral.specs.Selectors as selector
-use Rattle.peripheral.specs.{declared.record.Peripheral.{Peripheral}, Record.{fresh, wellFormed, withMode, withToggle, withReset}}
+use Rattle.peripheral.specs.{declared.record.Peripheral.{Peripheral}, Record.{fresh, recordWellFormed, withMode, withToggle, withReset}}
 use Rattle.peripheral.specs.Values.{payloadMode, payloadSwitch, payloadLength, infoOf, isSettable, stateRefusal, afterSet, current}
 use Rattle.peripheral.specs.Values.{attribute}
 use Rattle.peripheral.specs.{Requests.{table, outcomeOf, requested}, Calls.{refused, request, outcome, left, next, run}}
-use Rattle.units.specs.Answers.{FourControls, GetsCurrent, Sends, Answers, ReadsBack, SetThenGet, ReadingAfter, SameUnit, Alike}
-use Rattle.units.specs.Answers.{FixedAnswers}
+use Rattle.units.specs.Answers.{FourControls, GetsCurrent, SendsAnswer, Answers, ReadsBack, SetThenGet, ReadingAfter, SameUnit}
+use Rattle.units.specs.Answers.{AnsweredAlike, FixedAnswers}
 use Rattle.units.specs.Lists.{lastCount}
 use Rattle.units.proofs.{Refusals.{code-is}, Lists.{fresh-formed}}
 use Rattle.units.proofs.Laws.Steps.{request-next, step, run-leaves}
@@ -55,8 +55,8 @@ unfolding fullAnswer answerBy
 current-answer p s = refl
 
 -- and past test 7, with room, it is sent
-module _ (p : Peripheral) (w : wellFormed p ≡ true) (s : ℕ) (y : stateRefusal (p .toggle) s getCur ≡ 0) where
-  sends : (g reply : List ℕ) → GetsCurrent p s g → sentCount (table p) g ≤ length reply → Sends p g reply (asked (table p) g)
+module _ (p : Peripheral) (w : recordWellFormed p ≡ true) (s : ℕ) (y : stateRefusal (p .toggle) s getCur ≡ 0) where
+  sends : (g reply : List ℕ) → GetsCurrent p s g → sentCount (table p) g ≤ length reply → SendsAnswer p g reply (asked (table p) g)
   unfolding requested
   sends g reply x h =
       let i = requests.get-no-set g (x .gets .get) in
@@ -68,7 +68,7 @@ module _ (p : Peripheral) (w : wellFormed p ≡ true) (s : ℕ) (y : stateRefusa
   current-sends g reply x h =
       let a : asked (table p) g ≡ bytesOf (payloadLength s) (current p s) =
       ap₂ (fullAnswer (table p)) (x .control) (x .current) ∙ current-answer p s in
-      subst (λ l. Sends p g reply l) a (sends g reply x (rw a h))
+      subst (λ l. SendsAnswer p g reply l) a (sends g reply x (rw a h))
 
 -- test 7 is of the reading alone
 other-state : (toggle s : ℕ) → eqb s selector.reading ≡ false → stateRefusal toggle s getCur ≡ 0
@@ -123,10 +123,10 @@ module _ (p : Peripheral) (setup payload reply : List ℕ) (i : isSetRequest set
   zero-code : requestCode (table p) setup payload (length reply) ≡ 0
   zero-code = sym (code-is p (request setup payload reply)) ∙ e
 
-  formed : wellFormed p ≡ true
-  formed = go (wellFormed p) refl
+  formed : recordWellFormed p ≡ true
+  formed = go (recordWellFormed p) refl
     where
-      go : (b : Bool) → wellFormed p ≡ b → b ≡ true
+      go : (b : Bool) → recordWellFormed p ≡ b → b ≡ true
       go true w = refl
       go false w = absurd (omega (arith, sym (at-unformed (table p) setup payload (length reply) w) ∙ zero-code))
 
@@ -155,7 +155,7 @@ pub set-then-get : SetThenGet
 set-then-get p setup payload reply b i e = set-reads-back p setup payload reply i e b
 
 -- the reading of a well-formed record whose count is n
-module _ (p : Peripheral) (w : wellFormed p ≡ true) (n : ℕ) (is-count : p .count ≡ n) where
+module _ (p : Peripheral) (w : recordWellFormed p ≡ true) (n : ℕ) (is-count : p .count ≡ n) where
   counting : p .toggle ≡ 1 → Answers p selector.reading (bytesOf 2 n)
   counting t = subst (λ (m : ℕ). Answers p selector.reading (bytesOf 2 m)) is-count (current-sends p w selector.reading (rw t))
 
@@ -190,8 +190,8 @@ fixed-state toggle s code n = rw (ne-eqb code getCur n) (go (eqb s selector.read
     go true = refl
     go false = refl
 
-module _ (p q : Peripheral) (w : wellFormed p ≡ true) (v : wellFormed q ≡ true) (same : SameUnit p q) (setup payload reply : List ℕ)
-    (i : isSetRequest setup ≡ false) (n : setupCode setup ≡ getCur → ⊥) where
+module _ (p q : Peripheral) (w : recordWellFormed p ≡ true) (v : recordWellFormed q ≡ true) (same : SameUnit p q)
+    (setup payload reply : List ℕ) (i : isSetRequest setup ≡ false) (n : setupCode setup ≡ getCur → ⊥) where
   abbrev s : ℕ
   s = setupSelector setup
 
@@ -216,7 +216,7 @@ module _ (p q : Peripheral) (w : wellFormed p ≡ true) (v : wellFormed q ≡ tr
   unfolding requested
   count-is d = requested-count outcomeOf (λ o. o .count) (λ a b c. refl) (table d) d (afterSet d s payload) setup payload (length reply)
 
-  alike : Alike p q setup payload reply
+  alike : AnsweredAlike p q setup payload reply
   alike = record {
     code = code-is p (request setup payload reply)
         ∙ same-code (table p) (table q) setup payload i (w ∙ sym v) tests state answer (length reply)

@@ -10,17 +10,17 @@ use Rattle.flags.specs.Flags.{isSet}
 use Rattle.request.specs.Table.{hasControl}
 use Rattle.request.proofs.Laws.Sets.{Sets, sets-code}
 use Rattle.peripheral.specs.Selectors as selector
-use Rattle.peripheral.specs.{declared.record.Peripheral.{Peripheral}, Record.{fresh, isSwitch, most, wellFormed}}
+use Rattle.peripheral.specs.{declared.record.Peripheral.{Peripheral}, Record.{fresh, isSwitch, most, recordWellFormed}}
 use Rattle.peripheral.specs.Record.{withMode, withToggle, withCount, withReset}
-use Rattle.peripheral.specs.{Values.{payloadLength, isSettable, valueRefusal, afterSet}, Requests.{table, outcomeOf, requested}}
+use Rattle.peripheral.specs.{Values.{payloadLength, isSettable, setRefusal, afterSet}, Requests.{table, outcomeOf, requested}}
 use Rattle.peripheral.specs.Calls.{Call, request, count, next, run}
-use Rattle.units.specs.Lists.{NeverMalformed, Typed, Reached, AllReached}
+use Rattle.units.specs.Lists.{NeverMalformed, Typed, LeftByCalls, AllLeftByCalls}
 use Rattle.units.proofs.Refusals.{refusals}
 use Rattle.units.proofs.Laws.Formed.{Formed, formed-fields, fields-formed}
 use Rattle.units.proofs.Laws.Steps.{count-next, run-leaves}
 
-pub fresh-formed : (unit interface mask : ℕ) → wellFormed (fresh unit interface mask) ≡ true
-unfolding wellFormed
+pub fresh-formed : (unit interface mask : ℕ) → recordWellFormed (fresh unit interface mask) ≡ true
+unfolding recordWellFormed
 fresh-formed unit interface mask = refl
 
 pub never-malformed : NeverMalformed
@@ -48,7 +48,7 @@ abbrev setup : Peripheral → (s n : ℕ) → List ℕ
 setup d s n = 0x21 ∷ setCur ∷ 0 ∷ s ∷ d .interface ∷ d .unit ∷ n ∷ 0 ∷ []
 
 -- one of the three that take a SET, where n is the length of its payload
-module _ (d : Peripheral) (w : wellFormed d ≡ true) (s n : ℕ) (payload : List ℕ) (there : hasControl selector.presence s ≡ true)
+module _ (d : Peripheral) (w : recordWellFormed d ≡ true) (s n : ℕ) (payload : List ℕ) (there : hasControl selector.presence s ≡ true)
     (settable : isSettable s ≡ true) (sized : length payload ≡ n) (fits : n ≡ payloadLength s) where
   sets : Sets (table d) (setup d s n) payload
   unfolding leAt number
@@ -64,7 +64,7 @@ module _ (d : Peripheral) (w : wellFormed d ≡ true) (s n : ℕ) (payload : Lis
   }
 
   -- what it leaves if its value is taken
-  set-next : valueRefusal (d .mask) s payload ≡ 0 → next d (request (setup d s n) payload []) ≡ afterSet d s payload
+  set-next : setRefusal (d .mask) s payload ≡ 0 → next d (request (setup d s n) payload []) ≡ afterSet d s payload
   unfolding requested
   set-next e =
       let r : eqb s selector.reading ≡ false = not-true _ settable in
@@ -72,7 +72,7 @@ module _ (d : Peripheral) (w : wellFormed d ≡ true) (s n : ℕ) (payload : Lis
       ap (λ (k : ℕ). cond (eqb k 0) (outcomeOf 0 0 (afterSet d s payload)) (outcomeOf k 0 d) .peripheral) z
 
 -- the calls that leave p: its count, and a SET of each of the other controls
-module _ (p : Peripheral) (t : Typed p) (w : wellFormed p ≡ true) where
+module _ (p : Peripheral) (t : Typed p) (w : recordWellFormed p ≡ true) where
   abbrev f : Formed p
   f = formed-fields p w
 
@@ -88,13 +88,13 @@ module _ (p : Peripheral) (t : Typed p) (w : wellFormed p ≡ true) where
   abbrev toggled : Peripheral
   toggled = withToggle framed (p .toggle)
 
-  counted-formed : wellFormed counted ≡ true
+  counted-formed : recordWellFormed counted ≡ true
   counted-formed = fields-formed counted (record { mode = refl; toggle = refl; count = f .count; reset = refl })
 
-  framed-formed : wellFormed framed ≡ true
+  framed-formed : recordWellFormed framed ≡ true
   framed-formed = fields-formed framed (record { mode = f .mode; toggle = refl; count = f .count; reset = refl })
 
-  toggled-formed : wellFormed toggled ≡ true
+  toggled-formed : recordWellFormed toggled ≡ true
   toggled-formed = fields-formed toggled (record { mode = f .mode; toggle = f .toggle; count = f .count; reset = refl })
 
   abbrev mode-bytes : List ℕ
@@ -118,17 +118,17 @@ module _ (p : Peripheral) (t : Typed p) (w : wellFormed p ≡ true) where
   first = count-next clean (fresh-formed (p .unit) (p .interface) (p .mask)) (p .count) ∙ rw (f .count)
 
   second : next counted setMode ≡ framed
-  unfolding isSet valueRefusal afterSet
+  unfolding isSet setRefusal afterSet
   second =
       set-next counted counted-formed selector.strategy 8 mode-bytes refl refl (length-bytes 8 (p .mode)) refl (rw (mode-back, f .mode))
       ∙ ap (withMode counted) mode-back
 
   third : next framed setToggle ≡ toggled
-  unfolding isSet valueRefusal afterSet
+  unfolding isSet setRefusal afterSet
   third = set-next framed framed-formed selector.toggle 1 (p .toggle ∷ []) refl refl refl refl (rw (f .toggle))
 
   fourth : next toggled setReset ≡ p
-  unfolding isSet valueRefusal afterSet
+  unfolding isSet setRefusal afterSet
   fourth =
       set-next toggled toggled-formed selector.reset 1 (p .reset ∷ []) refl refl refl refl (rw (f .reset)) ∙ go (eqb (p .reset) 0) refl
     where
@@ -150,7 +150,7 @@ module _ (p : Peripheral) (t : Typed p) (w : wellFormed p ≡ true) where
   switch-byte : (n : ℕ) → isSwitch n ≡ true → Bytes (n ∷ [])
   switch-byte n e = each-byte (n ∷ []) (omega (arith, leb-true n 1 e), tt)
 
-  reached : Reached p
+  reached : LeftByCalls p
   reached = record {
     calls = count (p .count) ∷ setMode ∷ setToggle ∷ setReset ∷ [];
     makeable = (
@@ -166,5 +166,5 @@ module _ (p : Peripheral) (t : Typed p) (w : wellFormed p ≡ true) where
     leaves = leaves;
   }
 
-pub all-reached : AllReached
-all-reached = reached
+pub all-left-by-calls : AllLeftByCalls
+all-left-by-calls = reached

@@ -9,8 +9,8 @@ use Rattle.request.proofs.Laws.{Tests.{at-unformed, never-malformed}, Requests.
 use Rattle.request.proofs.Theorems as requests
 use Rattle.peripheral.specs.Selectors as selector
 use Rattle.peripheral.specs.declared.{record.Peripheral.{Peripheral}, calls.Outcome.{Outcome}}
-use Rattle.peripheral.specs.Record.{modeValid, isSwitch, most, wellFormed}
-use Rattle.peripheral.specs.Values.{payloadMode, payloadSwitch, stateRefusal, valueRefusal, afterSet}
+use Rattle.peripheral.specs.Record.{modeValid, isSwitch, most, recordWellFormed}
+use Rattle.peripheral.specs.Values.{payloadMode, payloadSwitch, stateRefusal, setRefusal, afterSet}
 use Rattle.peripheral.specs.{Requests.{table, outcomeOf, requested}, Calls.{countCode, counted, restartCode, restarted}}
 use Rattle.peripheral.specs.Calls.{Call, request, count, restart, outcome}
 use Rattle.units.specs.Refusals.{Unchanged, AllRefusals}
@@ -52,7 +52,7 @@ unchanged p restart n =
     let r = result-refused outcomeOf codeOf of-outcome (restartCode p) p _ refl n in
     record { count = ap (λ o. o .count) (r .1); peripheral = ap (λ o. o .peripheral) (r .1); buffer = refl }
 
-malformed : (p : Peripheral) (call : Call) → wellFormed p ≡ false → number p call ≡ malformedRecord
+malformed : (p : Peripheral) (call : Call) → recordWellFormed p ≡ false → number p call ≡ malformedRecord
 unfolding countCode restartCode
 malformed p (request setup payload reply) w = at-unformed (table p) setup payload (length reply) w
 malformed p (count n) w = rw w
@@ -66,8 +66,8 @@ state-other toggle s code = go (eqb s selector.reading && eqb code getCur && eqb
     go true e = omega arith
     go false e = omega arith
 
-values-other : (mask s : ℕ) (payload : List ℕ) → valueRefusal mask s payload ≡ malformedRecord → ⊥
-unfolding valueRefusal
+values-other : (mask s : ℕ) (payload : List ℕ) → setRefusal mask s payload ≡ malformedRecord → ⊥
+unfolding setRefusal
 values-other mask s payload = go (eqb s selector.strategy) (modeValid mask (payloadMode payload)) (isSwitch (payloadSwitch payload))
   where
     go : (a b c : Bool) → cond {A = ℕ} a (cond b 0 invalidValue) (cond c 0 outOfRange) ≡ malformedRecord → ⊥
@@ -76,14 +76,14 @@ values-other mask s payload = go (eqb s selector.strategy) (modeValid mask (payl
     go false b true e = omega arith
     go false b false e = omega arith
 
-formed : (p : Peripheral) (call : Call) → wellFormed p ≡ true → number p call ≡ malformedRecord → ⊥
+formed : (p : Peripheral) (call : Call) → recordWellFormed p ≡ true → number p call ≡ malformedRecord → ⊥
 unfolding countCode restartCode
 formed p (request setup payload reply) w =
     never-malformed (table p) setup payload (length reply) w (state-other (p .toggle) (setupSelector setup) (setupCode setup))
     (values-other (p .mask) (setupSelector setup) payload)
 formed p (count n) w = go (ltb most n)
   where
-    go : (b : Bool) → cond (not (wellFormed p)) malformedRecord (cond b outOfRange 0) ≡ malformedRecord → ⊥
+    go : (b : Bool) → cond (not (recordWellFormed p)) malformedRecord (cond b outOfRange 0) ≡ malformedRecord → ⊥
     go true e = let z : outOfRange ≡ malformedRecord = rw w at e in omega arith
     go false e = let z : _≡_ {A = ℕ} 0 malformedRecord = rw w at e in omega arith
 formed p restart w = λ e. let z : _≡_ {A = ℕ} 0 malformedRecord = rw w at e in omega arith

@@ -3,10 +3,10 @@ use mathlib.Core.Path.{refl}
 use Rattle.wire.specs.Numbers.{number, leAt, bytesOf}
 use Rattle.flags.specs.Flags.{isSet, bitsOf, count, first, isOneOf}
 use Rattle.request.specs.{Answers.{answerBy}, Tests.{requestTests, valueTests, fullAnswer, requestRows, requestCode}}
-use Rattle.peripheral.specs.{Record.{wellFormed}, Values.{valueRefusal, afterSet}, Requests.{requested}, Calls.{countCode, counted}}
+use Rattle.peripheral.specs.{Record.{recordWellFormed}, Values.{setRefusal, afterSet}, Requests.{requested}, Calls.{countCode, counted}}
 use Rattle.units.specs.Table.{AllAnswers}
 
 pub all-answers : AllAnswers
 unfolding number leAt bytesOf isSet bitsOf count first isOneOf answerBy requestTests valueTests fullAnswer requestRows requestCode
-    wellFormed valueRefusal afterSet requested countCode counted
+    recordWellFormed setRefusal afterSet requested countCode counted
 all-answers = refl

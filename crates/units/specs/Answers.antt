@@ -7,7 +7,7 @@ use Rattle.wire.proofs.Laws.Numbers.{Bytes}
 use Rattle.request.specs.{Setup.{setupSelector, setupCode, setupWLength, isSetRequest}, Table.{hasControl}}
 use Rattle.request.specs.Theorems as unit
 use Rattle.peripheral.specs.Selectors as selector
-use Rattle.peripheral.specs.{declared.record.Peripheral.{Peripheral}, Record.{fresh, wellFormed}, Values.{payloadSwitch}}
+use Rattle.peripheral.specs.{declared.record.Peripheral.{Peripheral}, Record.{fresh, recordWellFormed}, Values.{payloadSwitch}}
 use Rattle.peripheral.specs.{Requests.{outcomeOf}, Calls.{Call, request, outcome, left, next, refused, run}}
 use Rattle.units.specs.Lists.{lastCount}
 
@@ -23,7 +23,7 @@ pub record GetsCurrent (p : Peripheral) (s : ℕ) (g : List ℕ) : Type 0 where
 
 -- What is sent of a full answer: the first min(wLength, full length) bytes, reported and at the buffer's start; the rest of the buffer and
 -- the record are as they were.
-pub record Sends (p : Peripheral) (g reply full : List ℕ) : Type 0 where
+pub record SendsAnswer (p : Peripheral) (g reply full : List ℕ) : Type 0 where
   pub answer : outcome p (request g [] reply) ≡ outcomeOf 0 (min (setupWLength g) (length full)) p
   pub buffer : left p (request g [] reply) ≡ take (min (setupWLength g) (length full)) full
       ++ drop (min (setupWLength g) (length full)) reply
@@ -31,7 +31,7 @@ pub record Sends (p : Peripheral) (g reply full : List ℕ) : Type 0 where
 -- with room for it
 abbrev pub Answers : Peripheral → (control : ℕ) → List ℕ → Type 0
 Answers p control full =
-    (g reply : List ℕ) → GetsCurrent p control g → min (setupWLength g) (length full) ≤ length reply → Sends p g reply full
+    (g reply : List ℕ) → GetsCurrent p control g → min (setupWLength g) (length full) ≤ length reply → SendsAnswer p g reply full
 
 -- An accepted SET, then GET_CUR of its control: the bytes that were set. A reset of 0 changes nothing, and the reading takes no SET.
 pub record ReadsBack (p : Peripheral) (setup payload reply : List ℕ) : Type 0 where
@@ -62,7 +62,7 @@ pub record SameUnit (p q : Peripheral) : Type 0 where
   pub mask : p .mask ≡ q .mask
 
 -- a request that two records answer alike
-pub record Alike (p q : Peripheral) (setup payload reply : List ℕ) : Type 0 where
+pub record AnsweredAlike (p q : Peripheral) (setup payload reply : List ℕ) : Type 0 where
   pub code : outcome p (request setup payload reply) .code ≡ outcome q (request setup payload reply) .code
   pub count : outcome p (request setup payload reply) .count ≡ outcome q (request setup payload reply) .count
   pub buffer : left p (request setup payload reply) ≡ left q (request setup payload reply)
@@ -70,5 +70,5 @@ pub record Alike (p q : Peripheral) (setup payload reply : List ℕ) : Type 0 wh
 -- Every request that is no SET and no GET_CUR goes by ids and mask alone.
 abbrev pub FixedAnswers : Type 0
 FixedAnswers =
-    (p q : Peripheral) → wellFormed p ≡ true → wellFormed q ≡ true → SameUnit p q → (setup payload reply : List ℕ)
-    → isSetRequest setup ≡ false → (setupCode setup ≡ getCur → ⊥) → Alike p q setup payload reply
+    (p q : Peripheral) → recordWellFormed p ≡ true → recordWellFormed q ≡ true → SameUnit p q → (setup payload reply : List ℕ)
+    → isSetRequest setup ≡ false → (setupCode setup ≡ getCur → ⊥) → AnsweredAlike p q setup payload reply

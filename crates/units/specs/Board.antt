@@ -4,10 +4,10 @@ use Prim.Native.Nat.{ℕ}
 use mathlib.Core.{Path.{_≡_}, List.{List}, Bool.{true}}
 use lib.ListN.{length}
 use Rattle.request.specs.{Tests.{isAddressed}, Theorems.{AsAnyUnit}}
-use Rattle.camera.specs.{declared.record.Camera.{Camera}, Record.{recordWellFormed}}
+use Rattle.camera.specs.{declared.record.Camera.{Camera}, Record.{recordWellFormed as cameraWellFormed}}
 use Rattle.camera.specs.Requests as camera
 use Rattle.camera.specs.Calls as cameras
-use Rattle.peripheral.specs.{declared.record.Peripheral.{Peripheral}, Record.{wellFormed}}
+use Rattle.peripheral.specs.{declared.record.Peripheral.{Peripheral}, Record.{recordWellFormed as peripheralWellFormed}}
 use Rattle.peripheral.specs.Requests as peripheral
 use Rattle.peripheral.specs.Calls as peripherals
 
@@ -21,18 +21,18 @@ pub record BothUnits (setup payload reply : List ℕ) : Type 0 where
 abbrev pub AllBothUnits : Type 0
 AllBothUnits = (setup payload reply : List ℕ) → BothUnits setup payload reply
 
-abbrev pub Apart : Camera → Peripheral → Type 0
-Apart c p = (c .profile .unit ≡ p .unit) × (c .profile .interface ≡ p .interface) → ⊥
+abbrev pub OtherIds : Camera → Peripheral → Type 0
+OtherIds c p = (c .profile .unit ≡ p .unit) × (c .profile .interface ≡ p .interface) → ⊥
 
 -- the number, the record and the reply, of a record that is not refused 0x21
 pub record OtherRefuses (c : Camera) (p : Peripheral) (setup payload reply : List ℕ) : Type 0 where
-  pub cameras-setup : isAddressed (c .profile .unit) (c .profile .interface) setup ≡ true → wellFormed p ≡ true
+  pub cameras-setup : isAddressed (c .profile .unit) (c .profile .interface) setup ≡ true → peripheralWellFormed p ≡ true
       → (peripherals.outcome p (peripherals.request setup payload reply) ≡ record { code = 0x05; count = 0; peripheral = p })
       × (peripherals.left p (peripherals.request setup payload reply) ≡ reply)
-  pub peripherals-setup : isAddressed (p .unit) (p .interface) setup ≡ true → recordWellFormed c ≡ true
+  pub peripherals-setup : isAddressed (p .unit) (p .interface) setup ≡ true → cameraWellFormed c ≡ true
       → (cameras.outcome c (cameras.request setup payload reply) ≡ record { code = 0x05; count = 0; camera = c })
       × (cameras.left c (cameras.request setup payload reply) ≡ reply)
 
 abbrev pub AllOthersRefuse : Type 0
 AllOthersRefuse =
-    (c : Camera) (p : Peripheral) → Apart c p → (setup payload reply : List ℕ) → length setup ≡ 8 → OtherRefuses c p setup payload reply
+    (c : Camera) (p : Peripheral) → OtherIds c p → (setup payload reply : List ℕ) → length setup ≡ 8 → OtherRefuses c p setup payload reply

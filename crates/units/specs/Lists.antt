@@ -3,8 +3,8 @@ use Prim.Native.Nat.{ℕ, _^_, _<_}
 use mathlib.Core.{Path.{_≡_}, List.{List, [], _∷_}, Bool.{true, cond}}
 use lib.Dec.{leb}
 use Rattle.wire.proofs.Laws.Numbers.{Bytes}
-use Rattle.peripheral.specs.{declared.record.Peripheral.{Peripheral}, Record.{fresh, wellFormed}, Calls.{Call, request, count, restart}}
-use Rattle.peripheral.specs.Calls.{outcome, run}
+use Rattle.peripheral.specs.{declared.record.Peripheral.{Peripheral}, Record.{fresh, recordWellFormed}}
+use Rattle.peripheral.specs.Calls.{Call, request, count, restart, outcome, run}
 
 -- the record test is not too strict: it refuses nothing that a list of calls leaves
 abbrev pub NeverMalformed : Type 0
@@ -28,13 +28,13 @@ pub record Typed (p : Peripheral) : Type 0 where
   pub mode : p .mode < 2 ^ 64
 
 -- nor is it too lax: some list of calls leaves just this record of a fresh unit with its ids and mask
-pub record Reached (p : Peripheral) : Type 0 where
+pub record LeftByCalls (p : Peripheral) : Type 0 where
   pub calls : List Call
   pub makeable : AllMakeable calls
   pub leaves : run (fresh (p .unit) (p .interface) (p .mask)) calls ≡ p
 
-abbrev pub AllReached : Type 0
-AllReached = (p : Peripheral) → Typed p → wellFormed p ≡ true → Reached p
+abbrev pub AllLeftByCalls : Type 0
+AllLeftByCalls = (p : Peripheral) → Typed p → recordWellFormed p ≡ true → LeftByCalls p
 
 -- the last count of a list that was taken, or the one before it where there is none; over 255 none is taken
 abbrev pub lastCount : ℕ → List Call → ℕ

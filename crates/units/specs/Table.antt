@@ -6,13 +6,13 @@ use Rattle.request.specs.Tests.{fullAnswer}
 use Rattle.peripheral.specs.{declared.record.Peripheral.{Peripheral}, Record.{fresh}, Requests.{table}, Calls.{Call, request, count, run}}
 
 -- unit 6 on interface 2
-abbrev pub set : (control : ℕ) → (wLength : ℕ) → List ℕ → Call
-set control wLength payload = request (0x21 ∷ 0x01 ∷ 0x00 ∷ control ∷ 0x02 ∷ 0x06 ∷ wLength ∷ 0x00 ∷ []) payload []
+abbrev pub setCall : (control : ℕ) → (wLength : ℕ) → List ℕ → Call
+setCall control wLength payload = request (0x21 ∷ 0x01 ∷ 0x00 ∷ control ∷ 0x02 ∷ 0x06 ∷ wLength ∷ 0x00 ∷ []) payload []
 
 abbrev pub room : Peripheral
 room =
     run (fresh 6 2 0x85)
-    (set 0x01 8 (0x80 ∷ 0 ∷ 0 ∷ 0 ∷ 0 ∷ 0 ∷ 0 ∷ 0 ∷ []) ∷ set 0x03 1 (1 ∷ []) ∷ set 0x06 1 (1 ∷ []) ∷ count 12 ∷ [])
+    (setCall 0x01 8 (0x80 ∷ 0 ∷ 0 ∷ 0 ∷ 0 ∷ 0 ∷ 0 ∷ 0 ∷ []) ∷ setCall 0x03 1 (1 ∷ []) ∷ setCall 0x06 1 (1 ∷ []) ∷ count 12 ∷ [])
 
 -- GET_CUR to GET_DEF of a control
 abbrev pub answersOf : ℕ → List (List ℕ)

@@ -1,5 +1,5 @@
-// Calls of the peripheral control unit. Behind each answer stands the record then: unit, interface, mask and mode in hex, and the toggle, the
-// count and the reset in decimal.
+// Calls of the peripheral control unit. Behind each answer stands the record then: unit, interface, mask and mode in hex, and the toggle,
+// the count and the reset in decimal.
 use crate::buffers::LENT;
 use crate::buffers::first;
 use crate::print;

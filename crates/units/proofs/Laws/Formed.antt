@@ -4,8 +4,8 @@ use Prim.Native.Nat.{ℕ}
 use native.Mathlib.Omega.{arith}
 use lib.Dec.{eqb, leb}
 use Rattle.peripheral.specs.Selectors as selector
-use Rattle.peripheral.specs.{declared.record.Peripheral.{Peripheral}, Record.{modeValid, isSwitch, most, wellFormed, withCount, withReset}}
-use Rattle.peripheral.specs.Values.{payloadMode, payloadSwitch, valueRefusal}
+use Rattle.peripheral.specs.{declared.record.Peripheral.{Peripheral}, Record.{modeValid, isSwitch, most, recordWellFormed}}
+use Rattle.peripheral.specs.Values.{payloadMode, payloadSwitch, setRefusal}
 
 pub record Formed (p : Peripheral) : Type 0 where
   pub mode : modeValid (p .mask) (p .mode) ≡ true
@@ -13,16 +13,16 @@ pub record Formed (p : Peripheral) : Type 0 where
   pub count : leb (p .count) most ≡ true
   pub reset : isSwitch (p .reset) ≡ true
 
-pub formed-fields : (p : Peripheral) → wellFormed p ≡ true → Formed p
-unfolding wellFormed
+pub formed-fields : (p : Peripheral) → recordWellFormed p ≡ true → Formed p
+unfolding recordWellFormed
 formed-fields p w =
     let q = and-eq-true-iff _ _ .0 w in
     let r = and-eq-true-iff _ _ .0 (q .0) in
     let s = and-eq-true-iff _ _ .0 (r .0) in
     record { mode = s .0; toggle = s .1; count = r .1; reset = q .1 }
 
-pub fields-formed : (p : Peripheral) → Formed p → wellFormed p ≡ true
-unfolding wellFormed
+pub fields-formed : (p : Peripheral) → Formed p → recordWellFormed p ≡ true
+unfolding recordWellFormed
 fields-formed p f = rw (f .mode, f .toggle, f .count, f .reset)
 
 -- a test that passes
@@ -31,12 +31,12 @@ pass true n e = refl
 pass false n e = absurd (omega arith)
 
 -- a mode, and a switch, that a SET takes
-pub taken-mode : (mask : ℕ) (payload : List ℕ) → valueRefusal mask selector.strategy payload ≡ 0
+pub taken-mode : (mask : ℕ) (payload : List ℕ) → setRefusal mask selector.strategy payload ≡ 0
     → modeValid mask (payloadMode payload) ≡ true
-unfolding valueRefusal
+unfolding setRefusal
 taken-mode mask payload e = pass _ 7 e
 
-pub taken-switch : (mask s : ℕ) (payload : List ℕ) → eqb s selector.strategy ≡ false → valueRefusal mask s payload ≡ 0
+pub taken-switch : (mask s : ℕ) (payload : List ℕ) → eqb s selector.strategy ≡ false → setRefusal mask s payload ≡ 0
     → isSwitch (payloadSwitch payload) ≡ true
-unfolding valueRefusal
+unfolding setRefusal
 taken-switch mask s payload n e = pass _ 3 (rw n at e)

@@ -7,19 +7,19 @@ use Rattle.request.specs.{Setup.{setupSelector}, Tests.{setAccepted}}
 use Rattle.request.proofs.Laws.Sets.{next-record, accepted-values}
 use Rattle.peripheral.specs.Selectors as selector
 use Rattle.peripheral.specs.declared.record.Peripheral.{Peripheral}
-use Rattle.peripheral.specs.Record.{most, wellFormed, withMode, withToggle, withCount, withReset}
-use Rattle.peripheral.specs.{Values.{payloadMode, payloadSwitch, valueRefusal, afterSet}, Requests.{table, outcomeOf, requested}}
+use Rattle.peripheral.specs.Record.{most, recordWellFormed, withMode, withToggle, withCount, withReset}
+use Rattle.peripheral.specs.{Values.{payloadMode, payloadSwitch, setRefusal, afterSet}, Requests.{table, outcomeOf, requested}}
 use Rattle.peripheral.specs.Calls.{countCode, counted, restartCode, restarted, Call, request, count, restart, next, run}
 use Rattle.units.specs.{Lists.{lastCount}, Answers.{SameUnit}}
 use Rattle.units.proofs.Laws.Formed.{Formed, formed-fields, fields-formed, taken-mode, taken-switch}
 
 -- a record that a call leaves of p: well formed, of the same unit, and with this count
 pub record Leaves (p : Peripheral) (n : ℕ) (d : Peripheral) : Type 0 where
-  pub formed : wellFormed d ≡ true
+  pub formed : recordWellFormed d ≡ true
   pub same : SameUnit d p
   pub count : d .count ≡ n
 
-module _ (p : Peripheral) (w : wellFormed p ≡ true) where
+module _ (p : Peripheral) (w : recordWellFormed p ≡ true) where
   abbrev f : Formed p
   f = formed-fields p w
 
@@ -27,7 +27,7 @@ module _ (p : Peripheral) (w : wellFormed p ≡ true) where
   unchanged = record { formed = w; same = record { unit = refl; interface = refl; mask = refl }; count = refl }
 
   -- what an accepted SET leaves
-  set-leaves : (s : ℕ) (payload : List ℕ) → valueRefusal (p .mask) s payload ≡ 0 → Leaves p (p .count) (afterSet p s payload)
+  set-leaves : (s : ℕ) (payload : List ℕ) → setRefusal (p .mask) s payload ≡ 0 → Leaves p (p .count) (afterSet p s payload)
   unfolding afterSet
   set-leaves s payload e = go (eqb s selector.strategy) (eqb s selector.toggle) (eqb (payloadSwitch payload) 0) refl
     where
@@ -39,7 +39,7 @@ module _ (p : Peripheral) (w : wellFormed p ≡ true) where
           (cond a (withMode p (payloadMode payload))
           (cond b (withToggle p (payloadSwitch payload)) (cond c p (withReset p (payloadSwitch payload)))))
       go true b c q =
-          let r = ap (λ (n : ℕ). valueRefusal (p .mask) n payload) (sym (eqb-true s selector.strategy q)) ∙ e in
+          let r = ap (λ (n : ℕ). setRefusal (p .mask) n payload) (sym (eqb-true s selector.strategy q)) ∙ e in
           let v = taken-mode (p .mask) payload r in
           kept (withMode p (payloadMode payload)) (record { mode = v; toggle = f .toggle; count = f .count; reset = f .reset })
           (record { unit = refl; interface = refl; mask = refl }) refl
@@ -106,7 +106,7 @@ after-first n (request setup payload reply) calls = refl
 after-first n (count m) calls = refl
 after-first n restart calls = refl
 
-pub run-leaves : (p : Peripheral) → wellFormed p ≡ true → (calls : List Call) → Leaves p (lastCount (p .count) calls) (run p calls)
+pub run-leaves : (p : Peripheral) → recordWellFormed p ≡ true → (calls : List Call) → Leaves p (lastCount (p .count) calls) (run p calls)
 run-leaves p w [] = unchanged p w
 run-leaves p w (call ∷ calls) =
     let s = step p w call in

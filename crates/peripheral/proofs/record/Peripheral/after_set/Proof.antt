@@ -1,5 +1,5 @@
 -- `after_set` meets its contract. Assumes nothing.
-use mathlib.Core.Path.{ap, sym, _∙_}
+use mathlib.Core.Path.{_≡_, ap, sym, _∙_}
 use lib.ListN.{getD}
 use borrow.Author.{Tests.{eq-eqb, ne-eqb}, Needs.{needs}}
 use Rattle.peripheral.specs.{Record.{withMode, withToggle, withReset}, Values.{afterSet}}
@@ -35,10 +35,11 @@ unfolding afterSet
 returns-3 c =
     let b = c .before .before in
     let a = b .before .before .before .args in
+    let zero : b .byte .result ≡ 0 = c .if3 .taken in
     rw (
       ne-eqb (a .selector) 0x01 (b .before .if1 .left),
       ne-eqb (a .selector) 0x03 (c .before .if2 .left),
-      eq-eqb (getD (a .payload .now) 0 0) 0 (sym (b .byte .ensures) ∙ c .if3 .taken),
+      eq-eqb (getD (a .payload .now) 0 0) 0 (sym (b .byte .ensures) ∙ zero),
     )
 
 holding-requires-3 : tie.Need-holding-requires-3

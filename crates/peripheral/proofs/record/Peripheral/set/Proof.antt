@@ -5,8 +5,8 @@ use Rattle.peripheral.specs.{Requests.{outcomeOf}, Steps.{setDone}}
 use Rattle.peripheral.proofs.record.Peripheral.set.Statement.{statement}
 use Rattle.peripheral.proofs.record.Peripheral.set.Tie as tie
 
-value-refusal-requires : tie.Need-value-refusal-requires
-value-refusal-requires c κs = search needs
+set-refusal-requires : tie.Need-set-refusal-requires
+set-refusal-requires c κs = search needs
 
 refuse-requires : tie.Need-refuse-requires
 refuse-requires c κs = search needs
@@ -15,7 +15,7 @@ returns : tie.Need-returns
 unfolding setDone
 returns c =
     let v = c .before .before in
-    rw (sym (v .value-refusal .ensures), ne-eqb (v .value-refusal .result) 0 (c .before .if1 .taken)) (c .refuse .ensures)
+    rw (sym (v .set-refusal .ensures), ne-eqb (v .set-refusal .result) 0 (c .before .if1 .taken)) (c .refuse .ensures)
 
 after-set-requires : tie.Need-after-set-requires
 after-set-requires c κs = search needs
@@ -24,10 +24,10 @@ returns-2 : tie.Need-returns-2
 unfolding setDone
 returns-2 c =
     let v = c .before .before in
-    rw (sym (v .value-refusal .ensures), eq-eqb (v .value-refusal .result) 0 (c .before .if1 .left))
+    rw (sym (v .set-refusal .ensures), eq-eqb (v .set-refusal .result) 0 (c .before .if1 .left))
     (ap (outcomeOf 0 0) (c .after-set .ensures))
 
 pub set-spec : {M : Type 1} → statement M
 set-spec =
     tie.close
-    (tie.spec value-refusal-requires refuse-requires returns after-set-requires returns-2)
+    (tie.spec set-refusal-requires refuse-requires returns after-set-requires returns-2)

@@ -1,11 +1,11 @@
 -- `set_count` meets its contract. Assumes nothing.
 use mathlib.Core.{Path.{_≡_, ap, sym, _∙_}, Bool.{true}}
 use borrow.Author.{Tests.{not-true, not-false, lt-ltb, le-ltb}, Needs.{needs}}
-use Rattle.peripheral.specs.{Record.{wellFormed, most}, Requests.{outcomeOf}, Calls.{countCode, counted}}
+use Rattle.peripheral.specs.{Record.{recordWellFormed, most}, Requests.{outcomeOf}, Calls.{countCode, counted}}
 use Rattle.peripheral.proofs.record.Peripheral.set_count.Statement.{statement}
 use Rattle.peripheral.proofs.record.Peripheral.set_count.Tie as tie
 
-formed : (c : tie.Else1) → wellFormed (c .before .before .args .self) ≡ true
+formed : (c : tie.Else1) → recordWellFormed (c .before .before .args .self) ≡ true
 formed c = sym (c .before .well-formed .ensures) ∙ not-false _ (c .if1 .left)
 
 well-formed-requires : tie.Need-well-formed-requires

@@ -1,12 +1,12 @@
--- `value_refusal` meets its contract. Assumes nothing.
+-- `set_refusal` meets its contract. Assumes nothing.
 use mathlib.Core.{Path.{_≡_, ap, sym, _∙_}, Bool.{Bool}}
 use Prim.Native.Nat.{ℕ}
 use native.Mathlib.Omega.{arith}
 use lib.ListN.{getD}
 use borrow.Author.{Tests.{ne-eqb, le-leb, lt-leb}, Needs.{needs}}
-use Rattle.peripheral.specs.{Record.{modeValid}, Values.{payloadMode, valueRefusal}}
-use Rattle.peripheral.proofs.values.value_refusal.Statement.{statement}
-use Rattle.peripheral.proofs.values.value_refusal.Tie as tie
+use Rattle.peripheral.specs.{Record.{modeValid}, Values.{payloadMode, setRefusal}}
+use Rattle.peripheral.proofs.values.set_refusal.Statement.{statement}
+use Rattle.peripheral.proofs.values.set_refusal.Tie as tie
 
 -- the mode that the payload asks for
 tested : (c : tie.After-mode-valid) → let a = c .before .before .before .before .args in
@@ -22,18 +22,18 @@ mode-valid-requires : tie.Need-mode-valid-requires
 mode-valid-requires c κs = search needs
 
 returns : tie.Need-returns
-unfolding valueRefusal
+unfolding setRefusal
 returns c = rw (c .before .before .before .if1 .taken, tested (c .before) ∙ c .if2 .taken)
 
 returns-2 : tie.Need-returns-2
-unfolding valueRefusal
+unfolding setRefusal
 returns-2 c = rw (c .before .before .before .if1 .taken, tested (c .before) ∙ c .if2 .left)
 
 byte-requires : tie.Need-byte-requires
 byte-requires c κs = search needs
 
 returns-3 : tie.Need-returns-3
-unfolding valueRefusal
+unfolding setRefusal
 returns-3 c =
     let a = c .before .before .before .before .args in
     rw (
@@ -42,7 +42,7 @@ returns-3 c =
     )
 
 returns-4 : tie.Need-returns-4
-unfolding valueRefusal
+unfolding setRefusal
 returns-4 c =
     let a = c .before .before .before .before .args in
     rw (
@@ -50,8 +50,8 @@ returns-4 c =
       lt-leb (getD (a .payload .now) 0 0) 1 (omega (arith, c .before .byte .ensures)),
     )
 
-pub value-refusal-spec : {M : Type 1} → statement M
-value-refusal-spec =
+pub set-refusal-spec : {M : Type 1} → statement M
+set-refusal-spec =
     tie.close
     (tie.spec
     le64-requires
