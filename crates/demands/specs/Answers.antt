@@ -109,7 +109,7 @@ pub record CameraSends (c : Camera) (s payload reply full : List ℕ) : Type 0 w
 
 -- A GET's setup for a control of the profile; with no payload and room it is accepted.
 abbrev pub Gets : Profile → List ℕ → Type 0
-Gets p = unit.Gets (p .unit) (p .interface) (has p)
+Gets p = unit.GetSetup (p .unit) (p .interface) (has p)
 
 -- A written snapshot reads back: it is well formed, has the record of every setting held and no other, and each record read as a SET is
 -- that setting again. With room for it, writing leaves these bytes.

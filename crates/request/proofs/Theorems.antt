@@ -11,7 +11,7 @@ use Rattle.request.specs.Setup.{setupType, setupValueLow, setupUnit, set
 use Rattle.request.specs.{Table.{Table}, Answers.{answerBy}}
 use Rattle.request.specs.Tests.{isAddressed, requestTests, valueTests, fullAnswer, sentCount, requestRows, requestCode, testNumber}
 use Rattle.request.specs.Requests.{requestCount, replied, doneBy}
-use Rattle.request.specs.Theorems.{AllOrdered, RequestRefusals, GetSends, Gets, GetAccepted, ElsewhereRefused, LenAnswers}
+use Rattle.request.specs.Theorems.{AllOrdered, RequestRefusals, GetSends, GetSetup, GetAccepted, ElsewhereRefused, LenAnswers}
 use Rattle.request.specs.Theorems.{InfoAnswers, AllUnits}
 use Rattle.request.proofs.Laws.{Tests.{at-tests, at-get, set-replied}, Requests.{result-code, done-code, requested-count}}
 
@@ -76,7 +76,7 @@ get-no-set setup h =
     rw t
 
 -- a GET of a control passes tests 2 to 6
-pub gets-tests : (t : Table) (setup : List ℕ) → Gets (t .unit) (t .interface) (t .present) setup → firstOf (requestTests t setup []) ≡ 0
+pub gets-tests : (t : Table) (setup : List ℕ) → GetSetup (t .unit) (t .interface) (t .present) setup → firstOf (requestTests t setup []) ≡ 0
 unfolding requestTests
 gets-tests t setup g =
     rw (

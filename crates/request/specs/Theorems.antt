@@ -46,7 +46,7 @@ GetSends =
     → Sends t setup payload reply
 
 -- A GET's setup for a control that is present. With no payload, past test 7 and with room for its answer it is accepted.
-pub record Gets (unit interface : ℕ) (present : ℕ → Bool) (setup : List ℕ) : Type 0 where
+pub record GetSetup (unit interface : ℕ) (present : ℕ → Bool) (setup : List ℕ) : Type 0 where
   pub eight : length setup ≡ 8
   pub addresses : isAddressed unit interface setup ≡ true
   pub there : present (setupSelector setup) ≡ true
@@ -55,7 +55,7 @@ pub record Gets (unit interface : ℕ) (present : ℕ → Bool) (setup : List �
 
 abbrev pub GetAccepted : Type 0
 GetAccepted =
-    (t : Table) (setup : List ℕ) (room : ℕ) → t .formed ≡ true → Gets (t .unit) (t .interface) (t .present) setup
+    (t : Table) (setup : List ℕ) (room : ℕ) → t .formed ≡ true → GetSetup (t .unit) (t .interface) (t .present) setup
     → t .state (setupSelector setup) (setupCode setup) ≡ 0 → sentCount t setup ≤ room → requestCode t setup [] room ≡ 0
 
 -- A setup of eight bytes whose wIndex has another unit id or another interface is 0x05, where the record is not 0x21.

@@ -17,7 +17,7 @@ FourControls = (s : ℕ) → hasControl selector.presence s ≡ eqb s 1 || eqb s
 
 -- a setup of GET_CUR of a control, for this unit
 pub record GetsCurrent (p : Peripheral) (s : ℕ) (g : List ℕ) : Type 0 where
-  pub gets : unit.Gets (p .unit) (p .interface) (hasControl selector.presence) g
+  pub gets : unit.GetSetup (p .unit) (p .interface) (hasControl selector.presence) g
   pub control : setupSelector g ≡ s
   pub current : setupCode g ≡ getCur
 
