@@ -6,12 +6,12 @@ use native.Mathlib.Omega.{arith}
 use lib.{Dec.{eqb}, ListN.{length, getD}}
 use borrow.Author.Tests.{eq-eqb, ne-eqb, leb-true}
 use Rattle.snapshot.specs.Keys.{metadataKey, hdrKey, throttleKey}
-use Rattle.wire.specs.{Endpoints.{firstAddress, places}, Numbers.{bytesOf}, Rows.{firstOf}}
+use Rattle.wire.specs.{Endpoints.{firstAddress, places}, Numbers.{bytesOf}}
 use Rattle.wire.specs.Uvc.{setCur, getCur, getLen, getDef, wrongState}
 use Rattle.wire.specs.Selectors as selector
 use Rattle.wire.proofs.Laws.Numbers.{Bytes}
 use Rattle.request.specs.Setup.{setupCode, setupSelector, setupWLength, isSetRequest, isGetRequest}
-use Rattle.request.specs.{Answers.{answerBy}, Tests.{fullAnswer, asked, requestTests, sentCount}}
+use Rattle.request.specs.{Answers.{answerBy}, Tests.{fullAnswer, asked, sentCount}}
 use Rattle.request.proofs.Theorems.{get-no-set, len-answers}
 use Rattle.request.proofs.Theorems as requests
 use Rattle.controls.specs.{declared.HeldNumber.{HeldNumber}, Controls.{numberOr}}

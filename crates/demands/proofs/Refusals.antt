@@ -1,7 +1,7 @@
 -- The owner's demand 1 on the calls that take the record, all at once. Assumes nothing.
 use mathlib.Core.{Path.{_≡_, refl, ap}, List.{List}, Bool.{Bool, true, false, cond}}
 use Prim.Native.Nat.{ℕ}
-use lib.{Dec.{eqb}, IntN.{pos}, ListN.{length}}
+use lib.{IntN.{pos}, ListN.{length}}
 use borrow.Author.Tests.{ne-eqb}
 use Rattle.wire.specs.Uvc.{malformedRecord}
 use Rattle.request.specs.Setup.{setupSelector}

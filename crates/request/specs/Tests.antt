@@ -12,7 +12,7 @@ use Rattle.request.specs.{Table.{Table}, Answers.{answerBy}, Reply.{sent
 abbrev pub isAddressed : (unit interface : ℕ) → List ℕ → Bool
 isAddressed unit interface setup = eqb (setupUnit setup) unit && eqb (setupInterface setup) interface
 
--- test 5: wValue's low byte is 0, and type and code are a SET, which the control len, or a GET
+-- test 5: wValue's low byte is 0, and type and code are a SET, which the control takes, or a GET
 abbrev pub isUnderstood : (settable : Bool) → List ℕ → Bool
 isUnderstood settable setup = eqb (setupValueLow setup) 0 && cond (isSetRequest setup) settable (isGetRequest setup)
 

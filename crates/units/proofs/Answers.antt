@@ -2,13 +2,13 @@
 use mathlib.Core.{Path.{_≡_, refl, ap, ap₂, sym, _∙_, subst}, List.{List, []}, Bool.{Bool, true, false, cond, not, _&&_, _||_, false≢true}}
 use Prim.Native.Nat.{ℕ, zero, suc, _-_, _≤_}
 use native.Mathlib.Omega.{arith}
-use lib.{Dec.{eqb, leb, lit<}, ListN.{length, getD, take, drop}, Seq.{take-all}}
+use lib.{Dec.{eqb, lit<}, ListN.{length, getD}, Seq.{take-all}}
 use borrow.Author.Tests.{eq-eqb, ne-eqb, eqb-true, le-leb, not-true}
 use Rattle.wire.specs.{Numbers.{number, leAt, bytesOf}, Uvc.{getCur, wrongState}}
 use Rattle.wire.proofs.Laws.{Numbers.{Bytes, front}, Bytes.{bytes-at}}
 use Rattle.flags.specs.Flags.{isSet}
 use Rattle.flags.proofs.Laws.Bits.{high-clear}
-use Rattle.request.specs.{Setup.{setupSelector, setupCode, setupWLength, isSetRequest}, Table.{hasControl}, Answers.{answerBy}}
+use Rattle.request.specs.{Setup.{setupSelector, setupCode, isSetRequest}, Table.{hasControl}, Answers.{answerBy}}
 use Rattle.request.specs.Requests.{requestCount}
 use Rattle.request.specs.Tests.{requestTests, fullAnswer, asked, sentCount, requestCode, setAccepted}
 use Rattle.request.proofs.Laws.Tests.{at-unformed, at-state}
@@ -16,7 +16,7 @@ use Rattle.request.proofs.Laws.{Requests.{requested-count, same-code, same-coun
 use Rattle.request.proofs.Laws.Sets.{set-answer, accepted-control, accepted-length}
 use Rattle.request.proofs.Theorems as requests
 use Rattle.peripheral.specs.Selectors as selector
-use Rattle.peripheral.specs.{declared.record.Peripheral.{Peripheral}, Record.{fresh, recordWellFormed, withMode, withToggle, withReset}}
+use Rattle.peripheral.specs.{declared.record.Peripheral.{Peripheral}, Record.{fresh, recordWellFormed}}
 use Rattle.peripheral.specs.Values.{payloadMode, payloadSwitch, payloadLength, infoOf, isSettable, stateRefusal, afterSet, current}
 use Rattle.peripheral.specs.Values.{attribute}
 use Rattle.peripheral.specs.{Requests.{table, outcomeOf, requested}, Calls.{refused, request, outcome, left, next, run}}

@@ -1,5 +1,5 @@
 -- What both units share, and a setup that is another unit's. Assumes nothing.
-use mathlib.Core.{Path.{_≡_, refl, ap, sym, _∙_}, List.{List}, Bool.{true}}
+use mathlib.Core.{Path.{_≡_, refl, sym, _∙_}, List.{List}}
 use Prim.Native.Nat.{ℕ}
 use native.Mathlib.Omega.{arith}
 use lib.ListN.{length}
@@ -7,9 +7,9 @@ use Rattle.wire.specs.Uvc.{invalidUnit}
 use Rattle.request.specs.{Setup.{setupSelector}, Table.{Table}, Tests.{requestCode}, Requests.{requestedBy, replied}}
 use Rattle.request.proofs.Theorems as requests
 use Rattle.settings.specs.Items.{setGives}
-use Rattle.camera.specs.{declared.record.Camera.{Camera}, Record.{puts}}
+use Rattle.camera.specs.Record.{puts}
 use Rattle.camera.specs.Requests as cameras
-use Rattle.peripheral.specs.{declared.record.Peripheral.{Peripheral}, Values.{afterSet}}
+use Rattle.peripheral.specs.Values.{afterSet}
 use Rattle.peripheral.specs.Requests as peripherals
 use Rattle.units.specs.Board.{AllBothUnits, AllOthersRefuse}
 

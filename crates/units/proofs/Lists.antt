@@ -1,8 +1,8 @@
 -- Lists of calls from a fresh unit: none is refused 0x21, and every record that isn't is left by one of them. Assumes nothing.
-use mathlib.Core.{Path.{_≡_, refl, ap, sym, _∙_, subst}, List.{List, [], _∷_}, Bool.{Bool, true, false, cond, _&&_}}
+use mathlib.Core.{Path.{_≡_, refl, ap, sym, _∙_}, List.{List, [], _∷_}, Bool.{Bool, true, false, cond}}
 use Prim.Native.Nat.{ℕ, zero, suc, _/_, _^_, _<_}
 use native.Mathlib.{Nat.{mod-lt}, Omega.{arith}}
-use lib.{Dec.{eqb, leb, lit<}, ListN.{length, getD}}
+use lib.{Dec.{eqb, lit<}, ListN.{length}}
 use borrow.Author.Tests.{eq-eqb, eqb-true, leb-true, not-true}
 use Rattle.wire.specs.{Numbers.{number, leAt, bytesOf}, Uvc.{setCur}}
 use Rattle.wire.proofs.Laws.{Numbers.{Bytes}, Bytes.{length-bytes, number-bytes}}

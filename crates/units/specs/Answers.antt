@@ -1,6 +1,6 @@
 -- Answers of the peripheral unit: what is set reads back, what the reading reads, and what no setting touches.
 use Prim.Native.Nat.{ℕ, _≤_, min}
-use mathlib.Core.{Path.{_≡_}, List.{List, [], _++_}, Bool.{Bool, true, false, _||_}}
+use mathlib.Core.{Path.{_≡_}, List.{List, [], _++_}, Bool.{true, false, _||_}}
 use lib.{Dec.{eqb}, ListN.{length, take, drop}}
 use Rattle.wire.specs.{Numbers.{bytesOf}, Uvc.{getCur}}
 use Rattle.wire.proofs.Laws.Numbers.{Bytes}

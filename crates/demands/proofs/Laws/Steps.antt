@@ -1,19 +1,18 @@
 -- What one call leaves of a well-formed record: the settings that it gives are put in, and the flag is set. Assumes nothing.
-use mathlib.Core.{Path.{_≡_, refl, ap, sym, _∙_, subst}, List.{List, [], _∷_, _++_}, Option.{Option, none, some, Option·elim}}
+use mathlib.Core.{Path.{_≡_, refl, ap, sym, _∙_, subst}, List.{List, [], _++_}, Option.{Option, none, some, Option·elim}}
 use mathlib.Core.Bool.{Bool, true, false, cond, true≢false}
 use Prim.Native.Nat.{ℕ}
-use lib.{Dec.{eqb, ltb, leb}, ListN.{length, drop}}
+use lib.{Dec.{eqb, leb}, ListN.{length, drop}}
 use borrow.Author.Tests.{ne-eqb, eqb-true}
-use Rattle.wire.specs.{Endpoints.{places}, Rows.{Row, _⇒_, firstOf, Quiet}, Uvc.{malformedRecord, noRoom}}
+use Rattle.wire.specs.{Endpoints.{places}, Rows.{Row, firstOf}}
 use Rattle.wire.specs.Selectors as selectors
-use Rattle.request.specs.{Setup.{isSetRequest, setupSelector, setupValueLow, setupWLength}, Table.{Table}}
-use Rattle.request.specs.Tests.{requestTests, valueTests, setAccepted}
+use Rattle.request.specs.{Setup.{isSetRequest, setupSelector}, Tests.{requestTests, valueTests, setAccepted}}
 use Rattle.request.proofs.Laws.{Requests.{result-code}, Sets.{accepted-control, next-record}}
 use Rattle.request.proofs.Laws.Sets as sets
 use Rattle.snapshot.specs.{Keys.{keys, metadataKey, hdrKey}, Records.{decode}, Given.{over, lastOf}}
 use Rattle.controls.specs.declared.{Item.{Item}, Item.the-variants.{Refused, Given}, Setting.{Setting}}
-use Rattle.profile.specs.{declared.Profile.{Profile}, Profile.{has, isSettable, setLength, profileValid, profileRefusal}}
-use Rattle.profile.specs.{Items.{itemCount, profileItem, setRefusal}, KnownControl.{KnownControl, ev, face, metadata, hdr, throttle}}
+use Rattle.profile.specs.{declared.Profile.{Profile}, Profile.{profileValid, profileRefusal}}
+use Rattle.profile.specs.{Items.{itemCount, profileItem}, KnownControl.{KnownControl, ev, face, metadata, hdr, throttle}}
 use Rattle.settings.specs.Items.{givenOf, setGives, putAll}
 use Rattle.settings.proofs.Laws.Kept.{control-kept}
 use Rattle.profile.proofs.Laws.{Profile.{valid-presence}, KnownControl.{control-known}}

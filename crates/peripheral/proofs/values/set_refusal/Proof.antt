@@ -1,5 +1,5 @@
 -- `set_refusal` meets its contract. Assumes nothing.
-use mathlib.Core.{Path.{_≡_, ap, sym, _∙_}, Bool.{Bool}}
+use mathlib.Core.Path.{_≡_, ap, sym, _∙_}
 use Prim.Native.Nat.{ℕ}
 use native.Mathlib.Omega.{arith}
 use lib.ListN.{getD}

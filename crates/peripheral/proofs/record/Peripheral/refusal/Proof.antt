@@ -1,5 +1,5 @@
 -- `refusal` meets its contract. Assumes nothing.
-use mathlib.Core.{Path.{_≡_, ap, ap₂, sym, _∙_}, Bool.{true, cond}}
+use mathlib.Core.{Path.{_≡_, ap, ap₂, sym, _∙_}, Bool.{cond}}
 use lib.Dec.{eqb}
 use borrow.Author.{Tests.{eq-eqb, ne-eqb, not-true, not-false}, Needs.{needs}}
 use Rattle.wire.specs.Rows.{firstOf}
