@@ -1,6 +1,7 @@
 #!/bin/sh
-# Compares every public call with the same rules in C: proves and archives the crate of loops (perf/probe), links it with the peer, holds the two
-# to each other on random inputs, and prints how many instructions a call takes on each side; the times instead where valgrind is missing.
+# Compares every public call but the peripheral unit's with the same rules in C: proves and archives the crate of loops (perf/probe), links it
+# with the peer, holds the two to each other on random inputs, and prints how many instructions a call takes on each side; the times instead
+# where valgrind is missing.
 # `run.sh --unproved` proves nothing and takes a minute: for trying a shape. It also has the loops of perf/unproved, which take a proof by hand.
 # It is no part of the gate, and the loops are no crate of the project: their files have names that `rt` passes over, and they are proved in a copy
 # below target/. What `rt` has proved before is not proved again. CC names the C compiler; the peer is built with -O2.
@@ -9,7 +10,7 @@ out=target/perf
 tree=$out/tree
 rm -rf "$tree/crates" && mkdir -p "$tree/crates" "$tree/target/rlib" "$tree/target/stamp" || exit 2
 # The libraries: all crates but the theorems, the programs and what they print with.
-sed '/^#/d; /^demands:/d; / io /d; / printing /d' crates.txt >"$tree/crates.txt"
+sed '/^#/d; /^demands:/d; /^units:/d; / io /d; / printing /d' crates.txt >"$tree/crates.txt"
 names=$(sed 's/:.*//' "$tree/crates.txt" | tr '\n' ' ')
 echo "probe: $names" >>"$tree/crates.txt"
 for name in $names; do cp -r "crates/$name" "$tree/crates/" || exit 2; done
