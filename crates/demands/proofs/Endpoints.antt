@@ -1,17 +1,17 @@
 -- Request #107, up to fifteen endpoints; specs/Endpoints has the statements. Assumes nothing.
 use mathlib.Core.{Path.{_≡_, refl, ap, sym, _∙_}, List.{List, [], _∷_, _++_}, Option.{some}}
-use mathlib.Core.Bool.{Bool, true, false, cond, not, _&&_, and-eq-true-iff}
-use Prim.Native.Nat.{ℕ, _-_, _≤_, _<_}
+use mathlib.Core.Bool.{Bool, true, false, cond}
+use Prim.Native.Nat.{ℕ, _-_, _≤_}
 use native.Mathlib.Omega.{arith}
-use lib.{Dec.{eqb, ltb}, ListN.{length, getD, drop}, Seq.{getD-drop}}
-use borrow.Author.Tests.{ltb-true, not-false, eq-eqb, ne-eqb}
-use Rattle.wire.specs.{Endpoints.{endpointLimit}, Numbers.{number, leAt, bytesOf, bits32}, Rows.{_⇒_, allBelow}}
-use Rattle.wire.specs.Uvc.{malformedRecord, noRoom, outOfRange}
+use lib.{Dec.{eqb}, ListN.{length, getD, drop}, Seq.{getD-drop}}
+use borrow.Author.Tests.{eq-eqb, ne-eqb}
+use Rattle.wire.specs.{Endpoints.{endpointLimit}, Numbers.{number, leAt, bytesOf, bits32}, Rows.{allBelow}}
+use Rattle.wire.specs.Uvc.{outOfRange}
 use Rattle.wire.specs.Selectors as selector
-use Rattle.wire.proofs.Laws.Rows.{last-answers}
+use Rattle.request.proofs.Theorems.{ninth}
 use Rattle.flags.specs.Flags.{isSet, bitsOf, count, first, oneFlag}
 use Rattle.request.specs.{Setup.{isSetRequest, setupSelector, setupCode}, Answers.{answerBy, longestAnswer}}
-use Rattle.request.specs.Tests.{requestTests, valueTests, fullAnswer, sentCount, requestRows, requestCode, testNumber, tableRefusal}
+use Rattle.request.specs.Tests.{requestTests, valueTests, fullAnswer, requestRows, requestCode, testNumber, tableRefusal}
 use Rattle.snapshot.specs.Records.{records, encode, IsRecord, KeyedRecord}
 use Rattle.snapshot.proofs.Laws.Entries.{each-record, each-at}
 use Rattle.controls.specs.Controls.{itemOf, itemCode, firstRefusal}
@@ -58,15 +58,9 @@ module _ (c : Camera) (w : recordWellFormed c ≡ true) where
   -- test 9 holds, and no test before it: then there are fewer bytes than an answer has
   reply-suffices : (setup payload reply : List ℕ) → longestAnswer ≤ length reply
       → testNumber (table c) setup payload (length reply) ≡ some 9 → ⊥
-  unfolding testNumber requestRows requestTests valueTests
   reply-suffices setup payload reply h e =
-      let t = table c in
-      let q =
-      last-answers 1 ((not (t .formed) ⇒ malformedRecord) ∷ requestTests t setup payload ++ valueTests t setup payload)
-      (not (isSetRequest setup) && ltb (length reply) (sentCount t setup)) noRoom e in
-      let short : length reply < sentCount t setup = ltb-true _ _ (and-eq-true-iff (not (isSetRequest setup)) _ .0 (q .1) .1) in
-      let there = not-false (has (c .profile) (setupSelector setup)) (q .0 .1 .1 .1 .0) in
-      omega (arith, answer-short (setupSelector setup) (setupCode setup) there)
+      let q = ninth (table c) setup payload (length reply) e in
+      omega (arith, answer-short (setupSelector setup) (setupCode setup) (q .0), q .1)
 
   payload-short : (setup payload reply : List ℕ) → isSetRequest setup ≡ true → setupSelector setup ≡ selector.face
       → outcome c (request setup payload reply) .code ≡ 0 → length payload ≤ longestAnswer

@@ -1,13 +1,13 @@
 -- What holds of every unit's requests. Assumes nothing.
-use mathlib.Core.{Path.{_≡_, refl, subst, sym, _∙_}, List.{List, [], _∷_}, Option.{none}}
-use mathlib.Core.Bool.{Bool, true, false, cond, _&&_, and-eq-true-iff}
-use Prim.Native.Nat.{ℕ, suc}
+use mathlib.Core.{Path.{_≡_, refl, subst, sym, _∙_}, List.{List, [], _∷_, _++_}, Option.{none, some}}
+use mathlib.Core.Bool.{Bool, true, false, cond, not, _&&_, and-eq-true-iff}
+use Prim.Native.Nat.{ℕ, suc, _<_}
 use native.Mathlib.Omega.{arith}
-use lib.{Dec.{eqb}, ListN.{length}}
-use borrow.Author.Tests.{eq-eqb, ne-eqb, eqb-true, le-ltb}
-use Rattle.wire.specs.{Rows.{Row, _⇒_, firstOf, firstFrom, AnswersAt, Quiet}, Uvc.{invalidUnit}}
-use Rattle.wire.proofs.Laws.Rows.{Coded, quiet-own, own-coded, answers-at, answers-none}
-use Rattle.request.specs.Setup.{setupType, setupValueLow, setupUnit, setupInterface, isSetRequest, isGetRequest}
+use lib.{Dec.{eqb, ltb}, ListN.{length}}
+use borrow.Author.Tests.{eq-eqb, ne-eqb, eqb-true, le-ltb, ltb-true, not-false}
+use Rattle.wire.specs.{Rows.{Row, _⇒_, firstOf, firstFrom, AnswersAt, Quiet}, Uvc.{invalidUnit, malformedRecord, noRoom}}
+use Rattle.wire.proofs.Laws.Rows.{Coded, quiet-own, own-coded, answers-at, answers-none, last-answers}
+use Rattle.request.specs.Setup.{setupType, setupValueLow, setupSelector, setupUnit, setupInterface, isSetRequest, isGetRequest}
 use Rattle.request.specs.{Table.{Table}, Answers.{answerBy}}
 use Rattle.request.specs.Tests.{isAddressed, requestTests, valueTests, fullAnswer, sentCount, requestRows, requestCode, testNumber}
 use Rattle.request.specs.Requests.{requestCount, replied, doneBy}
@@ -67,6 +67,16 @@ refusals t setup payload reply n = let e = ne-eqb (requestCode t setup payload (
 pub get-sends : GetSends
 unfolding requestCount replied
 get-sends t setup payload reply g e = record { count = rw (eq-eqb _ 0 e, g); buffer = rw (eq-eqb _ 0 e, g) }
+
+-- where test 9 answers, the control is there and the buffer is shorter than what is to be sent
+pub ninth : (t : Table) (setup payload : List ℕ) (room : ℕ) → testNumber t setup payload room ≡ some 9
+    → (t .present (setupSelector setup) ≡ true) × (room < sentCount t setup)
+unfolding testNumber requestRows requestTests valueTests
+ninth t setup payload room e =
+    let q =
+    last-answers 1 ((not (t .formed) ⇒ malformedRecord) ∷ requestTests t setup payload ++ valueTests t setup payload)
+    (not (isSetRequest setup) && ltb room (sentCount t setup)) noRoom e in
+    (not-false _ (q .0 .1 .1 .1 .0), ltb-true _ _ (and-eq-true-iff (not (isSetRequest setup)) _ .0 (q .1) .1))
 
 -- a GET is no SET
 pub get-no-set : (setup : List ℕ) → isGetRequest setup ≡ true → isSetRequest setup ≡ false

@@ -5,7 +5,7 @@ use native.Mathlib.Omega.{arith}
 use lib.{Dec.{eqb, lit<}, ListN.{length, getD}, Seq.{take-all}}
 use borrow.Author.Tests.{eq-eqb, ne-eqb, eqb-true, le-leb, not-true}
 use Rattle.wire.specs.{Numbers.{number, leAt, bytesOf}, Uvc.{getCur, wrongState}}
-use Rattle.wire.proofs.Laws.{Numbers.{Bytes, front}, Bytes.{bytes-at}}
+use Rattle.wire.proofs.Laws.{Numbers.{Bytes, front}, Bytes.{length-bytes, bytes-at}}
 use Rattle.flags.specs.Flags.{isSet}
 use Rattle.flags.proofs.Laws.Bits.{high-clear}
 use Rattle.request.specs.{Setup.{setupSelector, setupCode, isSetRequest}, Table.{hasControl}, Answers.{answerBy}}
@@ -20,8 +20,10 @@ use Rattle.peripheral.specs.{declared.record.Peripheral.{Peripheral}, Record.{f
 use Rattle.peripheral.specs.Values.{payloadMode, payloadSwitch, payloadLength, infoOf, isSettable, stateRefusal, afterSet, current}
 use Rattle.peripheral.specs.Values.{attribute}
 use Rattle.peripheral.specs.{Requests.{table, outcomeOf, requested}, Calls.{refused, request, outcome, left, next, run}}
-use Rattle.units.specs.Answers.{FourControls, GetsCurrent, SendsAnswer, Answers, ReadsBack, SetThenGet, ReadingAfter, SameUnit}
-use Rattle.units.specs.Answers.{AnsweredAlike, FixedAnswers}
+use Rattle.peripheral.specs.Steps.{answerNumber, answerLength}
+use Rattle.peripheral.proofs.Laws.Answers.{answer-bytes, answer-most}
+use Rattle.units.specs.Answers.{FourControls, GetsCurrent, SendsAnswer, Answers, ReadsBack, SetThenGet, EightSuffice, ReadingAfter}
+use Rattle.units.specs.Answers.{SameUnit, AnsweredAlike, FixedAnswers}
 use Rattle.units.specs.Lists.{lastCount}
 use Rattle.units.proofs.{Refusals.{code-is}, Lists.{fresh-formed}}
 use Rattle.units.proofs.Laws.Steps.{request-next, step, run-leaves}
@@ -48,6 +50,14 @@ four-controls (suc (suc (suc (suc (suc (suc (suc n))))))) = above (suc (suc (suc
           ne-eqb s 4 (λ e. omega arith),
           ne-eqb s 6 (λ e. omega arith),
         )
+
+pub eight-suffice : EightSuffice
+eight-suffice p setup payload reply h e =
+    let s = setupSelector setup in
+    let code = setupCode setup in
+    let n : length (asked (table p) setup) ≡ answerLength s code =
+    ap length (sym (answer-bytes p s code)) ∙ length-bytes (answerLength s code) (answerNumber p s code) in
+    omega (arith, requests.ninth (table p) setup payload (length reply) e .1, n, answer-most s code)
 
 -- GET_CUR's full answer is the number that is current
 current-answer : (p : Peripheral) (s : ℕ) → fullAnswer (table p) s getCur ≡ bytesOf (payloadLength s) (current p s)

@@ -1,14 +1,14 @@
 -- Answers of the peripheral unit: what is set reads back, what the reading reads, and what no setting touches.
 use Prim.Native.Nat.{ℕ, _≤_, min}
-use mathlib.Core.{Path.{_≡_}, List.{List, [], _++_}, Bool.{true, false, _||_}}
+use mathlib.Core.{Path.{_≡_}, List.{List, [], _++_}, Option.{some}, Bool.{true, false, _||_}}
 use lib.{Dec.{eqb}, ListN.{length, take, drop}}
 use Rattle.wire.specs.{Numbers.{bytesOf}, Uvc.{getCur}}
 use Rattle.wire.proofs.Laws.Numbers.{Bytes}
-use Rattle.request.specs.{Setup.{setupSelector, setupCode, setupWLength, isSetRequest}, Table.{hasControl}}
+use Rattle.request.specs.{Setup.{setupSelector, setupCode, setupWLength, isSetRequest}, Table.{hasControl}, Tests.{testNumber}}
 use Rattle.request.specs.Theorems as unit
 use Rattle.peripheral.specs.Selectors as selector
 use Rattle.peripheral.specs.{declared.record.Peripheral.{Peripheral}, Record.{fresh, recordWellFormed}, Values.{payloadSwitch}}
-use Rattle.peripheral.specs.{Requests.{outcomeOf}, Calls.{Call, request, outcome, left, next, refused, run}}
+use Rattle.peripheral.specs.{Requests.{table, outcomeOf}, Calls.{Call, request, outcome, left, next, refused, run}}
 use Rattle.units.specs.Lists.{lastCount}
 
 -- selectors 1, 3, 4 and 6 are there, and no other
@@ -44,6 +44,11 @@ abbrev pub SetThenGet : Type 0
 SetThenGet =
     (p : Peripheral) (setup payload reply : List ℕ) → Bytes payload → isSetRequest setup ≡ true
     → outcome p (request setup payload reply) .code ≡ 0 → ReadsBack p setup payload reply
+
+-- With eight bytes of reply test 9 refuses no request.
+abbrev pub EightSuffice : Type 0
+EightSuffice =
+    (p : Peripheral) (setup payload reply : List ℕ) → 8 ≤ length reply → testNumber (table p) setup payload (length reply) ≡ some 9 → ⊥
 
 -- The reading after any list of calls from fresh, whatever refused counts, toggling, SETs and restarts lie between: with the toggle 1 the
 -- last count that was taken, or 0 if there was none; with the toggle 0 it is 0x02, whatever the room.
