@@ -1,7 +1,7 @@
 -- Document 01, "The five controls": what a GET of a control answers, by profile and settings.
 use Prim.Native.Nat.{ℕ}
 use mathlib.Core.{List.{List}, Bool.{cond}}
-use lib.Dec.{eqb}
+use lib.{Dec.{eqb}, ListN.{length}}
 use Rattle.wire.specs.{Numbers.{bytesOf}, Selectors.{ev, face, metadata, hdr}}
 use Rattle.request.specs.Answers.{answerBy}
 use Rattle.exposure.specs.Exposure.{evAttribute, evBytes}
@@ -10,7 +10,7 @@ use Rattle.metadata.specs.Metadata.{metadataAttribute, metadataInfo}
 use Rattle.hdr.specs.Hdr.{hdrAttribute}
 use Rattle.throttle.specs.Throttle.{throttleAttribute, throttleBytes}
 use Rattle.profile.specs.{declared.Profile.{Profile}, Profile.{payloadLength}}
-use Rattle.settings.specs.declared.settings.Settings.{Settings}
+use Rattle.settings.specs.{declared.settings.Settings.{Settings}, Settings.{noSettings}}
 
 -- INFO's byte
 abbrev pub infoOf : Profile → ℕ → ℕ
@@ -28,3 +28,7 @@ valueOf p s selector code =
 -- the full answer
 unfoldable pub controlAnswer : Profile → Settings → ℕ → ℕ → List ℕ
 controlAnswer p s selector code = answerBy code (payloadLength p selector) (infoOf p selector) (valueOf p s selector code)
+
+-- how long it is: as long as while no setting is held (`length-fixed` of proofs/Laws/Answering)
+abbrev pub answerLength : Profile → ℕ → ℕ → ℕ
+answerLength p selector code = length (controlAnswer p noSettings selector code)

@@ -17,7 +17,7 @@ ghost use Prim.Native.Nat.{_≤_};
 ghost use Rattle.request.specs.Table.{hasControl};
 ghost use Rattle.profile.specs.Items.{profileItem};
 ghost use Rattle.profile.specs.Profile.{has, presenceValid, profileValid, isSettable, profileRefusal, setLength, extensionUnit};
-ghost use Rattle.profile.specs.Profile.{profileControl};
+ghost use Rattle.profile.specs.Profile.{payloadLength, profileControl};
 
 // `controls` has bit s - 1 for the control of selector s, as bmControls has.
 pub struct Profile {
@@ -84,16 +84,7 @@ fn set_length(p: Profile, selector: u8, payload: &[u8]) -> usize
     if selector == selectors::FACE {
         return entries::set_length(p.face, payload);
     }
-    if selector == selectors::EV {
-        return 11;
-    }
-    if selector == selectors::METADATA {
-        return 4;
-    }
-    if selector == selectors::HDR {
-        return 4;
-    }
-    20
+    p.payload_length(selector)
 }
 
 impl Profile {
@@ -126,6 +117,25 @@ impl Profile {
             settable: is_settable(self, selector),
             len: set_length(self, selector, payload),
         }
+    }
+
+    // The length of a control's payload, of face authentication the longest; LEN's number.
+    pub fn payload_length(self, selector: u8) -> usize
+        ensures { λ r. ⌜ r ≡ payloadLength self selector ⌝ }
+    {
+        if selector == selectors::EV {
+            return 11;
+        }
+        if selector == selectors::FACE {
+            return 1 + 8 * face::endpoints_of(self.face);
+        }
+        if selector == selectors::METADATA {
+            return 4;
+        }
+        if selector == selectors::HDR {
+            return 4;
+        }
+        20
     }
 
     // The number of a SET that is refused whatever its payload: the control is absent, or read only; else 0.

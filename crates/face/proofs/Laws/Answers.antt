@@ -30,17 +30,25 @@ module _ (l : FaceLimits) (held : List ℕ) (code : ℕ) where
       let n : 1 + 8 * i ≡ length s = omega (arith, length-entries i) in
       rw (e, n, add-one i) (append blank s (entryOf (addressAt l i) (flagsAt l held code i)))
 
-  pub value-length : endpointsOf l ≤ endpointLimit → length (faceValue l held code) ≤ longestAnswer
+  pub value-length : length (faceValue l held code) ≡ cond (eqb code getMin || eqb code getRes) 1 (1 + 8 * endpointsOf l)
   unfolding faceValue
-  value-length h = go (eqb code getMin || eqb code getRes)
+  value-length = go (eqb code getMin || eqb code getRes)
     where
-      go : (b : Bool) → length (cond b (0 ∷ []) (endpointsOf l ∷ entriesOf l held code (endpointsOf l))) ≤ longestAnswer
-      go true = lit≤ tt
+      go : (b : Bool)
+          → length (cond b (0 ∷ []) (endpointsOf l ∷ entriesOf l held code (endpointsOf l))) ≡ cond b 1 (1 + 8 * endpointsOf l)
+      go true = refl
       go false = omega (arith, length-entries (endpointsOf l))
+
+  pub value-fits : endpointsOf l ≤ endpointLimit → length (faceValue l held code) ≤ longestAnswer
+  value-fits h = rw value-length (go (eqb code getMin || eqb code getRes))
+    where
+      go : (b : Bool) → cond b 1 (1 + 8 * endpointsOf l) ≤ longestAnswer
+      go true = lit≤ tt
+      go false = omega arith
 
   pub answer-fits : endpointsOf l ≤ endpointLimit → length (faceAnswer l held code) ≤ longestAnswer
   unfolding faceAnswer
-  answer-fits h = answer-length code (1 + 8 * endpointsOf l) 0x03 (faceValue l held code) longestAnswer (lit≤ tt) (value-length h)
+  answer-fits h = answer-length code (1 + 8 * endpointsOf l) 0x03 (faceValue l held code) longestAnswer (lit≤ tt) (value-fits h)
 
 -- while no setting is held CUR is DEF
 module _ (l : FaceLimits) (held : List ℕ) (none : (address : ℕ) → heldAt held address ≡ 0) where

@@ -8,13 +8,13 @@ use Rattle.wire.specs.Endpoints.{endpointLimit}
 use Rattle.request.specs.Answers.{answerBy, packed, longestAnswer}
 use Rattle.face.specs.Answers.{faceAnswer, faceValue}
 use Rattle.request.proofs.Laws.Packed.{unpack-room, unpack, unpack-length}
-use Rattle.face.proofs.Laws.Answers.{value-length}
+use Rattle.face.proofs.Laws.Answers.{value-fits}
 use Rattle.face.proofs.answers.answer.Statement.{statement}
 use Rattle.face.proofs.answers.answer.Tie as tie
 
 -- the value is as long as it may be
 fits : (c : tie.After-value) → length (faceValue (c .before .args .l) (c .before .args .held) (c .before .args .code)) ≤ longestAnswer
-fits c = let places : length (c .before .args .l .addresses) ≡ endpointLimit = search needs in value-length _ _ _ (omega arith)
+fits c = let places : length (c .before .args .l .addresses) ≡ endpointLimit = search needs in value-fits _ _ _ (omega arith)
 
 value-requires : tie.Need-value-requires
 value-requires c κs = search needs
