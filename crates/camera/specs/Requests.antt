@@ -1,10 +1,11 @@
 -- Document 01, "Requests and the order of tests", on a camera: `request` has the tests, over the camera's table.
 use Prim.Native.Nat.{ℕ}
-use mathlib.Core.{List.{List}, Bool.{Bool, cond, not, _&&_}}
+use mathlib.Core.{List.{List, []}, Bool.{Bool, cond, not, _&&_}}
 use lib.Dec.{eqb}
 use Rattle.wire.specs.{Selectors.{throttle}, Uvc.{setCur, wrongState}}
-use Rattle.request.specs.{Setup.{setupSelector}, Table.{Table}, Tests.{fullAnswer, tableRefusal, requestCode}}
+use Rattle.request.specs.{Setup.{setupSelector}, Table.{Table}, Tests.{fullAnswer, tableRefusal, requestCode, setAccepted}}
 use Rattle.request.specs.Requests.{replied, resultBy, doneBy}
+use Rattle.controls.specs.declared.Setting.{Setting}
 use Rattle.profile.specs.{declared.Profile.{Profile}, Profile.{has, isSettable, setLength, payloadLength}, Items.{setRefusal}}
 use Rattle.settings.specs.{declared.settings.Settings.{Settings}, Settings.{noSettings}, Kept.{settingsWellFormed}, Items.{setGives}}
 use Rattle.answering.specs.Answering.{infoOf, valueOf}
@@ -44,6 +45,14 @@ cameraAnswer c = fullAnswer (table c)
 -- the number of a SET before its payload is looked at: the control is there, takes a SET, and streams if it is the throttle
 abbrev pub controlRefusal : Profile → Bool → ℕ → ℕ
 controlRefusal p streaming = tableRefusal (rules p streaming)
+
+-- a SET is accepted by tests 2 to 8, with the profile and the flag at that place; they look at no setting that is held
+abbrev pub acceptsSet : Profile → Bool → List ℕ → List ℕ → Bool
+acceptsSet p streaming = setAccepted (rules p streaming)
+
+-- the settings that a request gives: an accepted SET's; none where it is refused or sets nothing
+unfoldable pub requestGives : Profile → Bool → List ℕ → List ℕ → List (ℕ × Setting)
+requestGives p streaming setup payload = cond (acceptsSet p streaming setup payload) (setGives p (setupSelector setup) payload) []
 
 -- the number of a request; `room` is the length of the reply buffer
 abbrev pub requestedCode : Camera → List ℕ → List ℕ → ℕ → ℕ

@@ -4,3 +4,4 @@ pub mod Tests
 pub mod Reply
 pub mod Requests
 pub mod Sets
+pub mod Rooms

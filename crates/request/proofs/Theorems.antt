@@ -5,40 +5,15 @@ use Prim.Native.Nat.{ℕ, suc, _<_}
 use native.Mathlib.Omega.{arith}
 use lib.{Dec.{eqb, ltb}, ListN.{length}}
 use borrow.Author.Tests.{eq-eqb, ne-eqb, eqb-true, le-ltb, ltb-true, not-false}
-use Rattle.wire.specs.{Rows.{Row, _⇒_, firstOf, firstFrom, AnswersAt, Quiet}, Uvc.{invalidUnit, malformedRecord, noRoom}}
-use Rattle.wire.proofs.Laws.Rows.{Coded, quiet-own, own-coded, answers-at, answers-none, last-answers}
+use Rattle.wire.specs.{Rows.{Row, _⇒_, firstOf, firstFrom, AnswersAt}, Uvc.{invalidUnit, malformedRecord, noRoom}}
+use Rattle.wire.proofs.Laws.Rows.{answers-at, answers-none, last-answers}
 use Rattle.request.specs.Setup.{setupType, setupValueLow, setupSelector, setupUnit, setupInterface, isSetRequest, isGetRequest}
 use Rattle.request.specs.{Table.{Table}, Answers.{answerBy}}
 use Rattle.request.specs.Tests.{isAddressed, requestTests, valueTests, fullAnswer, sentCount, requestRows, requestCode, testNumber}
 use Rattle.request.specs.Requests.{requestCount, replied, doneBy}
 use Rattle.request.specs.Theorems.{AllOrdered, RequestRefusals, GetSends, GetSetup, GetAccepted, ElsewhereRefused, LenAnswers}
 use Rattle.request.specs.Theorems.{InfoAnswers, AllUnits}
-use Rattle.request.proofs.Laws.{Tests.{at-tests, at-get, set-replied}, Requests.{result-code, done-code, requested-count}}
-
-module _ (t : Table) (setup payload : List ℕ) (room : ℕ) where
-  abbrev rows : List Row
-  rows = requestRows t setup payload room
-
-  rows-coded : Coded rows
-  unfolding requestRows requestTests valueTests
-  rows-coded = (
-    λ h e. omega arith,
-    (
-      λ h e. omega arith,
-      (
-        λ h e. omega arith,
-        (
-          λ h e. omega arith,
-          (λ h e. omega arith, (λ h e. omega arith, (own-coded _, (own-coded _, (λ h e. omega arith, tt))))),
-        ),
-      ),
-    ),
-  )
-
-  -- no test fails where the number is 0
-  pub request-quiet : requestCode t setup payload room ≡ 0 → Quiet rows
-  unfolding requestCode
-  request-quiet = quiet-own rows rows-coded
+use Rattle.request.proofs.Laws.{Tests.{at-tests, at-get, request-quiet, set-replied}, Requests.{result-code, done-code, requested-count}}
 
 -- no row's place is found where none answers
 none-answers : (k : ℕ) (l : List Row) → firstFrom k l ≡ none → firstOf l ≡ 0
@@ -52,12 +27,12 @@ ordered t setup payload room = record {
   nine = refl;
   numbers = refl;
   answered = λ i e.
-      let r = answers-at 1 (rows t setup payload room) (suc i) e in
+      let r = answers-at 1 (requestRows t setup payload room) (suc i) e in
       let q : r .0 ≡ i = omega (arith, r .1 .0) in
-      subst (AnswersAt (rows t setup payload room)) q (r .1 .1);
-  from-one = λ e. let r = answers-at 1 (rows t setup payload room) 0 e in omega (arith, r .1 .0);
-  accepted = λ e. answers-none 1 (rows t setup payload room) (request-quiet t setup payload room e);
-  none-fails = none-answers 1 (rows t setup payload room);
+      subst (AnswersAt (requestRows t setup payload room)) q (r .1 .1);
+  from-one = λ e. let r = answers-at 1 (requestRows t setup payload room) 0 e in omega (arith, r .1 .0);
+  accepted = λ e. answers-none 1 (requestRows t setup payload room) (request-quiet t setup payload room e);
+  none-fails = none-answers 1 (requestRows t setup payload room);
 }
 
 pub refusals : RequestRefusals

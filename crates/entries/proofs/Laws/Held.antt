@@ -3,7 +3,7 @@ use mathlib.Core.{Path.{_≡_, refl, ap, _∙_}, List.{List}, Bool.{Bool, true, 
 use Prim.Native.Nat.{ℕ, suc, _+_, _-_, _≤_, _<_}
 use native.Mathlib.Omega.{arith}
 use lib.{Dec.{leb, eqb}, ListN.{length, getD, set, length-set}, Seq.{getD-set-same, getD-set-other}}
-use borrow.Author.Tests.{eqb-true, eqb-false, leb-true, leb-false}
+use borrow.Author.Tests.{eqb-true, eqb-false, le-leb, leb-true}
 use Rattle.wire.specs.Endpoints.{firstAddress}
 use Rattle.face.specs.{declared.limits.FaceLimits.{FaceLimits}, Limits.{addressAt, offersAt, offersFrom, offersOf}}
 use Rattle.entries.specs.Entries.{flagsKept, settingRefusal, faceKept, putFace}
@@ -17,21 +17,27 @@ length-put held address flags = go (leb firstAddress address)
     go true = simp length-set
     go false = refl
 
+-- at another address nothing changes
+pub put-elsewhere : (held : List ℕ) (address flags k : ℕ) → (address ≡ firstAddress + k → ⊥)
+    → getD (putFace held address flags) k 0 ≡ getD held k 0
+unfolding putFace
+put-elsewhere held address flags k n = go (leb firstAddress address) refl
+  where
+    go : (b : Bool) → leb firstAddress address ≡ b → getD (cond b (set held (address - firstAddress) flags) held) k 0 ≡ getD held k 0
+    go true p = getD-set-other held (address - firstAddress) k flags 0 (λ e. n (omega (arith, leb-true firstAddress address p)))
+    go false p = refl
+
 pub put-at : (held : List ℕ) (address flags k : ℕ) → k < length held
     → getD (putFace held address flags) k 0 ≡ cond (eqb address (firstAddress + k)) flags (getD held k 0)
 unfolding putFace
-put-at held address flags k h = go (leb firstAddress address) (eqb address (firstAddress + k)) refl refl
+put-at held address flags k h = go (eqb address (firstAddress + k)) refl
   where
-    go : (a b : Bool) → leb firstAddress address ≡ a → eqb address (firstAddress + k) ≡ b
-        → getD (cond a (set held (address - firstAddress) flags) held) k 0 ≡ cond b flags (getD held k 0)
-    go true true p q =
-        let e : address - firstAddress ≡ k = omega (arith, eqb-true address (firstAddress + k) q) in
-        rw e (getD-set-same held k flags 0 h)
-    go true false p q =
-        let f = eqb-false address (firstAddress + k) q in
-        getD-set-other held (address - firstAddress) k flags 0 (λ e. f (omega (arith, leb-true firstAddress address p)))
-    go false true p q = absurd (omega (arith, leb-false firstAddress address p, eqb-true address (firstAddress + k) q))
-    go false false p q = refl
+    go : (b : Bool) → eqb address (firstAddress + k) ≡ b → getD (putFace held address flags) k 0 ≡ cond b flags (getD held k 0)
+    go true q =
+        let a = eqb-true address (firstAddress + k) q in
+        let e : address - firstAddress ≡ k = omega arith in
+        rw (le-leb firstAddress address (omega arith), e) (getD-set-same held k flags 0 h)
+    go false q = put-elsewhere held address flags k (eqb-false address (firstAddress + k) q)
 
 -- offers laid by address, from the last place listed to the first: place i - 1 after place i
 pub table-next : (l : FaceLimits) (n i : ℕ) (t : List ℕ) (k : ℕ) → 0 < i → i ≤ n → k < length t

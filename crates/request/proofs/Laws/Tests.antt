@@ -4,8 +4,8 @@ use Prim.Native.Nat.{ℕ}
 use native.Mathlib.Omega.{arith}
 use lib.{Dec.{eqb, ltb, leb}, ListN.{length}}
 use borrow.Author.Tests.{eq-eqb, ne-eqb, eqb-true, eqb-false, le-ltb, lt-ltb, leb-true, leb-false}
-use Rattle.wire.specs.{Rows.{Row, _⇒_, answers, firstOf}, Uvc.{malformedRecord, noRoom}}
-use Rattle.wire.proofs.Laws.Rows.{first-append, answers-number, Avoids, avoided}
+use Rattle.wire.specs.{Rows.{Row, _⇒_, answers, firstOf, Quiet}, Uvc.{malformedRecord, noRoom}}
+use Rattle.wire.proofs.Laws.Rows.{Coded, first-append, quiet-own, own-coded, answers-number, Avoids, avoided}
 use Rattle.request.specs.{Setup.{setupSelector, setupCode, setupWLength, isSetRequest}, Table.{Table}}
 use Rattle.request.specs.Tests.{requestTests, valueTests, admission, asked, sentCount, requestRows, requestCode}
 use Rattle.request.specs.Reply.{sentOf, replyOf}
@@ -59,6 +59,27 @@ module _ (t : Table) (setup payload : List ℕ) where
   module _ (room : ℕ) where
     abbrev last : Row
     last = not (isSetRequest setup) && ltb room (sentCount t setup) ⇒ noRoom
+
+    rows-coded : Coded (requestRows t setup payload room)
+    unfolding requestRows requestTests valueTests
+    rows-coded = (
+      λ h e. omega arith,
+      (
+        λ h e. omega arith,
+        (
+          λ h e. omega arith,
+          (
+            λ h e. omega arith,
+            (λ h e. omega arith, (λ h e. omega arith, (own-coded _, (own-coded _, (λ h e. omega arith, tt))))),
+          ),
+        ),
+      ),
+    )
+
+    -- no test fails where the number is 0
+    pub request-quiet : requestCode t setup payload room ≡ 0 → Quiet (requestRows t setup payload room)
+    unfolding requestCode
+    request-quiet = quiet-own (requestRows t setup payload room) rows-coded
 
     pub at-unformed : t .formed ≡ false → requestCode t setup payload room ≡ malformedRecord
     unfolding requestCode requestRows

@@ -1,11 +1,11 @@
 -- Settings that a SET gives keep the record's rules. Assumes nothing.
 use mathlib.Core.{Path.{_≡_, refl, ap, sym, _∙_, subst}, List.{List, [], _∷_, _++_}, Option.{Option, none, some}}
 use mathlib.Core.Bool.{Bool, true, false, cond, not, _&&_, true≢false, and-eq-true-iff}
-use Prim.Native.Nat.{ℕ, zero, suc, _<_}
+use Prim.Native.Nat.{ℕ, zero, suc, _+_, _-_, _≤_, _<_}
 use native.Mathlib.Omega.{arith}
-use lib.{Dec.{eqb, leb}, ListN.{length}}
-use borrow.Author.Tests.{eq-eqb, eqb-true, eqb-false, leb-true, leb-false}
-use Rattle.wire.specs.{Endpoints.{places}, Numbers.{leAt}, Rows.{Row, _⇒_, Quiet, allBelow}, Uvc.{outOfRange, invalidValue, wrongState}}
+use lib.{Dec.{eqb, leb, ltb}, ListN.{length, getD, List·getD-eq-default}}
+use borrow.Author.Tests.{eq-eqb, ne-eqb, eqb-true, eqb-false, leb-true, leb-false, ltb-true, ltb-false}
+use Rattle.wire.specs.{Endpoints.{firstAddress}, Numbers.{leAt}, Rows.{Row, _⇒_, Quiet, allBelow}, Uvc.{outOfRange, invalidValue, wrongState}}
 use Rattle.flags.specs.Flags.{bitsOf, count, oneFlag}
 use Rattle.wire.specs.Selectors as selectors
 use Rattle.wire.proofs.Laws.{Rows.{quiet}, Below.{all-at, all-of}}
@@ -14,7 +14,8 @@ use Rattle.controls.specs.{declared.{Item.{Item}, Item.the-variants.{Refused, G
 use Rattle.controls.specs.declared.Setting.the-variants as S
 use Rattle.exposure.specs.Exposure.{evItem, evFlags, evValue}
 use Rattle.face.specs.Limits.{faceValid, offersOf}
-use Rattle.entries.specs.Entries.{entryAddress, entryFlags, seenBefore, isChoice, entryRefusal, settingRefusal, faceItem}
+use Rattle.entries.specs.Entries.{entryAddress, entryFlags, seenBefore, isChoice, entryRefusal, settingRefusal, faceItem, putFace}
+use Rattle.entries.proofs.Laws.Held.{put-at, length-put}
 use Rattle.metadata.specs.Metadata.{metadataItem}
 use Rattle.hdr.specs.Hdr.{hdrItem}
 use Rattle.throttle.specs.Throttle.{throttleItem}
@@ -22,13 +23,13 @@ use Rattle.controls.proofs.Laws.Controls.{given-is}
 use Rattle.face.proofs.Laws.Limits.{listed}
 use Rattle.profile.specs.{declared.Profile.{Profile}, Profile.{has, isSettable, profileValid, profileRefusal}, Items.{profileItem}}
 use Rattle.profile.specs.KnownControl.{KnownControl, ev, face, metadata, hdr, throttle}
-use Rattle.settings.specs.{declared.settings.Settings.{Settings}, Settings.{settingKey, settingSelector}, Held.{settingsHeld}}
+use Rattle.settings.specs.{declared.settings.Settings.{Settings}, Settings.{settingKey, settingSelector, put}, Held.{faceHeld, settingsHeld}}
 use Rattle.settings.specs.{Kept.{valueRefusal, kept, settingsWellFormed, settingsWellFormedUnder}, Items.{givenOf, allGiven, putAll}}
 use Rattle.profile.proofs.Laws.Profile.{valid-face}
 use Rattle.settings.proofs.Laws.Kept.{control-kept}
 use Rattle.camera.specs.Requests.{controlRefusal}
 use Rattle.camera.proofs.Laws.Requests.{control-refused, control-state}
-use Rattle.demands.proofs.Laws.Held.{Proper, Each, held-none, held-named, puts-held}
+use Rattle.invariants.proofs.Laws.Held.{Proper, Each, held-face, held-none, held-named, put-other}
 
 -- a setting that its SET takes if streaming, and that can be held
 pub record Good (p : Profile) (s : Setting) : Type 0 where
@@ -149,19 +150,51 @@ module _ (p : Profile) (h : Settings) where
   unfolding settingsWellFormedUnder
   kept-formed v f = rw (v, all-of keys (λ k. kept p (settingsHeld h k)) (λ k l. f k))
 
--- of two that are kept, either
-over-kept : (p : Profile) (a b : Option Setting) → kept p a ≡ true → kept p b ≡ true → kept p (over a b) ≡ true
-over-kept p a none x y = x
-over-kept p a (some s) x y = y
-
-last-kept : (p : Profile) (l : List (ℕ × Setting)) → Each (Good p) l → (k : ℕ) → kept p (lastOf l k) ≡ true
-unfolding kept
-last-kept p [] g k = refl
-last-kept p (x ∷ l) g k = over-kept p (cond (eqb (x .0) k) (some (x .1)) none) (lastOf l k) (go (eqb (x .0) k)) (last-kept p l (g .2) k)
+-- A good setting is kept under its own key: of face authentication at a place that there is, else nothing is held there.
+face-kept : (p : Profile) (h : Settings) (address flags : ℕ) → Good p (S.Face address flags)
+    → kept p (settingsHeld (put h (S.Face address flags)) (settingKey (S.Face address flags))) ≡ true
+unfolding put kept
+face-kept p h address flags g =
+    ap (kept p) (held-face (put h (S.Face address flags)) k (omega (arith, g .proper)) (omega (arith, g .proper)))
+    ∙ go (ltb (k - 1) (length (h .face))) refl
   where
-    go : (b : Bool) → kept p (cond b (some (x .1)) none) ≡ true
-    go true = good-kept p (x .1) (g .1)
-    go false = refl
+    k : ℕ
+    k = settingKey (S.Face address flags)
+
+    go : (b : Bool) → ltb (k - 1) (length (h .face)) ≡ b
+        → kept p (faceHeld (firstAddress + (k - 1)) (getD (putFace (h .face) address flags) (k - 1) 0)) ≡ true
+    go true e =
+        let a : firstAddress + (k - 1) ≡ address = omega (arith, g .proper) in
+        let v : getD (putFace (h .face) address flags) (k - 1) 0 ≡ flags =
+        put-at (h .face) address flags (k - 1) (ltb-true _ _ e) ∙ rw (eq-eqb address (firstAddress + (k - 1)) (sym a)) in
+        rw (v, a, ne-eqb flags 0 (omega (arith, g .proper))) (good-kept p (S.Face address flags) g)
+    go false e =
+        let past : length (putFace (h .face) address flags) ≤ k - 1 =
+        omega (arith, length-put (h .face) address flags, ltb-false (k - 1) (length (h .face)) e) in
+        rw (List·getD-eq-default (putFace (h .face) address flags) 0 past)
+
+own-kept : (p : Profile) (h : Settings) (s : Setting) → Good p s → kept p (settingsHeld (put h s) (settingKey s)) ≡ true
+unfolding settingsHeld put
+own-kept p h (S.Ev s) g = good-kept p (S.Ev s) g
+own-kept p h (S.Face address flags) g = face-kept p h address flags g
+own-kept p h (S.Metadata n) g = good-kept p (S.Metadata n) g
+own-kept p h (S.Hdr n) g = good-kept p (S.Hdr n) g
+own-kept p h (S.Throttle s) g = good-kept p (S.Throttle s) g
+
+-- and every other setting stays
+put-kept : (p : Profile) (h : Settings) (s : Setting) → Good p s → (k : ℕ) → kept p (settingsHeld h k) ≡ true
+    → kept p (settingsHeld (put h s) k) ≡ true
+put-kept p h s g k e = go (eqb (settingKey s) k) refl
+  where
+    go : (b : Bool) → eqb (settingKey s) k ≡ b → kept p (settingsHeld (put h s) k) ≡ true
+    go true q = rw (← (eqb-true (settingKey s) k q)) (own-kept p h s g)
+    go false q = rw (put-other h s (g .proper) k (eqb-false (settingKey s) k q)) e
+
+puts-kept : (p : Profile) (h : Settings) (l : List (ℕ × Setting)) → Each (Good p) l → ((k : ℕ) → kept p (settingsHeld h k) ≡ true) → (k : ℕ)
+    → kept p (settingsHeld (putAll h l) k) ≡ true
+unfolding putAll
+puts-kept p h [] g f k = f k
+puts-kept p h (x ∷ l) g f k = puts-kept p (put h (x .1)) l (g .2) (λ j. put-kept p h (x .1) (g .1) j (f j)) k
 
 module _ (p : Profile) (h : Settings) (w : settingsWellFormed p h ≡ true) where
   formed-valid : profileValid p ≡ true
@@ -169,11 +202,8 @@ module _ (p : Profile) (h : Settings) (w : settingsWellFormed p h ≡ true) wher
   formed-valid = let q = simp and-eq-true-iff at w in q .0
 
   -- good settings leave them well formed
-  pub puts-formed : (l : List (ℕ × Setting)) → length (h .face) ≡ places → Each (Good p) l → settingsWellFormed p (putAll h l) ≡ true
-  puts-formed l f g =
-      kept-formed p (putAll h l) formed-valid
-      (λ k. rw (puts-held h l (each-proper p l g) f k)
-      (over-kept p (settingsHeld h k) (lastOf l k) (formed-kept p h w k) (last-kept p l g k)))
+  pub puts-formed : (l : List (ℕ × Setting)) → Each (Good p) l → settingsWellFormed p (putAll h l) ≡ true
+  puts-formed l g = kept-formed p (putAll h l) formed-valid (puts-kept p h l g (formed-kept p h w))
 
   -- and what is held of a key is good
   pub held-good : (k : ℕ) (s : Setting) → settingsHeld h k ≡ some s → (settingKey s ≡ k) × Good p s

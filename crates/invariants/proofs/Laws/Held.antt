@@ -15,7 +15,7 @@ use Rattle.exposure.specs.declared.HeldEv.the-variants as E
 use Rattle.controls.specs.declared.HeldNumber.the-variants as N
 use Rattle.throttle.specs.declared.HeldThrottle.{HeldThrottle}
 use Rattle.throttle.specs.declared.HeldThrottle.the-variants as T
-use Rattle.entries.proofs.Laws.Held.{put-at, length-put}
+use Rattle.entries.proofs.Laws.Held.{put-at, put-elsewhere, length-put}
 use Rattle.settings.specs.{declared.settings.Settings.{Settings}, Settings.{noSettings, settingKey, put}}
 use Rattle.settings.specs.{Held.{evHeld, faceHeld, numberHeld, metadataHeld, hdrHeld, throttleHeld, settingsHeld}, Items.{putAll}}
 
@@ -85,17 +85,15 @@ put-held h (S.Hdr n) p l = refl
 put-held h (S.Throttle s) p l = refl
 
 -- and nothing else changes
-put-other : (h : Settings) (s : Setting) → Proper s → length (h .face) ≡ places → (k : ℕ) → (settingKey s ≡ k → ⊥)
-    → settingsHeld (put h s) k ≡ settingsHeld h k
+pub put-other : (h : Settings) (s : Setting) → Proper s → (k : ℕ) → (settingKey s ≡ k → ⊥) → settingsHeld (put h s) k ≡ settingsHeld h k
 unfolding put
-put-other h (S.Ev s) p l k n = held-same _ _ k (λ e. absurd (n (sym e))) (λ a b. refl) (λ e. refl) (λ e. refl) (λ e. refl)
-put-other h (S.Face address flags) p l k n =
+put-other h (S.Ev s) p k n = held-same _ _ k (λ e. absurd (n (sym e))) (λ a b. refl) (λ e. refl) (λ e. refl) (λ e. refl)
+put-other h (S.Face address flags) p k n =
     held-same _ _ k (λ e. refl)
-    (λ a b. put-at (h .face) address flags (k - 1) (omega arith) ∙ rw (ne-eqb address (firstAddress + (k - 1)) (λ e. n (omega arith))))
-    (λ e. refl) (λ e. refl) (λ e. refl)
-put-other h (S.Metadata m) p l k n = held-same _ _ k (λ e. refl) (λ a b. refl) (λ e. absurd (n (sym e))) (λ e. refl) (λ e. refl)
-put-other h (S.Hdr m) p l k n = held-same _ _ k (λ e. refl) (λ a b. refl) (λ e. refl) (λ e. absurd (n (sym e))) (λ e. refl)
-put-other h (S.Throttle s) p l k n = held-same _ _ k (λ e. refl) (λ a b. refl) (λ e. refl) (λ e. refl) (λ e. absurd (n (sym e)))
+    (λ a b. put-elsewhere (h .face) address flags (k - 1) (λ e. n (omega arith))) (λ e. refl) (λ e. refl) (λ e. refl)
+put-other h (S.Metadata m) p k n = held-same _ _ k (λ e. refl) (λ a b. refl) (λ e. absurd (n (sym e))) (λ e. refl) (λ e. refl)
+put-other h (S.Hdr m) p k n = held-same _ _ k (λ e. refl) (λ a b. refl) (λ e. refl) (λ e. absurd (n (sym e))) (λ e. refl)
+put-other h (S.Throttle s) p k n = held-same _ _ k (λ e. refl) (λ a b. refl) (λ e. refl) (λ e. refl) (λ e. absurd (n (sym e)))
 
 held-put : (h : Settings) (s : Setting) → Proper s → length (h .face) ≡ places → (k : ℕ)
     → settingsHeld (put h s) k ≡ over (settingsHeld h k) (cond (eqb (settingKey s) k) (some s) none)
@@ -103,7 +101,7 @@ held-put h s p l k = go (eqb (settingKey s) k) refl
   where
     go : (b : Bool) → eqb (settingKey s) k ≡ b → settingsHeld (put h s) k ≡ over (settingsHeld h k) (cond b (some s) none)
     go true e = let q : settingKey s ≡ k = eqb-true (settingKey s) k e in ap (settingsHeld (put h s)) (sym q) ∙ put-held h s p l
-    go false e = put-other h s p l k (eqb-false (settingKey s) k e)
+    go false e = put-other h s p k (eqb-false (settingKey s) k e)
 
 put-length : (h : Settings) (s : Setting) → length (put h s .face) ≡ length (h .face)
 unfolding put

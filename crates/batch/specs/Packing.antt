@@ -1,0 +1,56 @@
+-- Requests packed one after another: each its eight setup bytes and, where its type is 0x21, as many bytes of payload as its wLength says.
+use Prim.Native.Nat.{ℕ, zero, suc, _+_}
+use mathlib.Core.{Path.{_≡_}, List.{List, [], _∷_, _++_}, Option.{Option, none, some, Option·map}, Bool.{Bool, true, false, cond}}
+use lib.{Dec.{leb, eqb}, ListN.{length, take, drop}}
+use Rattle.request.specs.Setup.{setupType, setupWLength}
+
+pub record Request : Type 0 where
+  pub setup : List ℕ
+  pub payload : List ℕ
+
+-- how many bytes of payload stand behind a setup: the code, the unit and the selector play no part, and a type other than 0x21 has none
+abbrev pub dataLength : List ℕ → ℕ
+dataLength setup = cond (eqb (setupType setup) 0x21) (setupWLength setup) 0
+
+-- a whole request
+pub record IsWhole (r : Request) : Type 0 where
+  pub setup : length (r .setup) ≡ 8
+  pub payload : length (r .payload) ≡ dataLength (r .setup)
+
+abbrev pub EachWhole : List Request → Type 0
+EachWhole [] = Unit {0}
+EachWhole (r ∷ rs) = IsWhole r × EachWhole rs
+
+-- the batch of a list of requests
+abbrev pub batchOf : List Request → List ℕ
+batchOf [] = []
+batchOf (r ∷ rs) = (r .setup ++ r .payload) ++ batchOf rs
+
+-- the request at the start of a batch, and its size
+abbrev pub firstSetup : List ℕ → List ℕ
+firstSetup s = take 8 s
+
+abbrev pub firstRequest : List ℕ → Request
+firstRequest s = record { setup = firstSetup s; payload = take (dataLength (firstSetup s)) (drop 8 s) }
+
+abbrev pub firstSize : List ℕ → ℕ
+firstSize s = 8 + dataLength (firstSetup s)
+
+-- request by request, where each is whole
+unfoldable pub requestsIn : ℕ → List ℕ → Option (List Request)
+requestsIn zero s = cond (eqb (length s) 0) (some []) none
+requestsIn (suc fuel) s =
+    cond (eqb (length s) 0) (some [])
+    (cond (leb (firstSize s) (length s)) (Option·map (λ rs. firstRequest s ∷ rs) (requestsIn fuel (drop (firstSize s) s))) none)
+
+-- the requests of a batch, or none where it stops inside one. (A request has bytes, so there are no more requests than bytes.)
+unfoldable pub requestsOf : List ℕ → Option (List Request)
+requestsOf s = requestsIn (length s) s
+
+abbrev pub isWhole : Option (List Request) → Bool
+isWhole none = false
+isWhole (some rs) = true
+
+abbrev pub wholeOf : Option (List Request) → List Request
+wholeOf none = []
+wholeOf (some rs) = rs

@@ -1,0 +1,2 @@
+-- Laws that `batch` and `demands` share, one topic to a file.
+pub mod Laws
