@@ -1,1 +1,4 @@
 pub mod Packing
+pub mod Answers
+pub mod Walking
+pub mod Running

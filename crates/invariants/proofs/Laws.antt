@@ -1,3 +1,4 @@
 pub mod Held
 pub mod Kept
 pub mod Requests
+pub mod Replies

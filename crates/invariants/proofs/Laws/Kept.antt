@@ -23,13 +23,13 @@ use Rattle.controls.proofs.Laws.Controls.{given-is}
 use Rattle.face.proofs.Laws.Limits.{listed}
 use Rattle.profile.specs.{declared.Profile.{Profile}, Profile.{has, isSettable, profileValid, profileRefusal}, Items.{profileItem}}
 use Rattle.profile.specs.KnownControl.{KnownControl, ev, face, metadata, hdr, throttle}
-use Rattle.settings.specs.{declared.settings.Settings.{Settings}, Settings.{settingKey, settingSelector, put}, Held.{faceHeld, settingsHeld}}
+use Rattle.settings.specs.{declared.settings.Settings.{Settings}, Settings.{noSettings, settingKey, settingSelector, put}, Held.{faceHeld, settingsHeld}}
 use Rattle.settings.specs.{Kept.{valueRefusal, kept, settingsWellFormed, settingsWellFormedUnder}, Items.{givenOf, allGiven, putAll}}
 use Rattle.profile.proofs.Laws.Profile.{valid-face}
 use Rattle.settings.proofs.Laws.Kept.{control-kept}
 use Rattle.camera.specs.Requests.{controlRefusal}
 use Rattle.camera.proofs.Laws.Requests.{control-refused, control-state}
-use Rattle.invariants.proofs.Laws.Held.{Proper, Each, held-face, held-none, held-named, put-other}
+use Rattle.invariants.proofs.Laws.Held.{Proper, Each, held-face, held-none, held-named, none-held, put-other}
 
 -- a setting that its SET takes if streaming, and that can be held
 pub record Good (p : Profile) (s : Setting) : Type 0 where
@@ -213,3 +213,8 @@ module _ (p : Profile) (h : Settings) (w : settingsWellFormed p h ≡ true) wher
       let q : eqb (profileRefusal p (settingSelector s)) 0 && eqb (valueRefusal p s) 0 ≡ true = ap (kept p) (sym e) ∙ formed-kept p h w k in
       let r = simp and-eq-true-iff at q in
       (n .0, record { control = eqb-true _ 0 (r .0); value = eqb-true _ 0 (r .1); proper = n .1 })
+
+-- no settings are well formed
+pub none-formed : (p : Profile) → profileValid p ≡ true → settingsWellFormed p noSettings ≡ true
+unfolding kept
+none-formed p v = kept-formed p noSettings v (λ k. rw (none-held k))

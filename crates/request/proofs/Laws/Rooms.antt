@@ -2,7 +2,7 @@
 use mathlib.Core.{Path.{_≡_, refl, ap, sym, _∙_}, List.{List, [], _++_}, Bool.{Bool, true, false, cond, not, _&&_, and-eq-true-iff}}
 use Prim.Native.Nat.{ℕ, _≤_}
 use native.Mathlib.Omega.{arith}
-use lib.{Dec.{eqb, ltb}, ListN.{length, take, drop}, Seq.{length-take-le, take-append-seam}}
+use lib.{Dec.{eqb, ltb}, ListN.{length, take, drop, length-append, length-drop}, Seq.{length-take-le, take-append-seam}}
 use borrow.Author.Tests.{eqb-true, eqb-false, le-ltb, ltb-false, not-true}
 use Rattle.wire.specs.Rows.{firstOf}
 use Rattle.request.specs.{Setup.{setupWLength, isSetRequest}, Table.{Table}}
@@ -54,6 +54,9 @@ module _ (t : Table) (setup payload : List ℕ) where
             ++ drop (length (cond b (take (sentCount t setup) (asked t setup)) [])) reply
         go true = ap (λ (n : ℕ). take (sentCount t setup) (asked t setup) ++ drop n reply) (sym sent-length)
         go false = refl
+
+    pub reply-length : length (replied t setup payload reply) ≡ length reply
+    reply-length = rw reply-split (simp (length-append, length-drop) (omega (arith, reply-within (length reply))))
 
     -- the bytes that are reported
     pub reply-front : take (requestCount t setup payload (length reply)) (replied t setup payload reply) ≡ handed

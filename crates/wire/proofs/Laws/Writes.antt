@@ -1,9 +1,9 @@
 -- Laws of bytes laid over a lent buffer. Assumes nothing.
-use mathlib.Core.{Path.{_≡_, refl, ap, ap₂, sym, _∙_}, List.{List, [], _++_, append-nil}, Bool.{Bool, true, false}}
+use mathlib.Core.{Path.{_≡_, refl, ap, ap₂, sym, _∙_}, List.{List, [], _++_, append-assoc, append-nil}, Bool.{Bool, true, false}}
 use Prim.Native.Nat.{ℕ, _+_, _-_, _≤_, _<_}
 use native.Mathlib.{Omega.{arith}, Nat.{zero-add}}
 use lib.{Dec.{leb}, ListN.{length, take, drop, length-append, length-take, length-drop, drop-of-length-le}}
-use lib.Seq.{take-all, take-length, take-at, take-append-le, take-append-add, take-append-seam, drop-append-add, drop-drop, paste}
+use lib.Seq.{take-all, take-length, take-at, take-append-le, take-append-add, take-append-seam, drop-append-add, drop-at, drop-drop, length-take-le, take-take, paste}
 use borrow.Author.Tests.{leb-true, leb-false}
 use Rattle.wire.specs.Writes.{overlay}
 
@@ -81,3 +81,25 @@ append d s t = go (leb (length s) (length d)) refl
     go : (b : Bool) → leb (length s) (length d) ≡ b → overlay (overlay d 0 s) (length s) t ≡ overlay d 0 (s ++ t)
     go true e = append-fits d s t (leb-true _ _ e)
     go false e = append-past d s t (leb-false _ _ e)
+
+-- what is laid over from the end on is laid over at once too
+pub prepend : (d : List ℕ) (i : ℕ) (s t : List ℕ) → i + length s + length t ≤ length d
+    → overlay (overlay d (i + length s) t) i s ≡ overlay d i (s ++ t)
+prepend d i s t h =
+    let n = i + length s in
+    let e = fits d n t h in
+    let l : length (take n d) ≡ n = length-take-le n d (omega arith) in
+    let m : n + length t ≡ i + length (s ++ t) = omega (arith, length-append s t) in
+    let front : take i (overlay d n t) ≡ take i d =
+    ap (take i) (e ∙ append-assoc (take n d) t (drop (n + length t) d))
+    ∙ take-append-le i (take n d) (t ++ drop (n + length t) d) (omega arith)
+    ∙ take-take i n d (omega arith) in
+    let back : drop n (overlay d n t) ≡ t ++ drop (n + length t) d =
+    ap (drop n) (e ∙ append-assoc (take n d) t (drop (n + length t) d)) ∙ drop-at (take n d) (t ++ drop (n + length t) d) n l in
+    let joined : take i d ++ s ++ (t ++ drop (i + length (s ++ t)) d) ≡ take i d ++ (s ++ t) ++ drop (i + length (s ++ t)) d =
+    simp append-assoc in
+    fits (overlay d n t) i s (omega (arith, same-length d n t))
+    ∙ ap₂ (λ a b. a ++ s ++ b) front back
+    ∙ ap (λ (k : ℕ). take i d ++ s ++ (t ++ drop k d)) m
+    ∙ joined
+    ∙ sym (fits d i (s ++ t) (omega arith))
