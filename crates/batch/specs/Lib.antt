@@ -3,3 +3,4 @@ pub mod Packing
 pub mod Splitting
 pub mod Answers
 pub mod Batch
+pub mod Theorems

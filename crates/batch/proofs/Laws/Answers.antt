@@ -24,7 +24,7 @@ unfolding answerBytes bytesOf
 answer-long o reply h = omega (arith, length-take-le (o .count) reply h)
 
 module _ (c : Camera) (w : recordWellFormed c ≡ true) (r : Request) where
-  abbrev ample-here : Enough c w (r .setup) (r .payload) ampleRoom
+  abbrev pub ample-here : Enough c w (r .setup) (r .payload) ampleRoom
   ample-here = ample c w (r .setup) (r .payload) ampleRoom (omega arith)
 
   -- a request sent with any room that suffices

@@ -3,7 +3,7 @@ use mathlib.Core.{Path.{_≡_, refl, ap, ap₂, sym, _∙_}, List.{List, [], _�
 use Prim.Native.Nat.{ℕ, _+_, _-_, _≤_, _<_}
 use native.Mathlib.Omega.{arith}
 use lib.{Dec.{ltb}, ListN.{length, take, drop, length-drop, length-append, drop-of-length-le}, Seq.{take-all, drop-drop}}
-use borrow.Author.Tests.{eq-eqb, ne-eqb, ltb-false, not-false}
+use borrow.Author.Tests.{eq-eqb, ne-eqb, le-ltb, ltb-false, not-false}
 use Rattle.wire.specs.{Numbers.{bytesOf}, Writes.{overlay}, Rows.{_⇒_, firstOf}, Uvc.{malformedRecord, noRoom}}
 use Rattle.wire.proofs.Laws.{Rows.{quiet}, Writes.{append, fits, fits-start, no-bytes, same-length, prepend}}
 use Rattle.request.proofs.Laws.Rooms.{replyBy, reply-split}
@@ -71,6 +71,10 @@ accepted c s room e =
       whole = not-false _ (q .1 .0);
       fits = ltb-false room (length (batchAnswers c s)) (q .1 .1 .0);
     }
+
+pub accepts : (c : Camera) (s : List ℕ) (room : ℕ) → Accepted c s room → batchCode c s room ≡ 0
+unfolding batchCode
+accepts c s room a = rw (a .formed, a .whole, le-ltb room (length (batchAnswers c s)) (a .fits))
 
 -- a batch that is refused, and the tests that the profile and the bytes decide
 module _ (c : Camera) (s out : List ℕ) where

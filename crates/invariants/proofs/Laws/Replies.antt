@@ -1,6 +1,7 @@
 -- The reply of a request to a record that is not refused 0x21: how long it is, by the profile and the request alone, and room that always
 -- suffices. Assumes nothing.
-use mathlib.Core.{Path.{_≡_, refl, ap, ap₂, sym, _∙_}, List.{List, []}, Bool.{Bool, true, false, cond, not, _&&_, and-eq-true-iff}}
+use mathlib.Core.{Path.{_≡_, refl, ap, ap₂, sym, _∙_}, List.{List, []}, Option.{some}}
+use mathlib.Core.Bool.{Bool, true, false, cond, not, _&&_, and-eq-true-iff}
 use Prim.Native.Nat.{ℕ, _≤_, _<_, min}
 use native.Mathlib.Omega.{arith}
 use lib.{Dec.{eqb}, ListN.{length, take}}
@@ -9,10 +10,10 @@ use Rattle.wire.specs.{Endpoints.{endpointLimit}, Rows.{firstOf, Quiet}, Uvc.{g
 use Rattle.wire.specs.Selectors as selector
 use Rattle.wire.proofs.Laws.Rows.{quiet}
 use Rattle.request.specs.Setup.{setupCode, setupSelector, setupValueLow, setupWLength, isSetRequest, isGetRequest}
-use Rattle.request.specs.Tests.{requestTests, fullAnswer, asked, sentCount, requestCode}
+use Rattle.request.specs.Tests.{requestTests, fullAnswer, asked, sentCount, testNumber}
 use Rattle.request.specs.{Answers.{longestAnswer}, Requests.{requestCount, replied}}
 use Rattle.request.proofs.Laws.{Rooms.{replyBy, reply-count, reply-within, reply-front, enough}, Requests.{requested-count}}
-use Rattle.request.proofs.Laws.Tests.{at-tests, at-get}
+use Rattle.request.proofs.{Theorems.{ninth}, Laws.Tests.{at-tests, at-get}}
 use Rattle.face.specs.Limits.{endpointsOf}
 use Rattle.face.proofs.Laws.Limits.{count-most}
 use Rattle.profile.specs.{declared.Profile.{Profile}, Profile.{has}}
@@ -123,6 +124,12 @@ module _ (c : Camera) (w : recordWellFormed c ≡ true) where
 
     pub ample : (room : ℕ) → longestAnswer ≤ room → Enough room
     ample room h z g = omega (arith, sent-short z)
+
+    -- so test 9 refuses no request
+    pub no-ninth : (room : ℕ) → longestAnswer ≤ room → testNumber (table c) s payload room ≡ some 9 → ⊥
+    no-ninth room h e =
+        let q = ninth (table c) s payload room e in
+        omega (arith, answer-short (setupSelector s) (setupCode s) (q .0), q .1)
 
     pub as-sent : (room : ℕ) → requested c s payload longestAnswer .count ≤ room → Enough room
     as-sent room h z g = omega (arith, count-sent z g longestAnswer (sent-short z))
