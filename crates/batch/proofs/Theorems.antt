@@ -9,7 +9,6 @@ use Rattle.wire.specs.Rows.{firstOf}
 use Rattle.profile.specs.{declared.Profile.{Profile}, Profile.{profileValid}}
 use Rattle.camera.specs.{declared.{record.Camera.{Camera}, calls.Outcome.{Outcome}}, Record.{recordWellFormed}, Requests.{refused, requestedReply}}
 use Rattle.camera.proofs.Laws.Record.{formed-profile}
-use Rattle.invariants.proofs.Laws.Requests.{outcome-code}
 use Rattle.invariants.proofs.Laws.Replies.{ample, no-ninth, same-reply}
 use Rattle.batch.specs.Packing.{Request, EachWhole, batchOf, requestsOf, isWhole, wholeOf}
 use Rattle.batch.specs.Answers.{ampleRoom, sent, sentReply, answersTo, cameraAfter, replyLength, answersLength}
@@ -19,12 +18,7 @@ use Rattle.batch.specs.Theorems.{handedAnswers, AllJoined}
 use Rattle.batch.proofs.Splitting.{packed-then-split, split-then-packed, stops-unsplit}
 use Rattle.batch.proofs.Laws.Packing.{packed-requests}
 use Rattle.batch.proofs.Laws.Answers as answers
-use Rattle.batch.proofs.Laws.Running.{Accepted, accepted, accepts, code-by-profile}
-
--- a batch's number
-number-is : (c : Camera) (s : List ℕ) (room : ℕ) → batched c s room .code ≡ batchCode c s room
-unfolding batched
-number-is c s room = outcome-code (batchCode c s room) c _ refl
+use Rattle.batch.proofs.Laws.Running.{Accepted, accepted, accepts, number-is, code-by-profile}
 
 pub length-by-profile : LengthByProfile
 length-by-profile = answers.answers-length
@@ -60,7 +54,7 @@ module _ (c : Camera) (s out : List ℕ) (z : batched c s (length out) .code ≡
   not-refused : batchCode c s (length out) ≡ 0
   not-refused = sym (number-is c s (length out)) ∙ z
 
-  done : batched c s (length out)
+  pub done : batched c s (length out)
       ≡ record { code = 0; count = length (batchAnswers c s); camera = cameraAfter c (wholeOf (requestsOf s)) }
   unfolding batched
   done = rw (eq-eqb (batchCode c s (length out)) 0 not-refused)

@@ -36,18 +36,21 @@ use Rattle.settings.specs.Items.{allGiven, setGives, putAll}
 use Rattle.answering.specs.Answering.{valueOf}
 use Rattle.profile.proofs.Laws.{Profile.{valid-presence, valid-face}, KnownControl.{control-known}}
 use Rattle.camera.specs.{declared.record.Camera.{Camera}, Record.{fresh, held, puts, recordWellFormed}}
-use Rattle.camera.specs.Requests.{stateRefusal, table, rules, cameraAnswer, requestedCode, requestDone, requested}
-use Rattle.camera.specs.{Loading.{selectorAt, recordItem, loadGives}, Calls.{sensed, Call, request, load, outcome, left, next}}
+use Rattle.camera.specs.Requests.{stateRefusal, table, rules, acceptsSet, requestGives, cameraAnswer, requestedCode, requestDone, requested}
+use Rattle.camera.specs.{Loading.{selectorAt, recordItem, loadGives}, Calls.{sensed}}
 use Rattle.camera.proofs.Laws.Record.{formed-profile}
-use Rattle.demands.specs.{Runs.{acceptsSet, gives, run}, Cameras.{Ok, Typed, Same}}
+use Rattle.demands.specs.Calls.{Call, request, load, outcome, left, next}
+use Rattle.demands.specs.{Runs.{gives, run}, Cameras.{Ok, Typed, Same}}
 use Rattle.demands.specs.Answers.{NewSettings, CurrentIsHeld, SameAnswers, FaceLength, FaceReadsBack}
 use Rattle.demands.specs.Answers.{ReadsBack, bytesBack, CameraSends, Gets, SnapshotReadsBack, WriteSuffices}
-use Rattle.demands.proofs.Laws.{Longest.{snapshot-most}, Held.{none-never, none-held}, Kept.{control-there}}
+use Rattle.invariants.proofs.Laws.{Held.{none-never, none-held}, Kept.{control-there}}
+use Rattle.invariants.proofs.Laws.Requests.{outcome-code, set-answer, request-next, set-control}
+use Rattle.demands.proofs.Laws.Longest.{snapshot-most}
 use Rattle.demands.proofs.Laws.Current.{ev-current, face-current, face-default, metadata-current, hdr-current, throttle-current}
 use Rattle.demands.proofs.Laws.Same.{settings-same}
 use Rattle.demands.proofs.Laws.ReadBack.{answer-back, Taken, entry-taken, face-put, After, after, payload-entry, place-at}
 use Rattle.demands.proofs.Laws.ReadBack.{face-sized, current-entry, current-length, current-held, current-same, face-none}
-use Rattle.demands.proofs.Laws.Steps.{step, outcome-code, set-answer, load-answer, refused-none, request-next, set-control}
+use Rattle.demands.proofs.Laws.Steps.{step, load-answer, refused-none}
 use Rattle.request.proofs.Laws.Sets.{accepted-control, accepted-length, accepted-values}
 use Rattle.demands.proofs.Lists.{writes, snapshot-decodes, snapshot-formed, written-item}
 
@@ -60,7 +63,7 @@ new-settings c o call =
 module _ (c : Camera) (w : recordWellFormed c ≡ true) where
   pub set-gives : (s payload reply : List ℕ) → isSetRequest s ≡ true → outcome c (request s payload reply) .code ≡ 0
       → gives (c .profile) (c .streaming) (request s payload reply) ≡ setGives (c .profile) (setupSelector s) payload
-  unfolding gives
+  unfolding gives requestGives
   set-gives s payload reply i e = rw (set-answer c s payload (length reply) w i, eq-eqb _ 0 e)
 
   pub load-gives : (s : List ℕ) → outcome c (load s) .code ≡ 0
@@ -224,8 +227,8 @@ module _ (c : Camera) (o : Ok (c .profile) c) (payload : List ℕ) (r : profileR
 
 set-next : (c : Camera) → Ok (c .profile) c → (s payload reply : List ℕ) → acceptsSet (c .profile) (c .streaming) s payload ≡ true
     → next c (request s payload reply) ≡ puts c (setGives (c .profile) (setupSelector s) payload)
-unfolding gives
-set-next c o s payload reply a = request-next c s payload reply (o .formed) ∙ rw a
+unfolding requestGives
+set-next c o s payload reply a = request-next c s payload (length reply) (o .formed) ∙ rw a
 
 pub set-then-get : (c : Camera) → Ok (c .profile) c → (s payload reply : List ℕ) → Bytes payload → isSetRequest s ≡ true
     → outcome c (request s payload reply) .code ≡ 0

@@ -32,36 +32,21 @@ use Rattle.answering.specs.Answering.{valueOf, controlAnswer}
 use Rattle.answering.proofs.Laws.Answering.{answer-fits}
 use Rattle.camera.specs.{declared.record.Camera.{Camera}, Record.{recordWellFormed, recordWellFormedUnder}}
 use Rattle.camera.specs.{Requests.{table, rules, cameraAnswer, refused, requestDone, requested}, Writing.{snapshot}}
-use Rattle.camera.specs.Calls.{request, outcome}
 use Rattle.camera.specs.Loading.{selectorAt, recordItem, loadCode, loadCodeUnder, loaded, loadedUnder}
 use Rattle.camera.proofs.Laws.Record.{formed-profile}
+use Rattle.invariants.proofs.Laws.{Requests.{set-answer}, Replies.{few, answer-short, no-ninth}}
 use Rattle.encoding.specs.Encoding.{recordOf}
+use Rattle.demands.specs.Calls.{request, outcome}
 use Rattle.demands.specs.Loading.{setCode, firstFault}
 use Rattle.demands.specs.Endpoints.{AllCameraLengths, LengthsReached, fullProfile, fullCamera, oldLimit, oldOutcome, OldShapesLoad}
 use Rattle.demands.specs.Endpoints.{Unlisted, RefusesUnlisted, AllNewSnapshots}
 use Rattle.demands.proofs.{Refusals.{by-number}, Loading.{record-as-set, load-fault}}
 use Rattle.demands.proofs.Laws.{Longest.{snapshot-short, snapshot-most}, Older.{load-narrow}, Sets.{is-kind}}
-use Rattle.demands.proofs.Laws.Steps.{set-answer}
 use Rattle.request.proofs.Laws.Sets.{accepted-control, accepted-length}
 
 -- the longest
 
 module _ (c : Camera) (w : recordWellFormed c ≡ true) where
-  -- as many endpoints as the limit, where the control is there
-  few : has (c .profile) selector.face ≡ true → endpointsOf (c .profile .face) ≤ endpointLimit
-  few h = omega (arith, count-most _ (c .profile .face) (valid-face (c .profile) (formed-profile c w) h))
-
-  answer-short : (control code : ℕ) → has (c .profile) control ≡ true → length (cameraAnswer c control code) ≤ longestAnswer
-  unfolding controlAnswer fullAnswer
-  answer-short control code h = answer-fits (c .profile) (c .settings) control code (λ e. few (rw e at h))
-
-  -- test 9 holds, and no test before it: then there are fewer bytes than an answer has
-  reply-suffices : (setup payload reply : List ℕ) → longestAnswer ≤ length reply
-      → testNumber (table c) setup payload (length reply) ≡ some 9 → ⊥
-  reply-suffices setup payload reply h e =
-      let q = ninth (table c) setup payload (length reply) e in
-      omega (arith, answer-short (setupSelector setup) (setupCode setup) (q .0), q .1)
-
   payload-short : (setup payload reply : List ℕ) → isSetRequest setup ≡ true → setupSelector setup ≡ selector.face
       → outcome c (request setup payload reply) .code ≡ 0 → length payload ≤ longestAnswer
   payload-short setup payload reply i f e =
@@ -69,13 +54,13 @@ module _ (c : Camera) (w : recordWellFormed c ≡ true) where
       let h : has (c .profile) selector.face ≡ true = rw f at (accepted-control (rules (c .profile) (c .streaming)) setup payload a .0) in
       let l : length payload ≡ setLength (c .profile) selector.face payload =
       rw f at (accepted-length (rules (c .profile) (c .streaming)) setup payload a) in
-      omega (arith, few h, len-longest (c .profile .face) (valid-face (c .profile) (formed-profile c w) h) payload)
+      omega (arith, few c w h, len-longest (c .profile .face) (valid-face (c .profile) (formed-profile c w) h) payload)
 
 pub camera-lengths : AllCameraLengths
 camera-lengths c w = record {
   payload = λ setup payload reply i f e. omega (arith, payload-short c w setup payload reply i f e);
   answer = λ h code. omega (arith, answer-short c w selector.face code h);
-  reply = λ setup payload reply h e. reply-suffices c w setup payload reply (omega arith) e;
+  reply = λ setup payload reply h e. no-ninth c w setup payload (length reply) (omega arith) e;
   written = omega (arith, snapshot-most c w);
   listed = snapshot-short c w;
 }

@@ -17,9 +17,10 @@ use Rattle.entries.proofs.Theorems.{entry-by-flags}
 use Rattle.profile.specs.Items.{profileItem, setRefusal}
 use Rattle.settings.specs.{Settings.{noSettings}, Items.{setTaken}}
 use Rattle.settings.proofs.Laws.Items.{one-item, face-refusal}
-use Rattle.camera.specs.{declared.record.Camera.{Camera}, Requests.{requestDone, requested, table, stateRefusal}, Calls.{request, outcome}}
+use Rattle.camera.specs.{declared.record.Camera.{Camera}, Requests.{requestDone, requested, table, stateRefusal}}
+use Rattle.invariants.proofs.Laws.Requests.{outcome-code}
+use Rattle.demands.specs.Calls.{request, outcome}
 use Rattle.demands.specs.Flags.{Judged, EvSetsByFlags, FaceSetsByFlags}
-use Rattle.demands.proofs.Laws.Steps.{outcome-code}
 
 -- past tests 1 to 6 a SET of another control than the throttle answers by its payload
 module _ (c : Camera) (control : ℕ) (s payload reply : List ℕ) (j : Judged c control s payload) where

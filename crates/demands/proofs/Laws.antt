@@ -1,7 +1,5 @@
 pub mod Current
 pub mod Fits
-pub mod Held
-pub mod Kept
 pub mod Lists
 pub mod Loads
 pub mod Longest

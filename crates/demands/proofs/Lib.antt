@@ -6,6 +6,7 @@ pub mod Sensor
 pub mod Flags
 pub mod Lists
 pub mod Loading
+pub mod Batches
 pub mod Endpoints
 pub mod Programs
 pub mod Table

@@ -17,11 +17,12 @@ use Rattle.profile.specs.{declared.Profile.{Profile}, Profile.{profileValid}}
 use Rattle.camera.specs.{declared.{record.Camera.{Camera}, calls.Outcome.{Outcome}}, Record.{fresh, held, recordWellFormed, puts}}
 use Rattle.camera.specs.Loading.{recordItem, loadTests, loadCode, loadCodeUnder, loadGives, loaded, loadedUnder}
 use Rattle.camera.specs.Writing.{snapshot, writeCode, written, writtenOut}
-use Rattle.camera.specs.Calls.{Call, load}
 use Rattle.encoding.specs.Encoding.{recordOf}
+use Rattle.demands.specs.Calls.{Call, load}
 use Rattle.demands.specs.{Runs.{gives, leaves, flagAfter, given, snapshotAfter, run}, Cameras.{Ok, Typed, handedSnapshot, Written}}
 use Rattle.demands.specs.Lists.{MergesTo, Whole, LoadsMerged, AcceptedInTurn, Restores}
-use Rattle.demands.proofs.Laws.{Held.{none-held}, Kept.{held-good}, Fits.{held-fitting}, Steps.{step, outcome-code, gives-good}}
+use Rattle.invariants.proofs.Laws.{Held.{none-held}, Kept.{held-good}, Requests.{outcome-code}}
+use Rattle.demands.proofs.Laws.{Fits.{held-fitting}, Steps.{step, gives-good}}
 use Rattle.demands.proofs.Laws.Lists.{given-append, run-ok, fresh-ok, held-after, flag-after}
 use Rattle.demands.proofs.Laws.Cameras.{each-record, held-records, record-of-taken}
 use Rattle.demands.proofs.Laws.Loads.{Accepted, load-settings, load-accepted, accepted-load, merged-accepted, merged-settings}

@@ -14,14 +14,17 @@ use Rattle.profile.specs.{declared.Profile.{Profile}, Profile.{profileValid}}
 use Rattle.settings.specs.{Kept.{kept}, Items.{putAll, givenOf, allGiven}}
 use Rattle.settings.proofs.Laws.Items.{puts-append}
 use Rattle.camera.specs.{declared.record.Camera.{Camera}, Record.{held, recordWellFormed, puts, withSettings}}
-use Rattle.camera.specs.{Loading.{loadRefusal, loadTests, loadGives, loaded}, Calls.{request, load, next}}
+use Rattle.camera.specs.Loading.{loadRefusal, loadTests, loadGives, loaded}
 use Rattle.encoding.specs.Encoding.{recordOf}
 use Rattle.camera.proofs.Laws.{Record.{formed-profile}, Loading.{codeBy, givenBy}}
+use Rattle.demands.specs.Calls.{request, load, next}
 use Rattle.demands.specs.{Runs.{gives, given, run}, Cameras.{Ok, Typed}}
 use Rattle.demands.specs.Loading.{recordSet, setCode, AsSet, recordSets, firstFault, EachAccepted, CountsAsSets, OwnSet}
 use Rattle.demands.specs.Loading.{KeepsSetRules}
-use Rattle.demands.proofs.Laws.{Held.{Each}, Kept.{Good, good-kept, kept-formed, held-good}, Fits.{held-fitting}}
-use Rattle.demands.proofs.Laws.{Cameras.{record-of, record-of-taken}, Steps.{step, load-answer, load-next, request-next, gives-good}}
+use Rattle.invariants.proofs.Laws.{Held.{Each}, Kept.{Good, good-kept, kept-formed, held-good}}
+use Rattle.invariants.proofs.Laws.Requests.{request-next}
+use Rattle.demands.proofs.Laws.Fits.{held-fitting}
+use Rattle.demands.proofs.Laws.{Cameras.{record-of, record-of-taken}, Steps.{step, load-answer, load-next, gives-good}}
 use Rattle.demands.proofs.Laws.Sets as sets
 use Rattle.wire.proofs.Laws.Rows.{answers-number}
 
@@ -73,13 +76,13 @@ module _ (p : Profile) (f : Bool) where
 -- SETs one after the other put in what they give
 run-sets : (p : Profile) (c : Camera) → Ok p c → (l : List KeyedRecord)
     → run c (recordSets p l) ≡ puts c (given p (c .streaming) (recordSets p l))
-unfolding putAll
+unfolding putAll gives
 run-sets p c o [] = refl
 run-sets p c o (e ∷ l) =
     let call = request (recordSet p (e .0) (e .1)) (drop 4 (e .1)) [] in
     let s = step p c o call in
     let d : next c call ≡ puts c (gives p (c .streaming) call) =
-    request-next c (recordSet p (e .0) (e .1)) (drop 4 (e .1)) [] (o .formed)
+    request-next c (recordSet p (e .0) (e .1)) (drop 4 (e .1)) 0 (o .formed)
     ∙ ap (λ q. puts c (gives q (c .streaming) call)) (o .profile) in
     run-sets p (next c call) (s .ok) l
     ∙ ap₂ (λ b f. puts b (given p f (recordSets p l))) d (s .streaming-after)

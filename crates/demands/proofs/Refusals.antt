@@ -13,7 +13,9 @@ use Rattle.settings.specs.Items.{setGives}
 use Rattle.camera.specs.{declared.{record.Camera.{Camera}, calls.Outcome.{Outcome}}, Record.{puts, recordWellFormed}}
 use Rattle.camera.specs.Requests.{table, requestedCode, outcomeOf, refused, outcomeBy, requestDone, requested}
 use Rattle.camera.specs.{Loading.{loadCode, loadCodeUnder, loadedUnder}, Writing.{writeCode, written, writtenOut}}
-use Rattle.camera.specs.Calls.{recordCode, streamed, sensed, Call, request, stream, load, write, sense, outcome}
+use Rattle.camera.specs.Calls.{recordCode, streamed, sensed}
+use Rattle.batch.specs.Batch.{batchCode, batched, batchedOut}
+use Rattle.demands.specs.Calls.{Call, request, stream, load, write, sense, batch, outcome}
 use Rattle.demands.specs.Refusals.{Unchanged}
 
 -- a call by its number: where that is not 0, it is refused
@@ -28,7 +30,7 @@ done-code c s payload =
 
 -- every refusal, of every call, for all bytes and any record
 pub refusals : (c : Camera) (call : Call) → (outcome c call .code ≡ 0 → ⊥) → Unchanged c call
-unfolding requested loadedUnder written writtenOut streamed sensed
+unfolding requested loadedUnder written writtenOut streamed sensed batched batchedOut
 refusals c (request s payload reply) n =
     let r = by-number (requestedCode c s payload (length reply)) c (requestDone c s payload) (done-code c s payload) n in
     record {
@@ -52,6 +54,13 @@ refusals c (write out) n =
       buffer = rw (ne-eqb (writeCode c (length out)) 0 (r .0));
     }
 refusals c sense n = record { count = refl; camera = refl; buffer = refl }
+refusals c (batch packed out) n =
+    let r = by-number (batchCode c packed (length out)) c _ refl n in
+    record {
+      count = ap (λ o. o .count) (r .1);
+      camera = ap (λ o. o .camera) (r .1);
+      buffer = rw (ne-eqb (batchCode c packed (length out)) 0 (r .0));
+    }
 
 -- and the sensor is handed 0
 pub refused-sensor : (c : Camera) → (sensed c .code ≡ 0 → ⊥) → sensed c .value ≡ pos 0
@@ -64,9 +73,10 @@ refused-sensor c n = go (recordWellFormed c) n
 
 -- A record that is not well formed is refused 0x21, by every call that takes it.
 pub malformed-refused : (c : Camera) → recordWellFormed c ≡ false → (call : Call) → outcome c call .code ≡ malformedRecord
-unfolding requested streamed loadedUnder loadCodeUnder written writeCode sensed
+unfolding requested streamed loadedUnder loadCodeUnder written writeCode sensed batched batchCode
 malformed-refused c w (request s payload reply) = rw (at-unformed (table c) s payload (length reply) w)
 malformed-refused c w (stream on) = rw w
 malformed-refused c w (load s) = rw w
 malformed-refused c w (write out) = rw w
 malformed-refused c w sense = rw w
+malformed-refused c w (batch packed out) = rw w

@@ -21,7 +21,7 @@ use Rattle.settings.specs.Items.{givenOf, allGiven, putAll, setGives}
 use Rattle.camera.specs.{declared.record.Camera.{Camera}, Record.{recordWellFormed}, Requests.{requestDone, requested}, Calls.{sensed}}
 use Rattle.camera.proofs.Laws.Record.{formed-profile}
 use Rattle.demands.specs.{Bench.{benchProfile}, Sensor.{StepUnits, Unrounded, SensorExact, SensorRange, SensorEnds}}
-use Rattle.demands.proofs.Laws.Kept.{control-there, held-good}
+use Rattle.invariants.proofs.Laws.Kept.{control-there, held-good}
 use Rattle.demands.proofs.Laws.Sensor.{units-whole, units-exact, least-units, most-units}
 
 -- the units of each step

@@ -17,8 +17,9 @@ use Rattle.throttle.specs.Throttle.{throttleBytes}
 use Rattle.profile.specs.{declared.Profile.{Profile}, KnownControl.{KnownControl}, Profile.{has, setLength}}
 use Rattle.settings.specs.Settings.{settingKey}
 use Rattle.camera.specs.{declared.record.Camera.{Camera}, Record.{held}, Requests.{cameraAnswer}, Loading.{loadItem}, Writing.{snapshot}}
-use Rattle.camera.specs.Calls.{sensed, Call, request, outcome, left, next}
+use Rattle.camera.specs.Calls.{sensed}
 use Rattle.encoding.specs.Encoding.{recordOf}
+use Rattle.demands.specs.Calls.{Call, request, outcome, left, next}
 use Rattle.demands.specs.{Runs.{gives, leaves}, Cameras.{Written}}
 
 -- New settings. What any call leaves of a record that is not refused 0x21: of each key the last setting that the call gives, else the one

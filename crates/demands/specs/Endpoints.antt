@@ -14,7 +14,7 @@ use Rattle.face.specs.{Limits.{endpointsOf, addressAt}, Theorems.{ZerosFrom, fi
 use Rattle.profile.specs.{declared.Profile.{Profile}, Profile.{has}}
 use Rattle.camera.specs.{declared.{record.Camera.{Camera}, calls.Outcome.{Outcome}}, Record.{recordWellFormed, recordWellFormedUnder}}
 use Rattle.camera.specs.{Requests.{table, cameraAnswer, refused}, Loading.{loaded, loadedUnder}, Writing.{snapshot}}
-use Rattle.camera.specs.Calls.{request, outcome}
+use Rattle.demands.specs.Calls.{request, outcome}
 use Rattle.demands.specs.Loading.{firstFault}
 
 -- The longest that there are, of a camera that is not refused 0x21.

@@ -9,7 +9,8 @@ use Rattle.request.specs.{Setup.{isSetRequest, setupSelector}, Tests.{requestTe
 use Rattle.flags.specs.Theorems.{OnlyFlag, NoFlag}
 use Rattle.exposure.specs.Exposure.{divisor, inRange, evValue}
 use Rattle.entries.specs.Theorems.{NewEndpoint, EntryNoFlag, EntryTaken}
-use Rattle.camera.specs.{declared.record.Camera.{Camera}, Record.{recordWellFormed}, Requests.{table}, Calls.{request, outcome}}
+use Rattle.camera.specs.{declared.record.Camera.{Camera}, Record.{recordWellFormed}, Requests.{table}}
+use Rattle.demands.specs.Calls.{request, outcome}
 
 -- a SET of a control that is past tests 1 to 6
 pub record Judged (c : Camera) (control : ℕ) (s payload : List ℕ) : Type 0 where

@@ -6,7 +6,7 @@ use Rattle.snapshot.specs.Form.{wellFormed}
 use Rattle.merging.specs.Merging.{merged, mergeCode, mergeLen, mergeOut}
 use Rattle.profile.specs.declared.Profile.{Profile}
 use Rattle.camera.specs.{declared.record.Camera.{Camera}, Record.{fresh, held, recordWellFormed}, Loading.{loaded}, Writing.{snapshot}}
-use Rattle.camera.specs.Calls.{Call}
+use Rattle.demands.specs.Calls.{Call}
 use Rattle.demands.specs.{Runs.{flagAfter, settings, snapshotAfter, run}, Cameras.{handedSnapshot, Written, Same}}
 
 -- The program's merge of the snapshots a and b is s: both are well formed, and with room for s it is accepted, reports the length of s, and

@@ -8,10 +8,11 @@ use Rattle.snapshot.specs.Records.{KeyedRecord, recordsOf, Each}
 use Rattle.controls.specs.{declared.Setting.{Setting}, Controls.{itemCode}}
 use Rattle.profile.specs.declared.Profile.{Profile}
 use Rattle.settings.specs.Items.{givenOf}
-use Rattle.camera.specs.{declared.record.Camera.{Camera}, Record.{held, recordWellFormed}, Requests.{rules}}
-use Rattle.camera.specs.{Loading.{selectorAt, recordItem, loaded}, Calls.{Call, request, load}}
+use Rattle.camera.specs.{declared.record.Camera.{Camera}, Record.{held, recordWellFormed}, Requests.{rules, acceptsSet}}
+use Rattle.camera.specs.Loading.{selectorAt, recordItem, loaded}
 use Rattle.encoding.specs.Encoding.{recordOf}
-use Rattle.demands.specs.Runs.{acceptsSet, gives, given, run}
+use Rattle.demands.specs.Calls.{Call, request, load}
+use Rattle.demands.specs.Runs.{gives, given, run}
 
 -- the setup of a record's SET: SET_CUR of the control of the key k, to the profile's interface and unit, which are bytes, with the length
 -- of the record's payload, which is all behind its four bytes of length and kind

@@ -5,7 +5,8 @@ use mathlib.Core.{Path.{_≡_}, List.{List}, Bool.{true}}
 use Rattle.wire.proofs.Laws.Numbers.{Bytes}
 use Rattle.request.specs.Setup.{isSetRequest, setupSelector}
 use Rattle.profile.specs.Profile.{profileValid}
-use Rattle.camera.specs.{declared.record.Camera.{Camera}, Record.{recordWellFormed}, Loading.{loaded}, Calls.{request, outcome, next}}
+use Rattle.camera.specs.{declared.record.Camera.{Camera}, Record.{recordWellFormed}, Loading.{loaded}}
+use Rattle.demands.specs.Calls.{request, outcome, next}
 use Rattle.demands.specs.{Cameras.{Ok, Typed}, Answers.{ReadsBack, SnapshotReadsBack}, Lists.{LoadsMerged, AcceptedInTurn, Restores}}
 use Rattle.demands.specs.Loading.{KeepsSetRules}
 

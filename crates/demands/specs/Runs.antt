@@ -1,29 +1,31 @@
 -- Document 01, "The list of demand 3": what a list of calls gives, by the profile, the flag and the calls' bytes alone.
 use Prim.Native.Nat.{ℕ}
 use mathlib.Core.{List.{List, [], _∷_, _++_}, Option.{Option}, Bool.{Bool, cond}}
-use lib.Dec.{eqb}
+use lib.{Dec.{eqb}, ListN.{length}}
 use Rattle.wire.specs.Rows.{firstOf}
-use Rattle.request.specs.{Setup.{setupSelector}, Tests.{setAccepted}}
 use Rattle.snapshot.specs.Given.{lastOf, snapshotOf}
 use Rattle.controls.specs.declared.Setting.{Setting}
 use Rattle.profile.specs.declared.Profile.{Profile}
-use Rattle.settings.specs.Items.{setGives}
-use Rattle.camera.specs.{declared.record.Camera.{Camera}, Requests.{rules}, Loading.{loadTests, loadGives}}
-use Rattle.camera.specs.Calls.{Call, request, stream, load, write, sense, next}
+use Rattle.camera.specs.{declared.record.Camera.{Camera}, Requests.{requestGives}, Loading.{loadTests, loadGives}}
+use Rattle.batch.specs.{Packing.{Request, requestsOf, wholeOf}, Batch.{batchTests}}
 use Rattle.encoding.specs.Encoding.{recordOf}
+use Rattle.demands.specs.Calls.{Call, request, stream, load, write, sense, batch, next}
 
--- a SET is accepted by tests 2 to 8, with the profile and the flag at that place; they look at no setting that is held
-abbrev pub acceptsSet : Profile → Bool → List ℕ → List ℕ → Bool
-acceptsSet p streaming setup payload = setAccepted (rules p streaming) setup payload
+-- the settings that requests give, one after the other
+abbrev pub requestsGive : Profile → Bool → List Request → List (ℕ × Setting)
+requestsGive p streaming [] = []
+requestsGive p streaming (r ∷ rs) = requestGives p streaming (r .setup) (r .payload) ++ requestsGive p streaming rs
 
 -- the settings that a call gives, in order: an accepted SET's, or those of an accepted load's records; none where it is refused or sets
--- nothing
+-- nothing. A batch counts as its single requests, and one that is refused whole as none; whether it is goes by profile, bytes and room.
 unfoldable pub gives : Profile → Bool → Call → List (ℕ × Setting)
-gives p streaming (request setup payload reply) = cond (acceptsSet p streaming setup payload) (setGives p (setupSelector setup) payload) []
+gives p streaming (request setup payload reply) = requestGives p streaming setup payload
 gives p streaming (stream on) = []
 gives p streaming (load s) = cond (eqb (firstOf (loadTests p streaming s)) 0) (loadGives p streaming s) []
 gives p streaming (write out) = []
 gives p streaming sense = []
+gives p streaming (batch packed out) =
+    cond (eqb (firstOf (batchTests p packed (length out))) 0) (requestsGive p streaming (wholeOf (requestsOf packed))) []
 
 -- the flag after a call
 abbrev pub leaves : Bool → Call → Bool
@@ -32,6 +34,7 @@ leaves streaming (stream on) = on
 leaves streaming (load s) = streaming
 leaves streaming (write out) = streaming
 leaves streaming sense = streaming
+leaves streaming (batch packed out) = streaming
 
 -- the flag after a list: the last notice's, or the start's
 abbrev pub flagAfter : Bool → List Call → Bool

@@ -7,7 +7,9 @@ use Rattle.wire.specs.Selectors as selector
 use Rattle.wire.specs.Uvc.{setCur}
 use Rattle.request.specs.Setup.{isSetRequest, setupSelector, setupUnit, setupInterface, setupWLength}
 use Rattle.frame.specs.{declared.items.Counted.{Counted}, Items.{blockCount, blockPayload}}
-use Rattle.camera.specs.{Requests.{requested}, Writing.{snapshot}, Calls.{Call, request, sensed}}
+use Rattle.camera.specs.{Requests.{requested}, Writing.{snapshot}, Calls.{sensed}}
+use Rattle.batch.specs.Packing.{Request}
+use Rattle.demands.specs.Calls.{Call, request}
 use Rattle.demands.specs.{Runs.{run}, Bench.{bench}}
 
 -- what a row tells
@@ -31,13 +33,10 @@ defined (a is b) = a
 abbrev pub paperAnswer : Line → Told
 paperAnswer (a is b) = b
 
--- a request: its setup packet and its payload
-abbrev pub Request : Type 0
-Request = List ℕ × List ℕ
-
 -- SETs of unit 4 on interface 0
 abbrev pub set : (control : ℕ) → List ℕ → Request
-set control payload = (0x21 ∷ setCur ∷ 0x00 ∷ control ∷ 0x00 ∷ 0x04 ∷ length payload ∷ 0x00 ∷ [], payload)
+set control payload =
+    record { setup = 0x21 ∷ setCur ∷ 0x00 ∷ control ∷ 0x00 ∷ 0x04 ∷ length payload ∷ 0x00 ∷ []; payload = payload }
 
 -- of exposure compensation: the lowest byte of the flags, that of the value, and each of the value's upper three
 abbrev pub setEv : (flags value upper : ℕ) → Request
@@ -53,12 +52,12 @@ setThrottle percent = set selector.throttle (1 ∷ 0 ∷ 0 ∷ 0 ∷ percent ∷
 -- a request to the bench camera, which has no reply buffer to lend, and what the next record then holds
 abbrev pub after : Request → Told
 after r =
-    let done = requested bench (r .0) (r .1) 0 in
+    let done = requested bench (r .setup) (r .payload) 0 in
     answer (done .code) (done .count) (sensed (done .camera) .value) (snapshot (done .camera))
 
 -- it is accepted, and its payload is then the one record of the snapshot
 abbrev pub accepts : Request → (sensor : ℤ) → Line
-accepts r sensor = after r is answer 0 0 sensor ((4 + length (r .1)) ∷ 0 ∷ setupSelector (r .0) ∷ 0 ∷ r .1)
+accepts r sensor = after r is answer 0 0 sensor ((4 + length (r .payload)) ∷ 0 ∷ setupSelector (r .setup) ∷ 0 ∷ r .payload)
 
 -- it is refused, and nothing is set
 abbrev pub refuses : Request → (number : ℕ) → Line
@@ -71,7 +70,7 @@ selects s control wLength =
 
 -- requests one after the other leave a snapshot
 abbrev pub call : Request → Call
-call r = request (r .0) (r .1) []
+call r = request (r .setup) (r .payload) []
 
 abbrev pub leave : List Request → List ℕ → Line
 leave rs bytes = saved (snapshot (run bench (map call rs))) is saved bytes

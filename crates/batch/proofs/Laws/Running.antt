@@ -9,6 +9,7 @@ use Rattle.wire.proofs.Laws.{Rows.{quiet}, Writes.{append, fits, fits-start, no
 use Rattle.request.proofs.Laws.Rooms.{replyBy, reply-split}
 use Rattle.camera.specs.{declared.{record.Camera.{Camera}, calls.Outcome.{Outcome}}, Record.{recordWellFormed}}
 use Rattle.camera.specs.Requests.{table, refused, requestedCode, requested, requestedReply}
+use Rattle.invariants.proofs.Laws.Requests.{outcome-code}
 use Rattle.invariants.proofs.Laws.Replies.{Enough, as-sent, count-reply, count-within, reply-handed}
 use Rattle.batch.specs.{Packing.{Request, dataLength, requestsOf, isWhole, wholeOf}, Answers.{answerBytes, sent, answerTo, answersTo, cameraAfter}}
 use Rattle.batch.specs.Batch.{cutBatch, batchAnswers, batchCode, batchTests, batched, batchedOut}
@@ -53,6 +54,11 @@ module _ (c : Camera) (setup payload out : List ℕ) (at : ℕ) (h : at + 3 ≤ 
         ap (λ b. overlay b at front) laid
         ∙ prepend out at front handed (omega arith)
         ∙ ap (λ l. overlay out at (front ++ l)) (sym taken)
+
+-- a batch's number
+pub number-is : (c : Camera) (s : List ℕ) (room : ℕ) → batched c s room .code ≡ batchCode c s room
+unfolding batched
+number-is c s room = outcome-code (batchCode c s room) c _ refl
 
 -- a batch that is not refused
 pub record Accepted (c : Camera) (s : List ℕ) (room : ℕ) : Type 0 where

@@ -25,7 +25,8 @@ use Rattle.settings.specs.{Settings.{settingKey, settingSelector}, Kept.{valueR
 use Rattle.camera.specs.{declared.record.Camera.{Camera}, Requests.{controlRefusal}, Record.{held, recordWellFormed}}
 use Rattle.camera.specs.Loading.{selectorAt, recordItem}
 use Rattle.encoding.specs.Encoding.{recordOf, noLimits}
-use Rattle.demands.proofs.Laws.{Held.{Proper, Each}, Kept.{Good, held-good, streaming-control}, Fits.{Fitting}}
+use Rattle.invariants.proofs.Laws.{Held.{Proper, Each}, Kept.{Good, held-good, streaming-control}}
+use Rattle.demands.proofs.Laws.Fits.{Fitting}
 
 -- a setting's record, under its key
 pub record-of : (k : ℕ) (s : Setting) → settingKey s ≡ k → Proper s → IsRecord k (recordOf s)

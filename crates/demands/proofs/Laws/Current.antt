@@ -26,7 +26,7 @@ use Rattle.profile.proofs.Laws.Profile.{valid-face}
 use Rattle.camera.specs.{declared.record.Camera.{Camera}, Record.{held, recordWellFormed}, Requests.{cameraAnswer}}
 use Rattle.camera.proofs.Laws.Record.{formed-profile}
 use Rattle.demands.specs.Answers.{entryBytes}
-use Rattle.demands.proofs.Laws.{Held.{held-face, held-named}, Kept.{control-settable, held-good}}
+use Rattle.invariants.proofs.Laws.{Held.{held-face, held-named}, Kept.{control-settable, held-good}}
 use Rattle.demands.proofs.Laws.Same.{ev-same, metadata-same, hdr-same, throttle-same, face-same}
 use Rattle.demands.proofs.Laws.ReadBack.{current-entry, default-entry, current-held, current-unset, face-unset}
 

@@ -19,7 +19,7 @@ use Rattle.camera.specs.{declared.record.Camera.{Camera}, Record.{held, recordW
 use Rattle.profile.proofs.Laws.Profile.{valid-ev}
 use Rattle.camera.proofs.Laws.Record.{formed-profile}
 use Rattle.demands.specs.Cameras.{settingFlags, Typed}
-use Rattle.demands.proofs.Laws.Kept.{Good, control-there, held-good}
+use Rattle.invariants.proofs.Laws.Kept.{Good, control-there, held-good}
 
 -- flags of a byte, and values of four
 abbrev pub Fitting : Setting → Type 0

@@ -5,9 +5,11 @@ use Rattle.snapshot.specs.Given.{over, lastOf}
 use Rattle.snapshot.proofs.Laws.Given.{over-assoc, over-none, last-append}
 use Rattle.profile.specs.{declared.Profile.{Profile}, Profile.{profileValid}}
 use Rattle.settings.specs.{Settings.{noSettings}, Kept.{kept}}
-use Rattle.camera.specs.{declared.record.Camera.{Camera}, Record.{fresh, held}, Calls.{Call, next}}
+use Rattle.camera.specs.{declared.record.Camera.{Camera}, Record.{fresh, held}}
+use Rattle.demands.specs.Calls.{Call, next}
 use Rattle.demands.specs.{Runs.{gives, leaves, flagAfter, given, settings, run}, Cameras.{Ok}}
-use Rattle.demands.proofs.Laws.{Held.{none-held}, Kept.{kept-formed}, Steps.{step}}
+use Rattle.invariants.proofs.Laws.{Held.{none-held}, Kept.{none-formed}}
+use Rattle.demands.proofs.Laws.Steps.{step}
 
 -- the settings and the flag of a list of two parts
 pub given-append : (p : Profile) (f : Bool) (xs ys : List Call) → given p f (xs ++ ys) ≡ given p f xs ++ given p (flagAfter f xs) ys
@@ -37,7 +39,7 @@ module _ (p : Profile) where
 module _ (p : Profile) (v : profileValid p ≡ true) (f : Bool) where
   pub fresh-ok : Ok p (fresh p f)
   unfolding noSettings kept
-  fresh-ok = record { profile = refl; formed = kept-formed p noSettings v (λ k. rw (none-held k)); places = refl }
+  fresh-ok = record { profile = refl; formed = none-formed p v; places = refl }
 
   pub held-after : (cs : List Call) → held (run (fresh p f) cs) ≡ settings p f cs
   held-after cs = fun-ext λ k.

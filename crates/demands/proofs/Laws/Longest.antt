@@ -17,7 +17,8 @@ use Rattle.controls.specs.declared.Setting.{Setting}
 use Rattle.controls.specs.declared.Setting.the-variants as S
 use Rattle.camera.specs.{declared.record.Camera.{Camera}, Record.{held, recordWellFormed}, Writing.{snapshot}}
 use Rattle.encoding.specs.Encoding.{recordOf}
-use Rattle.demands.proofs.Laws.{Held.{held-face, none-never}, Kept.{held-good}, Cameras.{held-records}}
+use Rattle.invariants.proofs.Laws.{Held.{held-face, none-never}, Kept.{held-good}}
+use Rattle.demands.proofs.Laws.Cameras.{held-records}
 
 -- how many of the n numbers from k on f holds of
 tally : ℕ → ℕ → (ℕ → Bool) → ℕ

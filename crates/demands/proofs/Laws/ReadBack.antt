@@ -32,7 +32,8 @@ use Rattle.answering.specs.Answering.{valueOf}
 use Rattle.settings.proofs.Laws.Items.{face-refusal, face-set}
 use Rattle.camera.specs.{declared.record.Camera.{Camera}, Record.{withSettings}, Requests.{cameraAnswer}, Loading.{selectorAt}}
 use Rattle.demands.specs.Answers.{bytesBack, entryBytes}
-use Rattle.demands.proofs.Laws.{Held.{none-never, held-face}, Kept.{item-good}, Loads.{taken}}
+use Rattle.invariants.proofs.Laws.{Held.{none-never, held-face}, Kept.{item-good}}
+use Rattle.demands.proofs.Laws.Loads.{taken}
 
 -- one item that no test refuses is put in
 one-put : (h : Settings) (item : ℕ → Item) (code : ℕ) (s : Setting) → item 0 ≡ itemOf code s → firstRefusal 1 0 (λ i. itemCode (item i)) ≡ 0

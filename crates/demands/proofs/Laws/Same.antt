@@ -15,7 +15,7 @@ use Rattle.throttle.specs.declared.HeldThrottle.{HeldThrottle}
 use Rattle.throttle.specs.declared.HeldThrottle.the-variants as T
 use Rattle.settings.specs.declared.settings.Settings.{Settings}
 use Rattle.settings.specs.Held.{settingsHeld, evHeld, faceHeld, numberHeld, metadataHeld, hdrHeld, throttleHeld}
-use Rattle.demands.proofs.Laws.Held.{none-never, held-face}
+use Rattle.invariants.proofs.Laws.Held.{none-never, held-face}
 
 pub ev-same : (a b : HeldEv) → evHeld a ≡ evHeld b → a ≡ b
 ev-same E.Unset E.Unset e = refl

@@ -17,7 +17,7 @@ use Rattle.face.proofs.Laws.Limits.{count-least}
 use Rattle.entries.proofs.Laws.Payload.{set-length-first}
 use Rattle.profile.specs.{declared.Profile.{Profile}, Profile.{has, isSettable, setLength, profileValid}}
 use Rattle.profile.specs.Items.{itemCount, profileItem, setRefusal}
-use Rattle.camera.specs.{Requests.{stateRefusal, controlRefusal}, Loading.{selectorAt, recordItem}}
+use Rattle.camera.specs.{Requests.{stateRefusal, controlRefusal, requestGives}, Loading.{selectorAt, recordItem}}
 use Rattle.settings.specs.Items.{givenOf, allGiven, setGives}
 use Rattle.profile.proofs.Laws.Profile.{valid-face}
 use Rattle.demands.specs.{Runs.{gives}, Loading.{recordSet, setCode, AsSet}}
@@ -189,5 +189,5 @@ module _ (k : ℕ) (r : List ℕ) (g : IsRecord k r) where
     set-settings false e = sym (refused-nothing (recordItem p streaming k r) e)
 
     pub record-as-set : AsSet p streaming k r
-    unfolding gives setAccepted
+    unfolding gives requestGives setAccepted
     record-as-set = record { code = set-code; settings = λ reply. rw set-code (set-settings _ refl) }

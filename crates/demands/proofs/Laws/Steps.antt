@@ -1,52 +1,29 @@
 -- What one call leaves of a well-formed record: the settings that it gives are put in, and the flag is set. Assumes nothing.
-use mathlib.Core.{Path.{_≡_, refl, ap, sym, _∙_, subst}, List.{List, [], _++_}, Option.{Option, none, some, Option·elim}}
+use mathlib.Core.{Path.{_≡_, refl, ap, sym, _∙_, subst}, List.{List, [], _∷_}, Option.{Option, none, some, Option·elim}}
 use mathlib.Core.Bool.{Bool, true, false, cond, true≢false}
 use Prim.Native.Nat.{ℕ}
 use lib.{Dec.{eqb, leb}, ListN.{length, drop}}
 use borrow.Author.Tests.{ne-eqb, eqb-true}
-use Rattle.wire.specs.{Endpoints.{places}, Rows.{Row, firstOf}}
+use Rattle.wire.specs.{Endpoints.{places}, Rows.{firstOf}}
 use Rattle.wire.specs.Selectors as selectors
-use Rattle.request.specs.{Setup.{isSetRequest, setupSelector}, Tests.{requestTests, valueTests, setAccepted}}
-use Rattle.request.proofs.Laws.{Requests.{result-code}, Sets.{accepted-control, next-record}}
-use Rattle.request.proofs.Laws.Sets as sets
+use Rattle.request.specs.{Setup.{isSetRequest}, Tests.{setAccepted}}
 use Rattle.snapshot.specs.{Keys.{keys, metadataKey, hdrKey}, Records.{decode}, Given.{over, lastOf}}
 use Rattle.controls.specs.declared.{Item.{Item}, Item.the-variants.{Refused, Given}, Setting.{Setting}}
-use Rattle.profile.specs.{declared.Profile.{Profile}, Profile.{profileValid, profileRefusal}}
-use Rattle.profile.specs.{Items.{itemCount, profileItem}, KnownControl.{KnownControl, ev, face, metadata, hdr, throttle}}
-use Rattle.settings.specs.Items.{givenOf, setGives, putAll}
-use Rattle.settings.proofs.Laws.Kept.{control-kept}
-use Rattle.profile.proofs.Laws.{Profile.{valid-presence}, KnownControl.{control-known}}
-use Rattle.camera.specs.{declared.{record.Camera.{Camera}, calls.Outcome.{Outcome}}, Record.{held, recordWellFormed, puts}}
-use Rattle.camera.specs.Requests.{requestedCode, outcomeOf, refused, outcomeBy, requestDone, requested, rules, table, controlRefusal}
-use Rattle.camera.specs.Calls.{sensed, Call, request, stream, load, write, sense, outcome, next}
+use Rattle.profile.specs.{declared.Profile.{Profile}, Profile.{profileValid}, Items.{profileItem}}
+use Rattle.profile.specs.KnownControl.{KnownControl, ev, face, metadata, hdr, throttle}
+use Rattle.settings.specs.Items.{givenOf, putAll}
+use Rattle.settings.proofs.Laws.Items.{puts-append}
+use Rattle.camera.specs.{declared.record.Camera.{Camera}, Record.{held, recordWellFormed, withSettings, puts}, Calls.{sensed}}
+use Rattle.camera.specs.Requests.{refused, requestGives, controlRefusal}
 use Rattle.camera.specs.Loading.{selectorAt, recordItem, loadTests, loadCodeUnder, loadGives, loaded, loadedUnder}
 use Rattle.camera.specs.Writing.{snapshot, written, writeCode}
 use Rattle.camera.proofs.Laws.{Record.{formed-profile, streamed-done}, Loading.{givenBy}}
-use Rattle.demands.specs.{Runs.{acceptsSet, gives, leaves}, Cameras.{Ok}}
-use Rattle.demands.proofs.Laws.Held.{Each, puts-held, puts-length}
-use Rattle.demands.proofs.Laws.Kept.{Good, control-streaming, item-good, given-good, all-good, each-proper, puts-formed}
-
--- tests 2 to 8
-abbrev testsOf : Profile → Bool → List ℕ → List ℕ → List Row
-testsOf p streaming s payload = requestTests (rules p streaming) s payload ++ valueTests (rules p streaming) s payload
-
--- the number of a SET, on a well-formed record
-set-code : (c : Camera) (s payload : List ℕ) (room : ℕ) → recordWellFormed c ≡ true → isSetRequest s ≡ true
-    → requestedCode c s payload room ≡ firstOf (testsOf (c .profile) (c .streaming) s payload)
-unfolding requestTests valueTests
-set-code c = sets.set-code (table c)
-
--- a call's number is that of its tests
-pub outcome-code : (code : ℕ) (c : Camera) (done : Outcome) → done .code ≡ 0 → outcomeBy code c done .code ≡ code
-outcome-code = result-code outcomeOf (λ o. o .code) (λ code count c. refl)
-
--- a SET is accepted where the request answers 0
-pub set-answer : (c : Camera) (s payload : List ℕ) (room : ℕ) → recordWellFormed c ≡ true → isSetRequest s ≡ true
-    → acceptsSet (c .profile) (c .streaming) s payload ≡ eqb (requested c s payload room .code) 0
-unfolding requested requestDone setAccepted
-set-answer c s payload room w e =
-    let done : Outcome = record { code = 0; count = 0; camera = puts c (setGives (c .profile) (setupSelector s) payload) } in
-    rw e (ap (λ (n : ℕ). eqb n 0) (sym (outcome-code (requestedCode c s payload room) c done refl ∙ set-code c s payload room w e)))
+use Rattle.invariants.proofs.Laws.{Held.{Each, puts-held, puts-length}, Requests.{outcome-code, set-answer, request-next, request-good, request-stays}}
+use Rattle.invariants.proofs.Laws.Kept.{Good, control-streaming, item-good, given-good, each-append, all-good, each-proper, puts-formed}
+use Rattle.batch.specs.{Packing.{Request, requestsOf, wholeOf}, Answers.{ampleRoom, answersTo, cameraAfter}, Batch.{batchTests, batched}}
+use Rattle.batch.proofs.Laws.Running.{number-is, code-by-profile}
+use Rattle.demands.specs.Calls.{Call, request, stream, load, write, sense, batch, outcome, next}
+use Rattle.demands.specs.{Runs.{requestsGive, gives, leaves}, Cameras.{Ok}}
 
 pub load-answer : (c : Camera) (s : List ℕ) → recordWellFormed c ≡ true
     → loaded c s .code ≡ firstOf (loadTests (c .profile) (c .streaming) s)
@@ -55,10 +32,14 @@ load-answer c s w =
     let code = firstOf (loadTests (c .profile) (c .streaming) s) in
     rw w (outcome-code code c (record { code = 0; count = 0; camera = puts c (loadGives (c .profile) (c .streaming) s) }) refl)
 
+pub batch-answer : (c : Camera) (packed : List ℕ) (room : ℕ) → recordWellFormed c ≡ true
+    → batched c packed room .code ≡ firstOf (batchTests (c .profile) packed room)
+batch-answer c packed room w = number-is c packed room ∙ code-by-profile c packed room w
+
 -- a refused call gives no setting
 pub refused-none : (c : Camera) → recordWellFormed c ≡ true → (call : Call) → (outcome c call .code ≡ 0 → ⊥)
     → gives (c .profile) (c .streaming) call ≡ []
-unfolding gives setAccepted
+unfolding gives requestGives setAccepted
 refused-none c w (request s payload reply) n = go (isSetRequest s) refl
   where
     go : (b : Bool) → isSetRequest s ≡ b → gives (c .profile) (c .streaming) (request s payload reply) ≡ []
@@ -68,22 +49,10 @@ refused-none c w (stream on) n = refl
 refused-none c w (load s) n = rw (ne-eqb (firstOf (loadTests (c .profile) (c .streaming) s)) 0 (λ z. n (load-answer c s w ∙ z)))
 refused-none c w (write out) n = refl
 refused-none c w sense n = refl
+refused-none c w (batch packed out) n =
+    rw (ne-eqb (firstOf (batchTests (c .profile) packed (length out))) 0 (λ z. n (batch-answer c packed (length out) w ∙ z)))
 
--- what a request leaves of the record
-pub request-next : (c : Camera) (s payload reply : List ℕ) → recordWellFormed c ≡ true
-    → requested c s payload (length reply) .camera ≡ puts c (gives (c .profile) (c .streaming) (request s payload reply))
-unfolding requested requestDone gives putAll requestTests valueTests setAccepted
-request-next c s payload reply w =
-    next-record outcomeOf (λ o. o .camera) (λ code count c. refl) (table c) c (puts c set) s payload (length reply) w
-    ∙ go (acceptsSet (c .profile) (c .streaming) s payload)
-  where
-    set : List (ℕ × Setting)
-    set = setGives (c .profile) (setupSelector s) payload
-
-    go : (b : Bool) → cond b (puts c set) c ≡ puts c (cond b set [])
-    go true = refl
-    go false = refl
-
+-- what a load leaves of the record
 pub load-next : (c : Camera) (s : List ℕ) → recordWellFormed c ≡ true
     → loaded c s .camera ≡ puts c (gives (c .profile) (c .streaming) (load s))
 unfolding loadedUnder loadCodeUnder gives putAll
@@ -96,6 +65,35 @@ load-next c s w = rw w (go (eqb (firstOf (loadTests (c .profile) (c .streaming) 
     go true = refl
     go false = refl
 
+-- requests one after the other, and a batch of them
+pub requests-next : (c : Camera) → recordWellFormed c ≡ true → (rs : List Request)
+    → cameraAfter c rs ≡ puts c (requestsGive (c .profile) (c .streaming) rs)
+unfolding putAll
+requests-next c w [] = refl
+requests-next c w (r ∷ rs) =
+    let given = requestGives (c .profile) (c .streaming) (r .setup) (r .payload) in
+    let next = request-next c (r .setup) (r .payload) ampleRoom w in
+    let formed = request-stays c (r .setup) (r .payload) ampleRoom w .formed in
+    ap (λ d. cameraAfter d rs) next
+    ∙ requests-next (puts c given) (rw next at formed) rs
+    ∙ ap (withSettings c) (sym (puts-append (c .settings) given (requestsGive (c .profile) (c .streaming) rs)))
+
+batch-next : (c : Camera) (packed out : List ℕ) → recordWellFormed c ≡ true
+    → batched c packed (length out) .camera ≡ puts c (gives (c .profile) (c .streaming) (batch packed out))
+unfolding batched gives putAll
+batch-next c packed out w =
+    rw (code-by-profile c packed (length out) w) (go (eqb (firstOf (batchTests (c .profile) packed (length out))) 0))
+  where
+    rs : List Request
+    rs = wholeOf (requestsOf packed)
+
+    go : (b : Bool)
+        → cond b (record { code = 0; count = length (answersTo c rs); camera = cameraAfter c rs })
+        (refused (firstOf (batchTests (c .profile) packed (length out))) c) .camera
+        ≡ puts c (cond b (requestsGive (c .profile) (c .streaming) rs) [])
+    go true = requests-next c w rs
+    go false = refl
+
 write-next : (c : Camera) (out : List ℕ) → written c (length out) .camera ≡ c
 unfolding written
 write-next c out = go (eqb (writeCode c (length out)) 0)
@@ -104,16 +102,6 @@ write-next c out = go (eqb (writeCode c (length out)) 0)
         → cond b (record { code = 0; count = length (snapshot c); camera = c }) (refused (writeCode c (length out)) c) .camera ≡ c
     go true = refl
     go false = refl
-
--- the control of an accepted SET
-module _ (p : Profile) (streaming : Bool) (s payload : List ℕ) (a : acceptsSet p streaming s payload ≡ true) where
-  abbrev selector : ℕ
-  selector = setupSelector s
-
-  pub set-control : profileRefusal p selector ≡ 0
-  set-control =
-      let q = accepted-control (rules p streaming) s payload a in
-      eqb-true _ 0 (control-kept p selector ∙ rw (q .0, q .1))
 
 -- which items give a setting
 unfoldable pub isGiven : Item → Bool
@@ -154,22 +142,15 @@ module _ (p : Profile) (v : profileValid p ≡ true) where
       go k none = tt
       go k (some r) = given-good p (recordItem p streaming k r) (record-good streaming k r)
 
-  set-good : (streaming : Bool) (s payload : List ℕ) → acceptsSet p streaming s payload ≡ true
-      → Each (Good p) (setGives p (setupSelector s) payload)
-  unfolding setGives
-  set-good streaming s payload a =
-      let c = set-control p streaming s payload a in
-      let k = control-known (p .controls) (setupSelector s) (valid-presence p v) (accepted-control (rules p streaming) s payload a .0) in
-      all-good p (itemCount (setupSelector s) payload) 0 (λ i. givenOf (profileItem p (setupSelector s) payload i))
-      (λ i. given-good p (profileItem p (setupSelector s) payload i) (λ t e. item-good p v payload i t (setupSelector s) k c e))
+  requests-good : (streaming : Bool) (rs : List Request) → Each (Good p) (requestsGive p streaming rs)
+  requests-good streaming [] = tt
+  requests-good streaming (r ∷ rs) =
+      each-append (Good p) (requestGives p streaming (r .setup) (r .payload)) (requestsGive p streaming rs)
+      (request-good p streaming (r .setup) (r .payload) v) (requests-good streaming rs)
 
   pub gives-good : (streaming : Bool) (call : Call) → Each (Good p) (gives p streaming call)
   unfolding gives
-  gives-good streaming (request s payload reply) = go (acceptsSet p streaming s payload) refl
-    where
-      go : (b : Bool) → acceptsSet p streaming s payload ≡ b → Each (Good p) (cond b (setGives p (setupSelector s) payload) [])
-      go true e = set-good streaming s payload e
-      go false e = tt
+  gives-good streaming (request s payload reply) = request-good p streaming s payload v
   gives-good streaming (stream on) = tt
   gives-good streaming (load s) = go (eqb (firstOf (loadTests p streaming s)) 0)
     where
@@ -178,6 +159,11 @@ module _ (p : Profile) (v : profileValid p ≡ true) where
       go false = tt
   gives-good streaming (write out) = tt
   gives-good streaming sense = tt
+  gives-good streaming (batch packed out) = go (eqb (firstOf (batchTests p packed (length out))) 0)
+    where
+      go : (b : Bool) → Each (Good p) (cond b (requestsGive p streaming (wholeOf (requestsOf packed))) [])
+      go true = requests-good streaming (wholeOf (requestsOf packed))
+      go false = tt
 
 -- what a call leaves but for the flag
 module _ (p : Profile) (c : Camera) (o : Ok p c) (call : Call) where
@@ -190,7 +176,7 @@ module _ (p : Profile) (c : Camera) (o : Ok p c) (call : Call) where
   puts-ok : Ok p (puts c given)
   puts-ok = record {
     profile = o .profile;
-    formed = puts-formed (c .profile) (c .settings) (o .formed) given (o .places) each-good;
+    formed = puts-formed (c .profile) (c .settings) (o .formed) given each-good;
     places = puts-length (c .settings) given ∙ o .places;
   }
 
@@ -214,10 +200,12 @@ puts-step p c o call e f = record {
 
 pub step : (p : Profile) (c : Camera) → Ok p c → (call : Call) → Step p c call
 unfolding gives putAll sensed
-step p c o (request s payload reply) = puts-step p c o (request s payload reply) (request-next c s payload reply (o .formed)) refl
+step p c o (request s payload reply) =
+    puts-step p c o (request s payload reply) (request-next c s payload (length reply) (o .formed)) refl
 step p c o (load s) = puts-step p c o (load s) (load-next c s (o .formed)) refl
 step p c o (write out) = puts-step p c o (write out) (write-next c out) refl
 step p c o sense = puts-step p c o sense refl refl
+step p c o (batch packed out) = puts-step p c o (batch packed out) (batch-next c packed out (o .formed)) refl
 step p c o (stream on) =
     let e = ap (λ r. r .camera) (streamed-done c (o .formed) on) in
     record {

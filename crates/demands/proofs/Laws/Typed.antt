@@ -12,7 +12,7 @@ use Rattle.throttle.specs.declared.HeldThrottle.the-variants as T
 use Rattle.settings.specs.declared.settings.Settings.{Settings}
 use Rattle.settings.specs.Held.{evHeld, faceHeld, numberHeld, metadataHeld, hdrHeld, throttleHeld, settingsHeld}
 use Rattle.demands.specs.Cameras.{settingFlags}
-use Rattle.demands.proofs.Laws.Held.{none-never, some-is}
+use Rattle.invariants.proofs.Laws.Held.{none-never, some-is}
 
 abbrev Small : Setting → Type 0
 Small s = settingFlags s < 2 ^ 8

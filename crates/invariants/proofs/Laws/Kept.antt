@@ -121,7 +121,7 @@ unfolding givenOf
 given-good p (Refused code) h = tt
 given-good p (Given s) h = (refl, h s refl, tt)
 
-each-append : (P : Setting → Type 0) (a b : List (ℕ × Setting)) → Each P a → Each P b → Each P (a ++ b)
+pub each-append : (P : Setting → Type 0) (a b : List (ℕ × Setting)) → Each P a → Each P b → Each P (a ++ b)
 each-append P [] b p q = q
 each-append P (x ∷ a) b p q = (p .0, p .1, each-append P a b (p .2) q)
 

@@ -46,7 +46,7 @@ pub reply-handed : (c : Camera) (s payload reply : List ℕ)
 reply-handed c s payload reply = rw (count-is c s payload (length reply)) (reply-front (table c) s payload reply)
 
 module _ (c : Camera) (w : recordWellFormed c ≡ true) where
-  few : has (c .profile) selector.face ≡ true → endpointsOf (c .profile .face) ≤ endpointLimit
+  pub few : has (c .profile) selector.face ≡ true → endpointsOf (c .profile .face) ≤ endpointLimit
   few h = omega (arith, count-most _ (c .profile .face) (valid-face (c .profile) (formed-profile c w) h))
 
   -- the answer of a control that is there

@@ -8,7 +8,7 @@ use Rattle.controls.specs.declared.Setting.{Setting}
 use Rattle.controls.specs.declared.Setting.the-variants as S
 use Rattle.settings.specs.Held.{evHeld}
 use Rattle.demands.specs.Cameras.{settingFlags}
-use Rattle.demands.proofs.Laws.Held.{none-never, some-is}
+use Rattle.invariants.proofs.Laws.Held.{none-never, some-is}
 use Rattle.demands.proofs.program.ev_typed.Statement.{statement}
 use Rattle.demands.proofs.program.ev_typed.Tie as tie
 
