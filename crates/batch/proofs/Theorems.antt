@@ -1,19 +1,19 @@
 -- What holds of batches; specs/Theorems has the statements. Assumes nothing.
-use mathlib.Core.{Path.{_≡_, refl, ap, ap₂, sym, _∙_, subst}, List.{List, [], _∷_, _++_, map, append-assoc}, Option.{Option, none, some, Option·map}}
+use mathlib.Core.{Path.{_≡_, refl, ap, ap₂, sym, _∙_}, List.{List, [], _∷_, _++_, map}, Option.{Option, none, some, Option·map}}
 use mathlib.Core.Bool.{Bool, true, false, cond, true≢false}
-use Prim.Native.Nat.{ℕ, _+_, _*_, _≤_, _<_}
+use Prim.Native.Nat.{ℕ, _+_, _*_, _≤_}
 use native.Mathlib.Omega.{arith}
-use lib.{Dec.{eqb}, ListN.{length, take, drop, replicate, length-append, length-replicate}, Seq.{take-append-seam}}
+use lib.{Dec.{eqb}, ListN.{length, take, drop, replicate, length-append}, Seq.{take-append-seam}}
 use borrow.Author.Tests.{eq-eqb, lt-ltb, le-ltb}
 use Rattle.wire.specs.Rows.{firstOf}
 use Rattle.profile.specs.{declared.Profile.{Profile}, Profile.{profileValid}}
 use Rattle.camera.specs.{declared.{record.Camera.{Camera}, calls.Outcome.{Outcome}}, Record.{recordWellFormed}, Requests.{refused, requestedReply}}
 use Rattle.camera.proofs.Laws.Record.{formed-profile}
 use Rattle.invariants.proofs.Laws.Replies.{ample, no-ninth, same-reply}
-use Rattle.batch.specs.Packing.{Request, EachWhole, batchOf, requestsOf, isWhole, wholeOf}
-use Rattle.batch.specs.Answers.{ampleRoom, sent, sentReply, answersTo, cameraAfter, replyLength, answersLength}
-use Rattle.batch.specs.Batch.{cutBatch, batchAnswers, batchCode, batched, batchedOut, batchTests}
-use Rattle.batch.specs.Theorems.{AllAmple, oneByOne, leftBy, EachAmple, AllOneByOne, LengthByProfile, AllNumbered, AlikeByProfile, Suffices}
+use Rattle.batch.specs.Packing.{Request, batchOf, requestsOf, isWhole, wholeOf}
+use Rattle.batch.specs.Answers.{ampleRoom, sent, answersTo, cameraAfter, answersLength}
+use Rattle.batch.specs.Batch.{batchAnswers, batchCode, batched, batchedOut, batchTests}
+use Rattle.batch.specs.Theorems.{AllAmple, oneByOne, leftBy, EachAmple, AllOneByOne, LengthByProfile, AllNumbered, AlikeByProfile, BatchSuffices}
 use Rattle.batch.specs.Theorems.{handedAnswers, AllJoined}
 use Rattle.batch.proofs.Splitting.{packed-then-split, split-then-packed, stops-unsplit}
 use Rattle.batch.proofs.Laws.Packing.{packed-requests}
@@ -129,8 +129,8 @@ no-longer : (p : Profile) → profileValid p ≡ true → (rs : List Request) �
 no-longer p v [] = omega arith
 no-longer p v (r ∷ rs) = omega (arith, no-longer p v rs, answers.reply-within p v r)
 
-pub suffices : Suffices
-suffices c w rs e room h =
+pub batch-suffices : BatchSuffices
+batch-suffices c w rs e room h =
     all-numbered c room .accepted w rs e (omega (arith, no-longer (c .profile) (formed-profile c w) rs))
 
 -- two batches, joined

@@ -5,7 +5,7 @@ use lib.{Dec.{ltb, eqb}, ListN.{length, drop}}
 use Rattle.wire.specs.{Rows.{Row, _⇒_, firstOf}, Uvc.{malformedRecord, noRoom}}
 use Rattle.profile.specs.declared.Profile.{Profile}
 use Rattle.camera.specs.{declared.{record.Camera.{Camera}, calls.Outcome.{Outcome}}, Record.{recordWellFormed}, Requests.{outcomeBy}}
-use Rattle.batch.specs.{Packing.{Request, requestsOf, isWhole, wholeOf}, Answers.{answersTo, cameraAfter, answersLength}}
+use Rattle.batch.specs.{Packing.{requestsOf, isWhole, wholeOf}, Answers.{answersTo, cameraAfter, answersLength}}
 
 -- the number of a batch that stops inside a request
 abbrev pub cutBatch : ℕ

@@ -1,7 +1,7 @@
 -- What holds of batches. proofs/Theorems proves each.
 use Prim.Native.Nat.{ℕ, _+_, _*_, _≤_, _<_}
 use mathlib.Core.{Path.{_≡_}, List.{List, [], _∷_, _++_, map}, Option.{some}, Bool.{true, false}}
-use lib.ListN.{length, take, drop, replicate}
+use lib.ListN.{length, take, drop}
 use Rattle.request.specs.Tests.{testNumber}
 use Rattle.camera.specs.{declared.{record.Camera.{Camera}, calls.Outcome.{Outcome}}, Record.{recordWellFormed}}
 use Rattle.camera.specs.Requests.{table, requested, requestedReply}
@@ -67,8 +67,8 @@ AlikeByProfile =
     → (batched c s room .code ≡ batched d s room .code) × (batched c s room .count ≡ batched d s room .count)
 
 -- 124 bytes for each request always suffice: three, and the longest reply.
-abbrev pub Suffices : Type 0
-Suffices =
+abbrev pub BatchSuffices : Type 0
+BatchSuffices =
     (c : Camera) → recordWellFormed c ≡ true → (rs : List Request) → EachWhole rs → (room : ℕ) → 124 * length rs ≤ room
     → batched c (batchOf rs) room .code ≡ 0
 

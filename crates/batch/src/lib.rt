@@ -7,4 +7,5 @@ mod packing;
 mod running;
 
 pub use packing::CUT_BATCH;
+pub use running::ANSWER_ROOM;
 pub use running::run;

@@ -4,6 +4,7 @@ use crate::packing::data_length;
 use crate::packing::setup_at;
 use camera::Camera;
 use camera::Outcome;
+use request::LONGEST_ANSWER;
 use wire::Part;
 use wire::uvc;
 ghost use mathlib.Core.{Path.{_≡_}, Bool.{true}};
@@ -12,6 +13,9 @@ ghost use lib.ListN.{length, drop};
 ghost use Rattle.wire.specs.Writes.{overlay};
 ghost use Rattle.camera.specs.Requests.{requested, requestedReply};
 ghost use Rattle.batch.specs.{Answers.{answerBytes}, Batch.{batchCode, batched, batchedOut}};
+
+// No request's answer in a batch is longer: its three bytes and the longest reply.
+pub const ANSWER_ROOM: usize = 3 + LONGEST_ANSWER;
 
 // The answer to one request, laid over `out` from `at` on: its number, its count in two bytes, its reply.
 fn answer(camera: Camera, setup: &[u8], payload: &[u8], out: &mut [u8], at: usize) -> Outcome

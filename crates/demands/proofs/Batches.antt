@@ -7,9 +7,9 @@ use Rattle.wire.specs.Rows.{firstOf}
 use Rattle.profile.specs.declared.Profile.{Profile}
 use Rattle.camera.specs.{declared.record.Camera.{Camera}, Record.{recordWellFormed}, Requests.{requestGives}}
 use Rattle.invariants.proofs.Laws.Requests.{request-next, request-stays}
-use Rattle.batch.specs.{Packing.{Request, requestsOf, wholeOf}, Answers.{ampleRoom, sent, cameraAfter}, Batch.{batchTests}}
+use Rattle.batch.specs.{Packing.{Request, wholeOf}, Answers.{ampleRoom, sent, cameraAfter}, Batch.{batchTests}}
 use Rattle.batch.proofs.Theorems.{done}
-use Rattle.demands.specs.{Calls.{batch, outcome}, Runs.{requestsGive, gives, given, run}, Batches.{singles, BatchesCount}}
+use Rattle.demands.specs.{Calls.{batch}, Runs.{requestsGive, gives, given, run}, Batches.{singles, BatchesCount}}
 use Rattle.demands.proofs.{Refusals.{refusals}, Laws.Steps.{batch-answer, refused-none}}
 
 -- what requests give, as a list and as calls

@@ -1,5 +1,5 @@
 -- Request #107, up to fifteen endpoints; specs/Endpoints has the statements. Assumes nothing.
-use mathlib.Core.{Path.{_≡_, refl, ap, sym, _∙_}, List.{List, [], _∷_, _++_}, Option.{some}}
+use mathlib.Core.{Path.{_≡_, refl, ap, sym, _∙_}, List.{List, [], _∷_, _++_}}
 use mathlib.Core.Bool.{Bool, true, false, cond}
 use Prim.Native.Nat.{ℕ, _-_, _≤_}
 use native.Mathlib.Omega.{arith}
@@ -8,17 +8,16 @@ use borrow.Author.Tests.{eq-eqb, ne-eqb}
 use Rattle.wire.specs.{Endpoints.{endpointLimit}, Numbers.{number, leAt, bytesOf, bits32}, Rows.{allBelow}}
 use Rattle.wire.specs.Uvc.{outOfRange}
 use Rattle.wire.specs.Selectors as selector
-use Rattle.request.proofs.Theorems.{ninth}
 use Rattle.flags.specs.Flags.{isSet, bitsOf, count, first, oneFlag}
-use Rattle.request.specs.{Setup.{isSetRequest, setupSelector, setupCode}, Answers.{answerBy, longestAnswer}}
-use Rattle.request.specs.Tests.{requestTests, valueTests, fullAnswer, requestRows, requestCode, testNumber, tableRefusal}
+use Rattle.request.specs.{Setup.{isSetRequest, setupSelector}, Answers.{answerBy, longestAnswer}}
+use Rattle.request.specs.Tests.{requestTests, valueTests, fullAnswer, requestRows, requestCode, tableRefusal}
 use Rattle.snapshot.specs.Records.{records, encode, IsRecord, KeyedRecord}
 use Rattle.snapshot.proofs.Laws.Entries.{each-record, each-at}
 use Rattle.controls.specs.Controls.{itemOf, itemCode, firstRefusal}
 use Rattle.exposure.specs.Exposure.{inRange, refusalAt, evRefusal, evBytes}
 use Rattle.face.specs.Limits.{endpointsOf, addressBefore, endpointValid, faceValidUnder, offersFrom, offersOf}
 use Rattle.face.specs.Answers.{flagsAt, entriesOf, faceValue}
-use Rattle.face.proofs.{Theorems.{limit-raised, zeros-behind}, Laws.Limits.{count-most, offers-unlisted}}
+use Rattle.face.proofs.{Theorems.{limit-raised, zeros-behind}, Laws.Limits.{offers-unlisted}}
 use Rattle.entries.specs.Entries.{entryAddress, seenIn, faceSetLength, isChoice, entryRefusal, faceItem, settingRefusal}
 use Rattle.entries.proofs.Laws.{Entries.{entry-code}, Payload.{len-longest}}
 use Rattle.metadata.specs.Metadata.{metadataRefusal}
@@ -28,10 +27,9 @@ use Rattle.profile.specs.{declared.Profile.{Profile}, Items.{profileItem, setRe
 use Rattle.profile.specs.Profile.{has, setLength, presenceValid, profileValid, profileValidUnder, profileRefusal}
 use Rattle.profile.proofs.Laws.Profile.{valid-face}
 use Rattle.settings.specs.{Held.{settingsHeld}, Kept.{valueRefusal, kept, settingsWellFormedUnder}}
-use Rattle.answering.specs.Answering.{valueOf, controlAnswer}
-use Rattle.answering.proofs.Laws.Answering.{answer-fits}
+use Rattle.answering.specs.Answering.{valueOf}
 use Rattle.camera.specs.{declared.record.Camera.{Camera}, Record.{recordWellFormed, recordWellFormedUnder}}
-use Rattle.camera.specs.{Requests.{table, rules, cameraAnswer, refused, requestDone, requested}, Writing.{snapshot}}
+use Rattle.camera.specs.{Requests.{rules, refused, requestDone, requested}, Writing.{snapshot}}
 use Rattle.camera.specs.Loading.{selectorAt, recordItem, loadCode, loadCodeUnder, loaded, loadedUnder}
 use Rattle.camera.proofs.Laws.Record.{formed-profile}
 use Rattle.invariants.proofs.Laws.{Requests.{set-answer}, Replies.{few, answer-short, no-ninth}}

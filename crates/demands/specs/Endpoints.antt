@@ -32,9 +32,10 @@ pub record CameraLengths (c : Camera) : Type 0 where
 abbrev pub AllCameraLengths : Type 0
 AllCameraLengths = (c : Camera) → recordWellFormed c ≡ true → CameraLengths c
 
--- The lengths of buffers that always suffice: for a reply and a camera's snapshot by these, for a merge by `merging`'s `Suffices`.
+-- The lengths of buffers that always suffice: for a reply and a camera's snapshot by these, for a merge by `merging`'s `Suffices`, for the
+-- answer to each request of a batch by `batch`'s `BatchSuffices`.
 abbrev pub bufferLengths : List ℕ
-bufferLengths = 121 ∷ 250 ∷ 250 ∷ []
+bufferLengths = 121 ∷ 250 ∷ 250 ∷ 124 ∷ []
 
 -- A camera with every control and every endpoint, each of which offers D0 and D1, that holds a setting of each.
 unfoldable pub fullProfile : Profile

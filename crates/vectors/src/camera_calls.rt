@@ -1,11 +1,14 @@
 // Calls of the camera.
 use crate::buffers::LENT;
+use crate::buffers::LENT_ANSWERS;
+use crate::buffers::LONGEST_BATCH;
 use crate::buffers::first;
 use crate::print;
 use crate::record;
 use crate::words::called;
 use crate::words::decode;
 use crate::words::octet;
+use crate::words::place;
 use crate::words::word;
 use camera::Camera;
 use camera::Outcome;
@@ -47,6 +50,26 @@ fn load(camera: Camera, call: &[u8]) -> Camera {
     told(camera.load(wire::head(&snapshot, n)))
 }
 
+// The bytes of a batch: those that a word gives, and zeros behind them up to a length, if that is more.
+fn packed(given: usize, len: usize) -> usize {
+    if given < len {
+        return len;
+    }
+    given
+}
+
+// A batch: room for its answers, its requests, and how long it is with zeros behind them.
+fn run_batch(camera: Camera, call: &[u8]) -> Camera {
+    let mut bytes = [0u8; LONGEST_BATCH];
+    let n = decode(word(call, 2), &mut bytes);
+    let len = packed(n, place(word(call, 3)));
+    let mut room = [0xEEu8; LENT_ANSWERS];
+    let out = first(&mut room, place(word(call, 1)));
+    let next = told(batch::run(camera, wire::head(&bytes, len), out));
+    print::bytes(out);
+    next
+}
+
 // The number that the sensor is handed.
 fn sensor(camera: Camera) -> Camera {
     let s = camera.sensor();
@@ -67,7 +90,8 @@ fn fresh(call: &[u8]) -> Camera {
     camera
 }
 
-// camera, hold, request ROOM SETUP PAYLOAD, flag ON (the streaming flag), load SNAPSHOT, write ROOM, sensor.
+// camera, hold, request ROOM SETUP PAYLOAD, flag ON (the streaming flag), load SNAPSHOT, write ROOM, sensor, batch ROOM REQUESTS [LENGTH]
+// (zeros behind them up to the length).
 pub(crate) fn run(camera: Camera, call: &[u8]) -> Camera {
     if called(call, b"camera") {
         return fresh(call);
@@ -89,6 +113,9 @@ pub(crate) fn run(camera: Camera, call: &[u8]) -> Camera {
     }
     if called(call, b"sensor") {
         return sensor(camera);
+    }
+    if called(call, b"batch") {
+        return run_batch(camera, call);
     }
     camera
 }

@@ -51,7 +51,7 @@ fn rows(s: &[u8]) {
 }
 
 fn main() {
-    let mut input = [0u8; 262144];
+    let mut input = [0u8; 524288];
     let n = io::read_full(0, &mut input);
     rows(wire::head(&input, n));
 }

@@ -87,8 +87,12 @@ sent-count c w r = go (eqb first 0) (isSetRequest (r .setup)) refl refl
 pub answer-size : (c : Camera) (r : Request) → length (answerTo c r) ≡ 3 + sent c r .count
 answer-size c r =
     answer-long (sent c r) (sentReply c r)
-    (omega (arith, count-within c (r .setup) (r .payload) ampleRoom, reply-length (table c) (r .setup) (r .payload) (replicate ampleRoom 0),
-    length-replicate {A = ℕ} ampleRoom 0))
+    (omega (
+      arith,
+      count-within c (r .setup) (r .payload) ampleRoom,
+      reply-length (table c) (r .setup) (r .payload) (replicate ampleRoom 0),
+      length-replicate {A = ℕ} ampleRoom 0,
+    ))
 
 -- a request leaves a record of the same profile that is not refused either
 module _ (c : Camera) (w : recordWellFormed c ≡ true) where

@@ -1,7 +1,7 @@
 -- Splitting a batch into its requests, one after another. Assumes nothing.
-use mathlib.Core.{Path.{_≡_, refl, ap, ap₂, sym, _∙_}, List.{List, [], _∷_, _++_, append-assoc, append-nil}}
-use mathlib.Core.{Option.{Option, none, some, Option·map, map-id, map-map}, Bool.{Bool, true, false, cond}}
-use Prim.Native.Nat.{ℕ, zero, suc, _+_, _-_, _≤_, _<_}
+use mathlib.Core.{Path.{_≡_, refl, ap, ap₂, sym, _∙_}, List.{List, [], _∷_, _++_, append-assoc}}
+use mathlib.Core.{Option.{none, some, Option·map, map-id, map-map}, Bool.{Bool, true, false, cond}}
+use Prim.Native.Nat.{ℕ, zero, suc, _+_, _≤_, _<_}
 use native.Mathlib.Omega.{arith}
 use lib.{Dec.{leb, eqb}, ListN.{length, take, drop, length-take, length-drop, length-append, take-append-drop}, Seq.{take-at, drop-at, drop-drop}}
 use borrow.Author.Tests.{eq-eqb, ne-eqb, eqb-true, eqb-false, le-leb, lt-leb, leb-true, leb-false}

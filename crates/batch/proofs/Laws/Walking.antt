@@ -2,12 +2,12 @@
 use mathlib.Core.{Path.{_≡_, refl, ap, ap₂, sym, _∙_, fun-ext}, List.{List, [], _∷_, _++_, append-assoc, append-nil}}
 use mathlib.Core.{Option.{Option, none, some, Option·map, map-id, map-map}, Bool.{Bool, true, false, true≢false}}
 use Prim.Native.Nat.{ℕ, _+_, _-_, _≤_, _<_, min}
-use native.Mathlib.{Nat.{add-assoc}, Omega.{arith}}
+use native.Mathlib.Omega.{arith}
 use lib.{Dec.{leb}, ListN.{length, take, drop, length-drop}, Seq.{drop-drop}}
 use borrow.Author.Tests.{lt-ltb, le-ltb, leb-true, leb-false}
 use Rattle.wire.specs.{Rows.{firstOf}, Uvc.{noRoom}}
 use Rattle.profile.specs.declared.Profile.{Profile}
-use Rattle.batch.specs.Packing.{Request, dataLength, firstSetup, firstRequest, firstSize, requestsOf, isWhole}
+use Rattle.batch.specs.Packing.{Request, dataLength, firstRequest, firstSize, requestsOf, isWhole}
 use Rattle.batch.specs.{Answers.{replyLength, answersLength}, Batch.{cutBatch, batchTests}}
 use Rattle.batch.proofs.Laws.{Packing.{requests-end, requests-cut, requests-next}, Answers.{length-parts}}
 

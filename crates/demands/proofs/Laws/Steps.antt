@@ -11,7 +11,7 @@ use Rattle.snapshot.specs.{Keys.{keys, metadataKey, hdrKey}, Records.{decode}, 
 use Rattle.controls.specs.declared.{Item.{Item}, Item.the-variants.{Refused, Given}, Setting.{Setting}}
 use Rattle.profile.specs.{declared.Profile.{Profile}, Profile.{profileValid}, Items.{profileItem}}
 use Rattle.profile.specs.KnownControl.{KnownControl, ev, face, metadata, hdr, throttle}
-use Rattle.settings.specs.Items.{givenOf, putAll}
+use Rattle.settings.specs.Items.{putAll}
 use Rattle.settings.proofs.Laws.Items.{puts-append}
 use Rattle.camera.specs.{declared.record.Camera.{Camera}, Record.{held, recordWellFormed, withSettings, puts}, Calls.{sensed}}
 use Rattle.camera.specs.Requests.{refused, requestGives, controlRefusal}

@@ -1,5 +1,5 @@
 -- Settings that a SET gives keep the record's rules. Assumes nothing.
-use mathlib.Core.{Path.{_≡_, refl, ap, sym, _∙_, subst}, List.{List, [], _∷_, _++_}, Option.{Option, none, some}}
+use mathlib.Core.{Path.{_≡_, refl, ap, sym, _∙_, subst}, List.{List, [], _∷_, _++_}, Option.{some}}
 use mathlib.Core.Bool.{Bool, true, false, cond, not, _&&_, true≢false, and-eq-true-iff}
 use Prim.Native.Nat.{ℕ, zero, suc, _+_, _-_, _≤_, _<_}
 use native.Mathlib.Omega.{arith}
@@ -9,7 +9,7 @@ use Rattle.wire.specs.{Endpoints.{firstAddress}, Numbers.{leAt}, Rows.{Row, _�
 use Rattle.flags.specs.Flags.{bitsOf, count, oneFlag}
 use Rattle.wire.specs.Selectors as selectors
 use Rattle.wire.proofs.Laws.{Rows.{quiet}, Below.{all-at, all-of}}
-use Rattle.snapshot.specs.{Keys.{keys}, Given.{over, lastOf}}
+use Rattle.snapshot.specs.Keys.{keys}
 use Rattle.controls.specs.{declared.{Item.{Item}, Item.the-variants.{Refused, Given}, Setting.{Setting}}, Controls.{itemOf}}
 use Rattle.controls.specs.declared.Setting.the-variants as S
 use Rattle.exposure.specs.Exposure.{evItem, evFlags, evValue}

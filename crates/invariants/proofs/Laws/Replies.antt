@@ -1,27 +1,27 @@
 -- The reply of a request to a record that is not refused 0x21: how long it is, by the profile and the request alone, and room that always
 -- suffices. Assumes nothing.
-use mathlib.Core.{Path.{_≡_, refl, ap, ap₂, sym, _∙_}, List.{List, []}, Option.{some}}
+use mathlib.Core.{Path.{_≡_, refl, ap, sym, _∙_}, List.{List, []}, Option.{some}}
 use mathlib.Core.Bool.{Bool, true, false, cond, not, _&&_, and-eq-true-iff}
-use Prim.Native.Nat.{ℕ, _≤_, _<_, min}
+use Prim.Native.Nat.{ℕ, _≤_, min}
 use native.Mathlib.Omega.{arith}
 use lib.{Dec.{eqb}, ListN.{length, take}}
-use borrow.Author.Tests.{eq-eqb, ne-eqb, eqb-true, eqb-false, leb-true, not-false, le-ltb}
+use borrow.Author.Tests.{ne-eqb, leb-true, not-false, le-ltb}
 use Rattle.wire.specs.{Endpoints.{endpointLimit}, Rows.{firstOf, Quiet}, Uvc.{getCur, setCur, wrongState}}
 use Rattle.wire.specs.Selectors as selector
 use Rattle.wire.proofs.Laws.Rows.{quiet}
 use Rattle.request.specs.Setup.{setupCode, setupSelector, setupValueLow, setupWLength, isSetRequest, isGetRequest}
-use Rattle.request.specs.Tests.{requestTests, fullAnswer, asked, sentCount, testNumber}
-use Rattle.request.specs.{Answers.{longestAnswer}, Requests.{requestCount, replied}}
+use Rattle.request.specs.Tests.{requestTests, fullAnswer, sentCount, testNumber}
+use Rattle.request.specs.{Answers.{longestAnswer}, Requests.{requestCount}}
 use Rattle.request.proofs.Laws.{Rooms.{replyBy, reply-count, reply-within, reply-front, enough}, Requests.{requested-count}}
 use Rattle.request.proofs.{Theorems.{ninth}, Laws.Tests.{at-tests, at-get}}
 use Rattle.face.specs.Limits.{endpointsOf}
 use Rattle.face.proofs.Laws.Limits.{count-most}
-use Rattle.profile.specs.{declared.Profile.{Profile}, Profile.{has}}
+use Rattle.profile.specs.Profile.{has}
 use Rattle.profile.proofs.Laws.Profile.{valid-face}
 use Rattle.settings.specs.Items.{setGives}
 use Rattle.answering.specs.Answering.{controlAnswer, answerLength}
 use Rattle.answering.proofs.Laws.Answering.{answer-fits, length-fixed}
-use Rattle.camera.specs.{declared.{record.Camera.{Camera}, calls.Outcome.{Outcome}}, Record.{recordWellFormed, puts}}
+use Rattle.camera.specs.{declared.record.Camera.{Camera}, Record.{recordWellFormed, puts}}
 use Rattle.camera.specs.Requests.{table, stateRefusal, outcomeOf, outcomeBy, requestedCode, requestDone, requested, requestedReply, cameraAnswer}
 use Rattle.camera.proofs.Laws.Record.{formed-profile}
 

@@ -1,11 +1,11 @@
 -- The bytes of reply that a request hands over, and room for them, whatever the unit. Assumes nothing.
-use mathlib.Core.{Path.{_≡_, refl, ap, sym, _∙_}, List.{List, [], _++_}, Bool.{Bool, true, false, cond, not, _&&_, and-eq-true-iff}}
+use mathlib.Core.{Path.{_≡_, refl, ap, sym, _∙_}, List.{List, [], _++_}, Bool.{Bool, true, false, cond, not, _&&_}}
 use Prim.Native.Nat.{ℕ, _≤_}
 use native.Mathlib.Omega.{arith}
-use lib.{Dec.{eqb, ltb}, ListN.{length, take, drop, length-append, length-drop}, Seq.{length-take-le, take-append-seam}}
-use borrow.Author.Tests.{eqb-true, eqb-false, le-ltb, ltb-false, not-true}
+use lib.{Dec.{eqb}, ListN.{length, take, drop, length-append, length-drop}, Seq.{length-take-le, take-append-seam}}
+use borrow.Author.Tests.{eqb-true, eqb-false, le-ltb, ltb-false}
 use Rattle.wire.specs.Rows.{firstOf}
-use Rattle.request.specs.{Setup.{setupWLength, isSetRequest}, Table.{Table}}
+use Rattle.request.specs.{Setup.{isSetRequest}, Table.{Table}}
 use Rattle.request.specs.Tests.{requestTests, valueTests, asked, sentCount, requestRows, requestCode}
 use Rattle.request.specs.Requests.{requestCount, replied}
 use Rattle.request.proofs.Laws.Tests.{at-tests, request-quiet}

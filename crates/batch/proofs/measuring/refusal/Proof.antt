@@ -1,6 +1,5 @@
 -- `refusal` meets its contract. Assumes nothing.
 use Prim.Native.Nat.{_-_}
-use native.Mathlib.Omega.{arith}
 use lib.ListN.{length}
 use borrow.Author.Needs.{needs}
 use Rattle.batch.proofs.Laws.Walking.{Measured, measured-none, measured-next, cut-here, refused-cut, refused-room, accepted-here}

@@ -1,13 +1,13 @@
 -- `reply_length` meets its contract. Assumes nothing.
-use mathlib.Core.{Path.{_≡_, ap, ap₂, sym, _∙_}, Bool.{true}}
-use Prim.Native.Nat.{ℕ, _≤_, min}
+use mathlib.Core.Path.{_≡_, ap, ap₂, sym, _∙_}
+use Prim.Native.Nat.{ℕ, min}
 use native.Mathlib.Omega.{arith}
 use borrow.Author.Needs.{needs}
 use Rattle.wire.specs.Rows.{firstOf}
-use Rattle.request.specs.{Setup.{setupSelector, setupWLength}, Table.{tableOf}, Tests.{requestTests}, Answers.{longestAnswer}}
-use Rattle.profile.specs.Profile.{profileValid, extensionUnit, profileControl}
+use Rattle.request.specs.{Table.{tableOf}, Tests.{requestTests}}
+use Rattle.profile.specs.Profile.{extensionUnit, profileControl}
 use Rattle.answering.specs.Answering.{answerLength}
-use Rattle.batch.specs.{Packing.{Request}, Answers.{replyLength}}
+use Rattle.batch.specs.Packing.{Request}
 use Rattle.batch.proofs.Laws.Answers.{tests, reply-refused, reply-set, reply-get, reply-within}
 use Rattle.batch.proofs.measuring.reply_length.Statement.{statement}
 use Rattle.batch.proofs.measuring.reply_length.Tie as tie

@@ -1,9 +1,7 @@
 -- `answer` meets its contract. Assumes nothing.
-use mathlib.Core.{Path.{_≡_, ap, ap₂, sym, _∙_}, List.{List, [], _∷_}}
-use Prim.Native.Nat.{ℕ}
-use lib.ListN.{getD}
+use mathlib.Core.Path.{_≡_, _∙_}
 use borrow.Author.Needs.{needs}
-use Rattle.wire.specs.{Numbers.{bytesOf}, Writes.{overlay}}
+use Rattle.wire.specs.Numbers.{bytesOf}
 use Rattle.batch.proofs.Laws.Running.{done-is, answer-laid}
 use Rattle.batch.proofs.running.answer.Statement.{statement}
 use Rattle.batch.proofs.running.answer.Tie as tie

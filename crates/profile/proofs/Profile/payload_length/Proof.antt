@@ -1,5 +1,5 @@
 -- `payload_length` meets its contract. Assumes nothing.
-use borrow.Author.{Tests.{eq-eqb, ne-eqb}, Needs.{needs}}
+use borrow.Author.{Tests.{ne-eqb}, Needs.{needs}}
 use Rattle.profile.proofs.Profile.payload_length.Statement.{statement}
 use Rattle.profile.proofs.Profile.payload_length.Tie as tie
 
