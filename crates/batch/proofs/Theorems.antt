@@ -1,6 +1,6 @@
 -- What holds of batches; specs/Theorems has the statements. Assumes nothing.
-use mathlib.Core.{Path.{_≡_, refl, ap, ap₂, sym, _∙_}, List.{List, [], _∷_, _++_, map}, Option.{Option, none, some, Option·map}}
-use mathlib.Core.Bool.{Bool, true, false, cond, true≢false}
+use mathlib.Core.{Path.{_≡_, refl, ap, ap₂, sym, _∙_}, List.{List, [], _∷_, _++_, map}}
+use mathlib.Core.Bool.{Bool, true, false, cond}
 use Prim.Native.Nat.{ℕ, _+_, _*_, _≤_}
 use native.Mathlib.Omega.{arith}
 use lib.{Dec.{eqb}, ListN.{length, take, drop, replicate, length-append}, Seq.{take-append-seam}}
@@ -10,13 +10,13 @@ use Rattle.profile.specs.{declared.Profile.{Profile}, Profile.{profileValid}}
 use Rattle.camera.specs.{declared.{record.Camera.{Camera}, calls.Outcome.{Outcome}}, Record.{recordWellFormed}, Requests.{refused, requestedReply}}
 use Rattle.camera.proofs.Laws.Record.{formed-profile}
 use Rattle.invariants.proofs.Laws.Replies.{ample, no-ninth, same-reply}
-use Rattle.batch.specs.Packing.{Request, batchOf, requestsOf, isWhole, wholeOf}
+use Rattle.batch.specs.Packing.{Request, batchOf, requestsOf, restOf}
 use Rattle.batch.specs.Answers.{ampleRoom, sent, answersTo, cameraAfter, answersLength}
 use Rattle.batch.specs.Batch.{batchAnswers, batchCode, batched, batchedOut, batchTests}
 use Rattle.batch.specs.Theorems.{AllAmple, oneByOne, leftBy, EachAmple, AllOneByOne, LengthByProfile, AllNumbered, AlikeByProfile, BatchSuffices}
 use Rattle.batch.specs.Theorems.{handedAnswers, AllJoined}
-use Rattle.batch.proofs.Splitting.{packed-then-split, split-then-packed, stops-unsplit}
-use Rattle.batch.proofs.Laws.Packing.{packed-requests}
+use Rattle.batch.proofs.Splitting.{packed-then-split, whole-packed, stops-cut}
+use Rattle.batch.proofs.Laws.Packing.{packed-requests, packed-rest}
 use Rattle.batch.proofs.Laws.Answers as answers
 use Rattle.batch.proofs.Laws.Running.{Accepted, accepted, accepts, number-is, code-by-profile}
 
@@ -27,15 +27,15 @@ pub all-numbered : AllNumbered
 unfolding batchCode batchTests
 all-numbered c room = record {
   malformed = λ w s. number-is c s room ∙ rw w;
-  cut = λ w s i. number-is c s room ∙ rw (w, stops-unsplit s i);
+  cut = λ w s i. number-is c s room ∙ rw (w, stops-cut s i);
   no-room = λ w rs e h.
       number-is c (batchOf rs) room
       ∙ code-by-profile c (batchOf rs) room w
-      ∙ rw (packed-then-split rs e, lt-ltb room (answersLength (c .profile) rs) h);
+      ∙ rw (packed-then-split rs e .0, packed-then-split rs e .1, lt-ltb room (answersLength (c .profile) rs) h);
   accepted = λ w rs e h.
       number-is c (batchOf rs) room
       ∙ code-by-profile c (batchOf rs) room w
-      ∙ rw (packed-then-split rs e, le-ltb room (answersLength (c .profile) rs) h);
+      ∙ rw (packed-then-split rs e .0, packed-then-split rs e .1, le-ltb room (answersLength (c .profile) rs) h);
 }
 
 pub all-ample : AllAmple
@@ -55,7 +55,7 @@ module _ (c : Camera) (s out : List ℕ) (z : batched c s (length out) .code ≡
   not-refused = sym (number-is c s (length out)) ∙ z
 
   pub done : batched c s (length out)
-      ≡ record { code = 0; count = length (batchAnswers c s); camera = cameraAfter c (wholeOf (requestsOf s)) }
+      ≡ record { code = 0; count = length (batchAnswers c s); camera = cameraAfter c (requestsOf s) }
   unfolding batched
   done = rw (eq-eqb (batchCode c s (length out)) 0 not-refused)
 
@@ -65,13 +65,6 @@ module _ (c : Camera) (s out : List ℕ) (z : batched c s (length out) .code ≡
 
   passes : Accepted c s (length out)
   passes = accepted c s (length out) not-refused
-
-  splits : requestsOf s ≡ some (wholeOf (requestsOf s))
-  splits = go (requestsOf s) (passes .whole)
-    where
-      go : (o : Option (List Request)) → isWhole o ≡ true → o ≡ some (wholeOf o)
-      go none e = absurd (true≢false (sym e))
-      go (some rs) e = refl
 
   handed : handedAnswers c s out ≡ batchAnswers c s
   handed =
@@ -94,7 +87,7 @@ one-by-one c w (x ∷ l) e =
 pub all-one-by-one : AllOneByOne
 all-one-by-one c s out z l e ample =
     let q = one-by-one c (passes c s out z .formed) l ample in
-    let rs : wholeOf (requestsOf s) ≡ map (λ x. x .0) l = ap wholeOf e in
+    let rs = sym e in
     let is : batchAnswers c s ≡ oneByOne c l = ap (answersTo c) rs ∙ sym (q .0) in
     record {
       outcome = done c s out z
@@ -108,14 +101,14 @@ unfolding batched
 count-is c s room = go (eqb (batchCode c s room) 0)
   where
     go : (b : Bool)
-        → cond b (record { code = 0; count = length (batchAnswers c s); camera = cameraAfter c (wholeOf (requestsOf s)) })
+        → cond b (record { code = 0; count = length (batchAnswers c s); camera = cameraAfter c (requestsOf s) })
         (refused (batchCode c s room) c) .count ≡ cond b (length (batchAnswers c s)) 0
     go true = refl
     go false = refl
 
 pub alike-by-profile : AlikeByProfile
 alike-by-profile c d w v e s room =
-    let rs = wholeOf (requestsOf s) in
+    let rs = requestsOf s in
     let codes : batchCode c s room ≡ batchCode d s room =
     code-by-profile c s room w ∙ ap (λ p. firstOf (batchTests p s room)) e ∙ sym (code-by-profile d s room v) in
     let lengths : length (batchAnswers c s) ≡ length (batchAnswers d s) =
@@ -137,20 +130,19 @@ batch-suffices c w rs e room h =
 pub all-joined : AllJoined
 all-joined c a b outA outB out x y h =
     let d = batched c a (length outA) .camera in
-    let first = wholeOf (requestsOf a) in
-    let second = wholeOf (requestsOf b) in
+    let first = requestsOf a in
+    let second = requestsOf b in
     let left : d ≡ cameraAfter c first = ap (λ o. o .camera) (done c a outA x) in
-    let packed = split-then-packed a first (splits c a outA x) in
-    let split : requestsOf (a ++ b) ≡ some (first ++ second) =
-    ap (λ l. requestsOf (l ++ b)) (sym (packed .1))
-    ∙ packed-requests first (packed .0) b
-    ∙ ap (Option·map (λ l. first ++ l)) (splits d b outB y) in
+    let packed = whole-packed a (passes c a outA x .whole) in
+    let parts : a ++ b ≡ batchOf first ++ b = ap (λ l. l ++ b) (sym (packed .1)) in
+    let split : requestsOf (a ++ b) ≡ first ++ second = ap requestsOf parts ∙ packed-requests first (packed .0) b in
+    let rest : restOf (a ++ b) ≡ restOf b = ap restOf parts ∙ packed-rest first (packed .0) b in
     let joined : batchAnswers c (a ++ b) ≡ batchAnswers c a ++ batchAnswers d b =
-    ap (λ o. answersTo c (wholeOf o)) split
+    ap (answersTo c) split
     ∙ answers.answers-append c first second
     ∙ ap (λ e. batchAnswers c a ++ answersTo e second) (sym left) in
-    let after : cameraAfter c (wholeOf (requestsOf (a ++ b))) ≡ batched d b (length outB) .camera =
-    ap (λ o. cameraAfter c (wholeOf o)) split
+    let after : cameraAfter c (requestsOf (a ++ b)) ≡ batched d b (length outB) .camera =
+    ap (cameraAfter c) split
     ∙ answers.after-append c first second
     ∙ ap (λ e. cameraAfter e second) (sym left)
     ∙ sym (ap (λ o. o .camera) (done d b outB y)) in
@@ -163,7 +155,7 @@ all-joined c a b outA outB out x y h =
       ap (λ o. o .count) (done d b outB y),
     ) in
     let code =
-    accepts c (a ++ b) (length out) (record { formed = passes c a outA x .formed; whole = ap isWhole split; fits = omega arith }) in
+    accepts c (a ++ b) (length out) (record { formed = passes c a outA x .formed; whole = ap (λ l. eqb (length l) 0) rest ∙ passes d b outB y .whole; fits = omega arith }) in
     let z = number-is c (a ++ b) (length out) ∙ code in
     record {
       outcome = done c (a ++ b) out z ∙ ap₂ (λ n e. record { code = 0; count = n; camera = e }) long after;

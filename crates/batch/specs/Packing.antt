@@ -1,6 +1,6 @@
 -- Requests packed one after another: each its eight setup bytes and, where its type is 0x21, as many bytes of payload as its wLength says.
 use Prim.Native.Nat.{ℕ, zero, suc, _+_}
-use mathlib.Core.{Path.{_≡_}, List.{List, [], _∷_, _++_}, Option.{Option, none, some, Option·map}, Bool.{Bool, true, false, cond}}
+use mathlib.Core.{Path.{_≡_}, List.{List, [], _∷_, _++_}, Bool.{Bool, cond}}
 use lib.{Dec.{leb, eqb}, ListN.{length, take, drop}}
 use Rattle.request.specs.Setup.{setupType, setupWLength}
 
@@ -13,18 +13,18 @@ abbrev pub dataLength : List ℕ → ℕ
 dataLength setup = cond (eqb (setupType setup) 0x21) (setupWLength setup) 0
 
 -- a whole request
-pub record IsWhole (r : Request) : Type 0 where
+pub record WholeRequest (r : Request) : Type 0 where
   pub setup : length (r .setup) ≡ 8
   pub payload : length (r .payload) ≡ dataLength (r .setup)
 
 abbrev pub EachWhole : List Request → Type 0
 EachWhole [] = Unit {0}
-EachWhole (r ∷ rs) = IsWhole r × EachWhole rs
+EachWhole (r ∷ rs) = WholeRequest r × EachWhole rs
 
 -- the batch of a list of requests
 abbrev pub batchOf : List Request → List ℕ
 batchOf [] = []
-batchOf (r ∷ rs) = (r .setup ++ r .payload) ++ batchOf rs
+batchOf (r ∷ rs) = r .setup ++ r .payload ++ batchOf rs
 
 -- the request at the start of a batch, and its size
 abbrev pub firstSetup : List ℕ → List ℕ
@@ -36,21 +36,20 @@ firstRequest s = record { setup = firstSetup s; payload = take (dataLength (firs
 abbrev pub firstSize : List ℕ → ℕ
 firstSize s = 8 + dataLength (firstSetup s)
 
--- request by request, where each is whole
-unfoldable pub requestsIn : ℕ → List ℕ → Option (List Request)
-requestsIn zero s = cond (eqb (length s) 0) (some []) none
-requestsIn (suc fuel) s =
-    cond (eqb (length s) 0) (some [])
-    (cond (leb (firstSize s) (length s)) (Option·map (λ rs. firstRequest s ∷ rs) (requestsIn fuel (drop (firstSize s) s))) none)
+-- request by request, as far as they are whole: they, and the bytes behind them
+unfoldable pub splitIn : ℕ → List ℕ → List Request × List ℕ
+splitIn zero s = ([], s)
+splitIn (suc fuel) s =
+    let rest = splitIn fuel (drop (firstSize s) s) in
+    cond (leb (firstSize s) (length s)) (firstRequest s ∷ rest .0, rest .1) ([], s)
 
--- the requests of a batch, or none where it stops inside one. (A request has bytes, so there are no more requests than bytes.)
-unfoldable pub requestsOf : List ℕ → Option (List Request)
-requestsOf s = requestsIn (length s) s
+-- the whole requests of a batch, and what is left: the start of a request inside which the batch stops, or nothing. (A request has bytes, so
+-- there are no more requests than bytes.)
+unfoldable pub requestsOf : List ℕ → List Request
+requestsOf s = splitIn (length s) s .0
 
-abbrev pub isWhole : Option (List Request) → Bool
-isWhole none = false
-isWhole (some rs) = true
+unfoldable pub restOf : List ℕ → List ℕ
+restOf s = splitIn (length s) s .1
 
-abbrev pub wholeOf : Option (List Request) → List Request
-wholeOf none = []
-wholeOf (some rs) = rs
+abbrev pub isWhole : List ℕ → Bool
+isWhole s = eqb (length (restOf s)) 0

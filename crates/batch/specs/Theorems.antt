@@ -42,7 +42,7 @@ pub record OneByOne (c : Camera) (s out : List ℕ) (l : List (Request × List �
 abbrev pub AllOneByOne : Type 0
 AllOneByOne =
     (c : Camera) (s out : List ℕ) → batched c s (length out) .code ≡ 0
-    → (l : List (Request × List ℕ)) → requestsOf s ≡ some (map (λ x. x .0) l) → EachAmple l → OneByOne c s out l
+    → (l : List (Request × List ℕ)) → map (λ x. x .0) l ≡ requestsOf s → EachAmple l → OneByOne c s out l
 
 -- The length of all answers goes by the profile and the requests, not by settings or flag.
 abbrev pub LengthByProfile : Type 0

@@ -7,7 +7,7 @@ use Rattle.wire.specs.Rows.{firstOf}
 use Rattle.profile.specs.declared.Profile.{Profile}
 use Rattle.camera.specs.{declared.record.Camera.{Camera}, Record.{recordWellFormed}, Requests.{requestGives}}
 use Rattle.invariants.proofs.Laws.Requests.{request-next, request-stays}
-use Rattle.batch.specs.{Packing.{Request, wholeOf}, Answers.{ampleRoom, sent, cameraAfter}, Batch.{batchTests}}
+use Rattle.batch.specs.{Packing.{Request}, Answers.{ampleRoom, sent, cameraAfter}, Batch.{batchTests}}
 use Rattle.batch.proofs.Theorems.{done}
 use Rattle.demands.specs.{Calls.{batch}, Runs.{requestsGive, gives, given, run}, Batches.{singles, BatchesCount}}
 use Rattle.demands.proofs.{Refusals.{refusals}, Laws.Steps.{batch-answer, refused-none}}
@@ -31,7 +31,7 @@ unfolding gives
 batches-count c w packed out = record {
   settings = λ z l e.
       rw (eq-eqb (firstOf (batchTests (c .profile) packed (length out))) 0 (sym (batch-answer c packed (length out) w) ∙ z))
-      (ap (λ o. requestsGive (c .profile) (c .streaming) (wholeOf o)) e ∙ singles-given (c .profile) (c .streaming) l);
-  camera = λ z l e. ap (λ o. o .camera) (done c packed out z) ∙ ap (λ o. cameraAfter c (wholeOf o)) e ∙ singles-run c w l;
+      (ap (requestsGive (c .profile) (c .streaming)) (sym e) ∙ singles-given (c .profile) (c .streaming) l);
+  camera = λ z l e. ap (λ o. o .camera) (done c packed out z) ∙ ap (cameraAfter c) (sym e) ∙ singles-run c w l;
   none = λ n. (refused-none c w (batch packed out) n, refusals c (batch packed out) n .camera);
 }

@@ -7,7 +7,7 @@ use Rattle.snapshot.specs.Given.{lastOf, snapshotOf}
 use Rattle.controls.specs.declared.Setting.{Setting}
 use Rattle.profile.specs.declared.Profile.{Profile}
 use Rattle.camera.specs.{declared.record.Camera.{Camera}, Requests.{requestGives}, Loading.{loadTests, loadGives}}
-use Rattle.batch.specs.{Packing.{Request, requestsOf, wholeOf}, Batch.{batchTests}}
+use Rattle.batch.specs.{Packing.{Request, requestsOf}, Batch.{batchTests}}
 use Rattle.encoding.specs.Encoding.{recordOf}
 use Rattle.demands.specs.Calls.{Call, request, stream, load, write, sense, batch, next}
 
@@ -25,7 +25,7 @@ gives p streaming (load s) = cond (eqb (firstOf (loadTests p streaming s)) 0) (l
 gives p streaming (write out) = []
 gives p streaming sense = []
 gives p streaming (batch packed out) =
-    cond (eqb (firstOf (batchTests p packed (length out))) 0) (requestsGive p streaming (wholeOf (requestsOf packed))) []
+    cond (eqb (firstOf (batchTests p packed (length out))) 0) (requestsGive p streaming (requestsOf packed)) []
 
 -- the flag after a call
 abbrev pub leaves : Bool → Call → Bool

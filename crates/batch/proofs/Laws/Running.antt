@@ -11,10 +11,10 @@ use Rattle.camera.specs.{declared.{record.Camera.{Camera}, calls.Outcome.{Outco
 use Rattle.camera.specs.Requests.{table, refused, requestedCode, requested, requestedReply}
 use Rattle.invariants.proofs.Laws.Requests.{outcome-code}
 use Rattle.invariants.proofs.Laws.Replies.{Enough, as-sent, count-reply, count-within, reply-handed}
-use Rattle.batch.specs.{Packing.{Request, dataLength, requestsOf, isWhole, wholeOf}, Answers.{answerBytes, sent, answerTo, answersTo, cameraAfter}}
+use Rattle.batch.specs.{Packing.{Request, dataLength, requestsOf, isWhole}, Answers.{answerBytes, sent, answerTo, answersTo, cameraAfter}}
 use Rattle.batch.specs.Batch.{cutBatch, batchAnswers, batchCode, batchTests, batched, batchedOut}
 use Rattle.batch.proofs.Laws.Answers.{answers-append, after-append, answer-size, answers-length, sent-same, answer-same, after-stays}
-use Rattle.batch.proofs.Laws.Walking.{Walked, at-start, walked-all, walked-next, requests-rest, whole-here}
+use Rattle.batch.proofs.Laws.Walking.{Walked, at-start, walked-all, walked-next, whole-here}
 
 -- One answer: the reply is laid over first, and then what stands before it.
 module _ (c : Camera) (setup payload out : List ℕ) (at : ℕ) (h : at + 3 ≤ length out) where
@@ -63,14 +63,14 @@ number-is c s room = outcome-code (batchCode c s room) c _ refl
 -- a batch that is not refused
 pub record Accepted (c : Camera) (s : List ℕ) (room : ℕ) : Type 0 where
   pub formed : recordWellFormed c ≡ true
-  pub whole : isWhole (requestsOf s) ≡ true
+  pub whole : isWhole s ≡ true
   pub fits : length (batchAnswers c s) ≤ room
 
 pub accepted : (c : Camera) (s : List ℕ) (room : ℕ) → batchCode c s room ≡ 0 → Accepted c s room
 unfolding batchCode
 accepted c s room e =
     let q =
-    quiet ((not (recordWellFormed c) ⇒ malformedRecord) ∷ (not (isWhole (requestsOf s)) ⇒ cutBatch)
+    quiet ((not (recordWellFormed c) ⇒ malformedRecord) ∷ (not (isWhole s) ⇒ cutBatch)
     ∷ (ltb room (length (batchAnswers c s)) ⇒ noRoom) ∷ []) [] refl e .0 in
     record {
       formed = not-false _ (q .0);
@@ -97,7 +97,7 @@ module _ (c : Camera) (s out : List ℕ) where
 pub code-by-profile : (c : Camera) (s : List ℕ) (room : ℕ) → recordWellFormed c ≡ true
     → batchCode c s room ≡ firstOf (batchTests (c .profile) s room)
 unfolding batchCode batchTests
-code-by-profile c s room w = rw (w, answers-length c w (wholeOf (requestsOf s)))
+code-by-profile c s room w = rw (w, answers-length c w (requestsOf s))
 
 -- The requests before a place are answered: the record that they left, and their answers over the start of the buffer.
 pub record Answered (c : Camera) (s out₀ out : List ℕ) (next : Camera) (written at : ℕ) : Type 0 where
@@ -113,11 +113,11 @@ answered-none c s out = record { passed = []; walked = at-start s; camera = refl
 module _ (c : Camera) (s out₀ : List ℕ) (a : Accepted c s (length out₀)) where
   -- there is room for the answers to the requests before any place
   room-for : {at : ℕ} {passed : List Request} → Walked s at passed → length (answersTo c passed) ≤ length out₀
-  room-for {passed = passed} w =
-      let r = requests-rest w (a .whole) in
-      let e : batchAnswers c s ≡ answersTo c passed ++ answersTo (cameraAfter c passed) (r .0) =
-      ap (λ o. answersTo c (wholeOf o)) (r .1) ∙ answers-append c passed (r .0) in
-      omega (arith, a .fits, ap length e, length-append (answersTo c passed) (answersTo (cameraAfter c passed) (r .0)))
+  room-for {at} {passed} w =
+      let rest = answersTo (cameraAfter c passed) (requestsOf (drop at s)) in
+      let e : batchAnswers c s ≡ answersTo c passed ++ rest =
+      ap (answersTo c) (w .requests) ∙ answers-append c passed (requestsOf (drop at s)) in
+      omega (arith, a .fits, ap length e, length-append (answersTo c passed) rest)
 
   module _ {out : List ℕ} {next : Camera} {written at : ℕ} (d : Answered c s out₀ out next written at) where
     pub same-long : length out ≡ length out₀
@@ -133,7 +133,7 @@ module _ (c : Camera) (s out₀ : List ℕ) (a : Accepted c s (length out₀)) w
       here = record { setup = setup; payload = payload }
 
       next-walked : Walked s (at + (8 + len)) (d .passed ++ (here ∷ []))
-      next-walked = walked-next (d .walked) is-setup is-len (whole-here (d .walked) (a .whole) is-setup is-len l) is-payload
+      next-walked = walked-next (d .walked) is-setup is-len (whole-here (d .walked) is-setup is-len (a .whole) l) is-payload
 
       answers-here : answersTo c (d .passed ++ (here ∷ [])) ≡ answersTo c (d .passed) ++ answerTo next here
       answers-here =

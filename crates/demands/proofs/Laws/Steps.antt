@@ -20,7 +20,7 @@ use Rattle.camera.specs.Writing.{snapshot, written, writeCode}
 use Rattle.camera.proofs.Laws.{Record.{formed-profile, streamed-done}, Loading.{givenBy}}
 use Rattle.invariants.proofs.Laws.{Held.{Each, puts-held, puts-length}, Requests.{outcome-code, set-answer, request-next, request-good, request-stays}}
 use Rattle.invariants.proofs.Laws.Kept.{Good, control-streaming, item-good, given-good, each-append, all-good, each-proper, puts-formed}
-use Rattle.batch.specs.{Packing.{Request, requestsOf, wholeOf}, Answers.{ampleRoom, answersTo, cameraAfter}, Batch.{batchTests, batched}}
+use Rattle.batch.specs.{Packing.{Request, requestsOf}, Answers.{ampleRoom, answersTo, cameraAfter}, Batch.{batchTests, batched}}
 use Rattle.batch.proofs.Laws.Running.{number-is, code-by-profile}
 use Rattle.demands.specs.Calls.{Call, request, stream, load, write, sense, batch, outcome, next}
 use Rattle.demands.specs.{Runs.{requestsGive, gives, leaves}, Cameras.{Ok}}
@@ -85,7 +85,7 @@ batch-next c packed out w =
     rw (code-by-profile c packed (length out) w) (go (eqb (firstOf (batchTests (c .profile) packed (length out))) 0))
   where
     rs : List Request
-    rs = wholeOf (requestsOf packed)
+    rs = requestsOf packed
 
     go : (b : Bool)
         → cond b (record { code = 0; count = length (answersTo c rs); camera = cameraAfter c rs })
@@ -161,8 +161,8 @@ module _ (p : Profile) (v : profileValid p ≡ true) where
   gives-good streaming sense = tt
   gives-good streaming (batch packed out) = go (eqb (firstOf (batchTests p packed (length out))) 0)
     where
-      go : (b : Bool) → Each (Good p) (cond b (requestsGive p streaming (wholeOf (requestsOf packed))) [])
-      go true = requests-good streaming (wholeOf (requestsOf packed))
+      go : (b : Bool) → Each (Good p) (cond b (requestsGive p streaming (requestsOf packed)) [])
+      go true = requests-good streaming (requestsOf packed)
       go false = tt
 
 -- what a call leaves but for the flag
