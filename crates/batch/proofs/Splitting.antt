@@ -5,7 +5,8 @@ use native.Mathlib.Omega.{arith}
 use lib.{Dec.{eqb, leb}, ListN.{length, take, drop, replicate, length-take, length-drop, length-append, length-replicate, take-append-drop}}
 use lib.Seq.{take-at, take-append-le}
 use borrow.Author.Tests.{ne-eqb, eqb-true, eqb-false, leb-true, leb-false}
-use Rattle.batch.specs.Packing.{Request, dataLength, WholeRequest, EachWhole, batchOf, firstSetup, firstSize, requestsOf, restOf, isWhole}
+use Rattle.batch.specs.Packing.{Request, dataLength, WholeRequest, EachWhole, batchOf}
+use Rattle.batch.specs.Packing.{firstSetup, firstSize, requestsOf, restOf, isWhole}
 use Rattle.batch.specs.Splitting.{StopsInside, Splits, whole, stops, AllSplit, PackedThenSplit, StopsCut}
 use Rattle.batch.proofs.Laws.Packing.{requests-cut, rest-cut, packed-requests, packed-rest, split}
 

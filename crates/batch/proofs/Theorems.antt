@@ -7,13 +7,15 @@ use lib.{Dec.{eqb}, ListN.{length, take, drop, replicate, length-append}, Seq.{t
 use borrow.Author.Tests.{eq-eqb, lt-ltb, le-ltb}
 use Rattle.wire.specs.Rows.{firstOf}
 use Rattle.profile.specs.{declared.Profile.{Profile}, Profile.{profileValid}}
-use Rattle.camera.specs.{declared.{record.Camera.{Camera}, calls.Outcome.{Outcome}}, Record.{recordWellFormed}, Requests.{refused, requestedReply}}
+use Rattle.camera.specs.declared.{record.Camera.{Camera}, calls.Outcome.{Outcome}}
+use Rattle.camera.specs.{Record.{recordWellFormed}, Requests.{refused, requestedReply}}
 use Rattle.camera.proofs.Laws.Record.{formed-profile}
 use Rattle.invariants.proofs.Laws.Replies.{ample, no-ninth, same-reply}
 use Rattle.batch.specs.Packing.{Request, batchOf, requestsOf, restOf}
 use Rattle.batch.specs.Answers.{ampleRoom, sent, answersTo, cameraAfter, answersLength}
 use Rattle.batch.specs.Batch.{batchAnswers, batchCode, batched, batchedOut, batchTests}
-use Rattle.batch.specs.Theorems.{AllAmple, oneByOne, leftBy, EachAmple, AllOneByOne, LengthByProfile, AllNumbered, AlikeByProfile, BatchSuffices}
+use Rattle.batch.specs.Theorems.{AllAmple, oneByOne, leftBy, EachAmple, AllOneByOne}
+use Rattle.batch.specs.Theorems.{LengthByProfile, AllNumbered, AlikeByProfile, BatchSuffices}
 use Rattle.batch.specs.Theorems.{handedAnswers, AllJoined}
 use Rattle.batch.proofs.Splitting.{packed-then-split, whole-packed, stops-cut}
 use Rattle.batch.proofs.Laws.Packing.{packed-requests, packed-rest}
@@ -154,8 +156,9 @@ all-joined c a b outA outB out x y h =
       ap (λ o. o .count) (done c a outA x),
       ap (λ o. o .count) (done d b outB y),
     ) in
+    let whole = ap (λ l. eqb (length l) 0) rest ∙ passes d b outB y .whole in
     let code =
-    accepts c (a ++ b) (length out) (record { formed = passes c a outA x .formed; whole = ap (λ l. eqb (length l) 0) rest ∙ passes d b outB y .whole; fits = omega arith }) in
+    accepts c (a ++ b) (length out) (record { formed = passes c a outA x .formed; whole = whole; fits = omega arith }) in
     let z = number-is c (a ++ b) (length out) ∙ code in
     record {
       outcome = done c (a ++ b) out z ∙ ap₂ (λ n e. record { code = 0; count = n; camera = e }) long after;

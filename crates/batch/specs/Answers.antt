@@ -35,8 +35,8 @@ abbrev pub cameraAfter : Camera → List Request → Camera
 cameraAfter c [] = c
 cameraAfter c (r ∷ rs) = cameraAfter (sent c r .camera) rs
 
--- How long the answers are, by the profile alone: three bytes each, and as many of reply as a fresh camera sends. `answers-length` says so of
--- every camera of the profile that is not refused 0x21, whatever its settings and its flag.
+-- How long the answers are, by the profile alone: three bytes each, and as many of reply as a fresh camera sends. `length-by-profile`
+-- says so of every camera of the profile that is not refused 0x21, whatever its settings and its flag.
 abbrev pub replyLength : Profile → Request → ℕ
 replyLength p r = sent (fresh p true) r .count
 

@@ -43,8 +43,8 @@ splitIn (suc fuel) s =
     let rest = splitIn fuel (drop (firstSize s) s) in
     cond (leb (firstSize s) (length s)) (firstRequest s ∷ rest .0, rest .1) ([], s)
 
--- the whole requests of a batch, and what is left: the start of a request inside which the batch stops, or nothing. (A request has bytes, so
--- there are no more requests than bytes.)
+-- the whole requests of a batch, and what is left: the start of a request inside which the batch stops, or nothing. (A request has
+-- bytes, so there are no more requests than bytes.)
 unfoldable pub requestsOf : List ℕ → List Request
 requestsOf s = splitIn (length s) s .0
 

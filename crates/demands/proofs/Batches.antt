@@ -19,7 +19,8 @@ singles-given p f [] = refl
 singles-given p f (x ∷ l) = ap (λ g. requestGives p f (x .0 .setup) (x .0 .payload) ++ g) (singles-given p f l)
 
 -- the record that they leave goes by no room
-singles-run : (c : Camera) → recordWellFormed c ≡ true → (l : List (Request × List ℕ)) → cameraAfter c (map (λ x. x .0) l) ≡ run c (singles l)
+singles-run : (c : Camera) → recordWellFormed c ≡ true → (l : List (Request × List ℕ))
+    → cameraAfter c (map (λ x. x .0) l) ≡ run c (singles l)
 singles-run c w [] = refl
 singles-run c w (x ∷ l) =
     let r = x .0 in

@@ -13,7 +13,8 @@ use Rattle.request.specs.Tests.{isAddressed, requestTests, valueTests, f
 use Rattle.request.specs.Requests.{requestCount, replied, doneBy}
 use Rattle.request.specs.Theorems.{AllOrdered, RequestRefusals, GetSends, GetSetup, GetAccepted, ElsewhereRefused, LenAnswers}
 use Rattle.request.specs.Theorems.{InfoAnswers, AllUnits}
-use Rattle.request.proofs.Laws.{Tests.{at-tests, at-get, request-quiet, set-replied}, Requests.{result-code, done-code, requested-count}}
+use Rattle.request.proofs.Laws.Tests.{at-tests, at-get, request-quiet, set-replied}
+use Rattle.request.proofs.Laws.Requests.{result-code, done-code, requested-count}
 
 -- no row's place is found where none answers
 none-answers : (k : ℕ) (l : List Row) → firstFrom k l ≡ none → firstOf l ≡ 0

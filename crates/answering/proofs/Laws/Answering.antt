@@ -80,5 +80,6 @@ module _ (p : Profile) (s : Settings) (selector code : ℕ) where
       go false false false false false false false q = lit≤ tt
 
 -- no setting changes it
-pub length-fixed : (p : Profile) (s : Settings) (selector code : ℕ) → length (controlAnswer p s selector code) ≡ answerLength p selector code
+pub length-fixed : (p : Profile) (s : Settings) (selector code : ℕ)
+    → length (controlAnswer p s selector code) ≡ answerLength p selector code
 length-fixed p s selector code = length-by p s selector code ∙ sym (length-by p noSettings selector code)

@@ -14,7 +14,8 @@ use Rattle.camera.specs.{declared.{record.Camera.{Camera}, calls.Outcome.{Outco
 use Rattle.camera.specs.Requests.{rules, table, requested, requestedReply}
 use Rattle.camera.proofs.Laws.Record.{formed-profile}
 use Rattle.invariants.proofs.Laws.{Kept.{none-formed}, Requests.{Stays, request-stays}}
-use Rattle.invariants.proofs.Laws.Replies.{Enough, ample, count-within, count-refused, count-set, count-get, sent-short, same-outcome, same-reply}
+use Rattle.invariants.proofs.Laws.Replies.{Enough, ample, count-within, count-refused, count-set, count-get, sent-short}
+use Rattle.invariants.proofs.Laws.Replies.{same-outcome, same-reply}
 use Rattle.batch.specs.Packing.{Request}
 use Rattle.batch.specs.Answers.{answerBytes, ampleRoom, sent, sentReply, answerTo, answersTo, cameraAfter, replyLength, answersLength}
 
@@ -100,7 +101,8 @@ module _ (c : Camera) (w : recordWellFormed c ≡ true) where
   sent-stays r = request-stays c (r .setup) (r .payload) ampleRoom w
 
 -- how long the answers to requests are
-pub answers-length : (c : Camera) → recordWellFormed c ≡ true → (rs : List Request) → length (answersTo c rs) ≡ answersLength (c .profile) rs
+pub answers-length : (c : Camera) → recordWellFormed c ≡ true → (rs : List Request)
+    → length (answersTo c rs) ≡ answersLength (c .profile) rs
 answers-length c w [] = refl
 answers-length c w (r ∷ rs) =
     let next = sent-stays c w r in

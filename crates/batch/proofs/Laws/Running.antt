@@ -11,7 +11,8 @@ use Rattle.camera.specs.{declared.{record.Camera.{Camera}, calls.Outcome.{Outco
 use Rattle.camera.specs.Requests.{table, refused, requestedCode, requested, requestedReply}
 use Rattle.invariants.proofs.Laws.Requests.{outcome-code}
 use Rattle.invariants.proofs.Laws.Replies.{Enough, as-sent, count-reply, count-within, reply-handed}
-use Rattle.batch.specs.{Packing.{Request, dataLength, requestsOf, isWhole}, Answers.{answerBytes, sent, answerTo, answersTo, cameraAfter}}
+use Rattle.batch.specs.Packing.{Request, dataLength, requestsOf, isWhole}
+use Rattle.batch.specs.Answers.{answerBytes, sent, answerTo, answersTo, cameraAfter}
 use Rattle.batch.specs.Batch.{cutBatch, batchAnswers, batchCode, batchTests, batched, batchedOut}
 use Rattle.batch.proofs.Laws.Answers.{answers-append, after-append, answer-size, answers-length, sent-same, answer-same, after-stays}
 use Rattle.batch.proofs.Laws.Walking.{Walked, at-start, walked-all, walked-next, whole-here}
@@ -58,7 +59,7 @@ module _ (c : Camera) (setup payload out : List ℕ) (at : ℕ) (h : at + 3 ≤ 
 -- a batch's number
 pub number-is : (c : Camera) (s : List ℕ) (room : ℕ) → batched c s room .code ≡ batchCode c s room
 unfolding batched
-number-is c s room = outcome-code (batchCode c s room) c _ refl
+number-is c s room = outcome-code (batchCode c s room) _ _ refl
 
 -- a batch that is not refused
 pub record Accepted (c : Camera) (s : List ℕ) (room : ℕ) : Type 0 where

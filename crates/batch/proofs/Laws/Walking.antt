@@ -1,5 +1,6 @@
 -- Going through a batch, request by request. Assumes nothing.
-use mathlib.Core.{Path.{_≡_, refl, ap, ap₂, sym, _∙_}, List.{List, [], _∷_, _++_, append-assoc, append-nil}, Bool.{Bool, true, false, true≢false}}
+use mathlib.Core.{Path.{_≡_, refl, ap, ap₂, sym, _∙_}, List.{List, [], _∷_, _++_, append-assoc, append-nil}}
+use mathlib.Core.Bool.{Bool, true, false, true≢false}
 use Prim.Native.Nat.{ℕ, _+_, _-_, _≤_, _<_, min}
 use native.Mathlib.Omega.{arith}
 use lib.{Dec.{leb}, ListN.{length, take, drop, length-drop}, Seq.{drop-drop}}

@@ -18,7 +18,8 @@ use Rattle.camera.specs.Requests.{refused, requestGives, controlRefusal}
 use Rattle.camera.specs.Loading.{selectorAt, recordItem, loadTests, loadCodeUnder, loadGives, loaded, loadedUnder}
 use Rattle.camera.specs.Writing.{snapshot, written, writeCode}
 use Rattle.camera.proofs.Laws.{Record.{formed-profile, streamed-done}, Loading.{givenBy}}
-use Rattle.invariants.proofs.Laws.{Held.{Each, puts-held, puts-length}, Requests.{outcome-code, set-answer, request-next, request-good, request-stays}}
+use Rattle.invariants.proofs.Laws.Held.{Each, puts-held, puts-length}
+use Rattle.invariants.proofs.Laws.Requests.{outcome-code, set-answer, request-next, request-good, request-stays}
 use Rattle.invariants.proofs.Laws.Kept.{Good, control-streaming, item-good, given-good, each-append, all-good, each-proper, puts-formed}
 use Rattle.batch.specs.{Packing.{Request, requestsOf}, Answers.{ampleRoom, answersTo, cameraAfter}, Batch.{batchTests, batched}}
 use Rattle.batch.proofs.Laws.Running.{number-is, code-by-profile}

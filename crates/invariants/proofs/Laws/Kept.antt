@@ -5,7 +5,8 @@ use Prim.Native.Nat.{ℕ, zero, suc, _+_, _-_, _≤_, _<_}
 use native.Mathlib.Omega.{arith}
 use lib.{Dec.{eqb, leb, ltb}, ListN.{length, getD, List·getD-eq-default}}
 use borrow.Author.Tests.{eq-eqb, ne-eqb, eqb-true, eqb-false, leb-true, leb-false, ltb-true, ltb-false}
-use Rattle.wire.specs.{Endpoints.{firstAddress}, Numbers.{leAt}, Rows.{Row, _⇒_, Quiet, allBelow}, Uvc.{outOfRange, invalidValue, wrongState}}
+use Rattle.wire.specs.{Endpoints.{firstAddress}, Numbers.{leAt}, Rows.{Row, _⇒_, Quiet, allBelow}}
+use Rattle.wire.specs.Uvc.{outOfRange, invalidValue, wrongState}
 use Rattle.flags.specs.Flags.{bitsOf, count, oneFlag}
 use Rattle.wire.specs.Selectors as selectors
 use Rattle.wire.proofs.Laws.{Rows.{quiet}, Below.{all-at, all-of}}
@@ -23,7 +24,8 @@ use Rattle.controls.proofs.Laws.Controls.{given-is}
 use Rattle.face.proofs.Laws.Limits.{listed}
 use Rattle.profile.specs.{declared.Profile.{Profile}, Profile.{has, isSettable, profileValid, profileRefusal}, Items.{profileItem}}
 use Rattle.profile.specs.KnownControl.{KnownControl, ev, face, metadata, hdr, throttle}
-use Rattle.settings.specs.{declared.settings.Settings.{Settings}, Settings.{noSettings, settingKey, settingSelector, put}, Held.{faceHeld, settingsHeld}}
+use Rattle.settings.specs.{declared.settings.Settings.{Settings}, Settings.{noSettings, settingKey, settingSelector, put}}
+use Rattle.settings.specs.Held.{faceHeld, settingsHeld}
 use Rattle.settings.specs.{Kept.{valueRefusal, kept, settingsWellFormed, settingsWellFormedUnder}, Items.{givenOf, allGiven, putAll}}
 use Rattle.profile.proofs.Laws.Profile.{valid-face}
 use Rattle.settings.proofs.Laws.Kept.{control-kept}

@@ -22,7 +22,8 @@ use Rattle.settings.specs.Items.{setGives}
 use Rattle.answering.specs.Answering.{controlAnswer, answerLength}
 use Rattle.answering.proofs.Laws.Answering.{answer-fits, length-fixed}
 use Rattle.camera.specs.{declared.record.Camera.{Camera}, Record.{recordWellFormed, puts}}
-use Rattle.camera.specs.Requests.{table, stateRefusal, outcomeOf, outcomeBy, requestedCode, requestDone, requested, requestedReply, cameraAnswer}
+use Rattle.camera.specs.Requests.{table, stateRefusal, outcomeOf, outcomeBy, requestedCode, requestDone, requested}
+use Rattle.camera.specs.Requests.{requestedReply, cameraAnswer}
 use Rattle.camera.proofs.Laws.Record.{formed-profile}
 
 -- what a request reports, by the number that answers it

@@ -64,7 +64,8 @@ answer-requires c κs =
     omega (
       arith,
       same-long _ _ _ t v,
-      room-here _ _ _ t v (d .before .setup-at .ensures .bytes) (d .data-length .ensures .0) (i .loop-test .taken) (p .part-at .ensures .bytes),
+      room-here _ _ _ t v (d .before .setup-at .ensures .bytes) (d .data-length .ensures .0) (i .loop-test .taken)
+          (p .part-at .ensures .bytes),
     )
 
 add-written-2 : tie.Need-add-written-2 Inv-loop μ-loop
