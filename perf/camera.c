@@ -96,6 +96,48 @@ uint8_t camera_request(struct camera *c, const uint8_t *setup, size_t setup_len,
     return 0;
 }
 
+/* How many bytes a request of a batch sends: a GET that no test refuses sends some. */
+static size_t reply_length(const struct camera *c, const uint8_t *setup)
+{
+    unsigned code = setup[1], selector = setup[3];
+    size_t wlength = le16(setup + 6), n = 1;
+
+    if (setup[0] != 0xA1 || code < CUR || code > DEF || setup[2] || setup[5] != c->unit || setup[4] != c->interface || selector < 1 ||
+        selector > 32 || !(c->controls & BIT(selector)))
+        return 0;
+    if (code == LEN)
+        n = 2;
+    else if (code != INFO && (selector != FACE || (code != MIN && code != RES)))
+        n = full_length(c, selector);
+    return n < wlength ? n : wlength;
+}
+
+static size_t data_length(const uint8_t *setup) { return setup[0] == 0x21 ? le16(setup + 6) : 0; }
+
+uint8_t camera_batch(struct camera *c, const uint8_t *s, size_t len, uint8_t *out, size_t room, size_t *count)
+{
+    size_t needed = 0;
+
+    *count = 0;
+    if (!well_formed(c))
+        return BAD_RECORD;
+    for (size_t at = 0; at < len; at += 8 + data_length(s + at)) {
+        if (len - at < 8 || len - at < 8 + data_length(s + at))
+            return CUT_BATCH;
+        needed += 3 + reply_length(c, s + at);
+    }
+    if (room < needed)
+        return NO_ROOM;
+    for (size_t at = 0; at < len; at += 8 + data_length(s + at)) {
+        uint8_t *answer = out + *count;
+        size_t sent;
+        answer[0] = camera_request(c, s + at, 8, s + at + 8, data_length(s + at), answer + 3, room - *count - 3, &sent);
+        put16(answer + 1, (unsigned)sent);
+        *count += 3 + sent;
+    }
+    return 0;
+}
+
 uint8_t camera_streaming(struct camera *c, bool on)
 {
     if (!well_formed(c))

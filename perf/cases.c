@@ -43,6 +43,14 @@ static const uint8_t evs[22] = {2, 0, 0, 0, 0, 0, 0, 0xFD, 0xFF, 0xFF, 0xFF, 1, 
 static const uint8_t far_evs[22] = {2, 0, 0, 0, 0, 0, 0, 9, 0, 0, 0, 1, 0, 0, 0, 0, 0, 0, 13};
 static const uint8_t hdrs[8] = {1, 0, 0, 0, 2};
 static const uint8_t throttles[40] = {1, 0, 0, 0, 80, [24] = 55};
+/* Two batches each: the start-up of crates/bench, and a hundred times GET_INFO of EV. */
+static uint8_t start_up[2 * 115] = {
+    0xA1, 0x86, 0, 3, 0, 4, 1, 0, 0xA1, 0x85, 0, 3, 0, 4, 2, 0, 0xA1, 0x83, 0, 3, 0, 4, 11, 0,
+    0x21, 1, 0, 3, 0, 4, 11, 0, 2, 0, 0, 0, 0, 0, 0, 0xFD, 0xFF, 0xFF, 0xFF, 0xA1, 0x81, 0, 9, 0, 4, 4, 0,
+    0x21, 1, 0, 14, 0, 4, 20, 0, 1, 0, 0, 0, 82, 0, 0, 0, 0, 0, 0, 0, 0, 0, 0, 0, 0, 0, 0, 0,
+    0x21, 1, 0, 13, 0, 4, 4, 0, 1, 0, 0, 0, 0xA1, 0x81, 0, 6, 0, 4, 9, 0, 0xA1, 0x81, 0, 3, 0, 4, 11, 0, 0xA1, 0x81, 0, 3, 0, 5, 11, 0,
+};
+static uint8_t infos[2 * 100 * 8];
 static uint8_t faces[2 * 65], all_faces[2 * LONGEST_ANSWER];
 
 /* Two equal inputs each, but for the snapshots that are loaded: those differ in EV's step. */
@@ -119,6 +127,9 @@ void prepare(void)
         twin[31 + i] = 3;
         twin[71 + i] = 2;
     }
+    twice(start_up, sizeof start_up / 2);
+    for (size_t at = 0; at < sizeof infos; at += 8)
+        memcpy(infos + at, (uint8_t[8]){0xA1, 0x86, 0, EV, 0, 4, 1}, 8);
     entries(faces, full);
     entries(all_faces, twin);
     written(loaded, full, 159);
@@ -173,6 +184,8 @@ CASE(set_throttle) { return SET(full, THROTTLE, throttles); }
 /* A camera's other calls. */
 #define CALL(camera, name, ...) (memcpy(record, camera, RECORD), (ours ? probe_##name : peer_##name)(record, RECORD, __VA_ARGS__))
 
+CASE(batch_ten) { return CALL(bench, batch, start_up, sizeof start_up, buffer, sizeof buffer, n); }
+CASE(batch_hundred) { return CALL(full, batch, infos, sizeof infos, buffer, sizeof buffer, n); }
 CASE(streaming) { return CALL(full, streaming, n); }
 CASE(sensor) { return CALL(full, sensor, n); }
 CASE(load) { return CALL(full, load, loaded, sizeof loaded, n); }
@@ -229,6 +242,8 @@ const struct test tests[] = {
     {"request: SET_CUR throttle", set_throttle, 10000},
     {"request: another unit, refused 0x05", other_unit, 10000},
     {"request: SET_CUR EV, refused 0x04", set_ev_far, 10000},
+    {"batch::run, start-up of ten, bench camera", batch_ten, 10000},
+    {"batch::run, 100 of GET_INFO EV", batch_hundred, 1000},
     {"set_streaming", streaming, 10000},
     {"sensor", sensor, 10000},
     {"load, 159 bytes", load, 10000},

@@ -191,6 +191,33 @@ static void cameras(void)
     same("set_streaming", probe_streaming(a, RECORD, n), peer_streaming(b, RECORD, n), a, b, RECORD);
 }
 
+/* A batch of some requests to the camera, sometimes cut short; a setup that is spoilt may split it otherwise. */
+static void batches(void)
+{
+    uint8_t a[RECORD], b[RECORD], s[2 * 6 * (8 + PAYLOAD)], p[PAYLOAD], ours[6 * ANSWER_ROOM + 10], peers[6 * ANSWER_ROOM + 10];
+    size_t n = 0;
+
+    camera(a);
+    memcpy(b, a, RECORD);
+    for (unsigned k = below(7); k; k--) {
+        size_t len = setup(a, s + n, p);
+        n += 8;
+        if (s[n - 8] == 0x21) {
+            memcpy(s + n, p, len);
+            n += len;
+        }
+    }
+    if (one_in(8))
+        n = below(n + 1);
+    memcpy(s + n, s, n);
+    size_t room = one_in(3) ? below(6 * ANSWER_ROOM) : 6 * ANSWER_ROOM;
+    memset(ours, 0xEE, sizeof ours);
+    memset(peers, 0xEE, sizeof peers);
+    uint64_t x = probe_batch(a, RECORD, s, 2 * n, ours, room, 2), y = peer_batch(b, RECORD, s, 2 * n, peers, room, 2);
+    same("batch's answers", x, y, ours, peers, sizeof ours);
+    same("batch's record", x, y, a, b, RECORD);
+}
+
 /* Records for some keys; returns their length, at most 250. */
 static size_t records(const uint8_t *r, uint8_t *to)
 {
@@ -357,6 +384,7 @@ int main(int argc, char **argv)
     long_frames();
     for (long i = 0; i < rounds; i++) {
         cameras();
+        batches();
         snapshots();
         frames();
         sets();

@@ -86,6 +86,21 @@ uint64_t peer_request(uint8_t *record, size_t record_len, const uint8_t *setups,
     return sum;
 }
 
+uint64_t peer_batch(uint8_t *record, size_t record_len, const uint8_t *batches, size_t len, uint8_t *out, size_t room, size_t n)
+{
+    struct camera c = get(record);
+    uint64_t sum = 0;
+
+    (void)record_len;
+    for (size_t i = 0, second = 0; i < n; i++, second ^= 1) {
+        size_t count;
+        uint8_t code = camera_batch(&c, half(batches, len, second), half_len(len, second), out, room, &count);
+        sum = mix(mix(sum, code), count);
+    }
+    put(&c, record);
+    return sum;
+}
+
 uint64_t peer_streaming(uint8_t *record, size_t record_len, size_t n)
 {
     struct camera c = get(record);

@@ -23,6 +23,7 @@ enum { RECORD = 105 };
 #define LOOPS(P) \
     uint64_t P##request(uint8_t *record, size_t record_len, const uint8_t *setups, size_t setups_len, const uint8_t *payloads, \
                         size_t payloads_len, uint8_t *reply, size_t room, size_t n); \
+    uint64_t P##batch(uint8_t *record, size_t record_len, const uint8_t *batches, size_t len, uint8_t *out, size_t room, size_t n); \
     uint64_t P##streaming(uint8_t *record, size_t record_len, size_t n); \
     uint64_t P##load(uint8_t *record, size_t record_len, const uint8_t *snapshots, size_t len, size_t n); \
     uint64_t P##write(uint8_t *record, size_t record_len, uint8_t *out, size_t room, size_t n); \

@@ -9,10 +9,11 @@
 
 enum {
     WRONG_STATE = 0x02, OUT_OF_RANGE = 0x04, INVALID_UNIT = 0x05, INVALID_CONTROL = 0x06, INVALID_REQUEST = 0x07,
-    INVALID_VALUE = 0x08, UNKNOWN = 0xFF, NO_ROOM = 0x20, BAD_RECORD = 0x21, BAD_SNAPSHOT = 0x22
+    INVALID_VALUE = 0x08, UNKNOWN = 0xFF, NO_ROOM = 0x20, BAD_RECORD = 0x21, BAD_SNAPSHOT = 0x22, CUT_BATCH = 0x48
 };
 enum { EV = 0x03, FACE = 0x06, METADATA = 0x09, HDR = 0x0D, THROTTLE = 0x0E };
-enum { ENDPOINTS = 15, ADDRESSES = 15, LONGEST_ANSWER = 1 + 8 * ENDPOINTS, LONGEST_SNAPSHOT = 55 + 13 * ADDRESSES };
+enum { ENDPOINTS = 15, ADDRESSES = 15, LONGEST_ANSWER = 1 + 8 * ENDPOINTS, ANSWER_ROOM = 3 + LONGEST_ANSWER };
+enum { LONGEST_SNAPSHOT = 55 + 13 * ADDRESSES };
 
 struct settings {
     bool ev_held, metadata_held, hdr_held, throttle_held;
@@ -35,6 +36,7 @@ struct camera {
 
 uint8_t camera_request(struct camera *c, const uint8_t *setup, size_t setup_len, const uint8_t *payload, size_t len,
                        uint8_t *reply, size_t room, size_t *count);
+uint8_t camera_batch(struct camera *c, const uint8_t *s, size_t len, uint8_t *out, size_t room, size_t *count);
 uint8_t camera_streaming(struct camera *c, bool on);
 uint8_t camera_load(struct camera *c, const uint8_t *s, size_t len);
 uint8_t camera_write(const struct camera *c, uint8_t *out, size_t room, size_t *count);

@@ -17,12 +17,12 @@ fn reply_length(p: Profile, setup: &[u8], payload: &[u8]) -> usize
     requires { ⌜ profileValid p ≡ true ⌝ }
     ensures { λ r. ⌜ (r ≡ replyLength p (record { setup = now (setup .entry); payload = now (payload .entry) })) × (r ≤ longestAnswer) ⌝ }
 {
+    if request::is_set_request(setup) {
+        return 0;
+    }
     let selector = request::selector(setup);
     let control = p.control(selector, payload);
     if request::refusal(p.extension_unit(), control, setup, payload) != 0 {
-        return 0;
-    }
-    if request::is_set_request(setup) {
         return 0;
     }
     let full = answering::answer_length(p, selector, request::code(setup));

@@ -16,12 +16,20 @@ use Rattle.batch.proofs.measuring.reply_length.Tie as tie
 abbrev asked : tie.Start → Request
 asked c = record { setup = c .args .setup .now; payload = c .args .payload .now }
 
+is-set-request-requires : tie.Need-is-set-request-requires
+is-set-request-requires c κs = search needs
+
+returns : tie.Need-returns
+returns c =
+    let a = c .before .before .before .before in
+    (reply-set (a .args .p) (a .pre) (asked a) (sym (c .before .is-set-request .ensures) ∙ c .if1 .taken), omega arith)
+
 -- tests 2 to 6 over the profile's table
-refused : (c : tie.After-refusal) → let a = c .before .before .before .before .before .before in
+refused : (c : tie.After-refusal) → let a = c .before .before .before .before .before .before .before .before in
     c .refusal .result ≡ tests (a .args .p) (a .pre) (asked a)
 unfolding requestTests extensionUnit profileControl
 refused c =
-    let a = c .before .before .before .before .before .before .args in
+    let a = c .before .before .before .before .before .before .before .before .args in
     let s = a .setup .now in
     let l = a .payload .now in
     c .refusal .ensures
@@ -40,20 +48,11 @@ extension-unit-requires c κs = search needs
 refusal-requires : tie.Need-refusal-requires
 refusal-requires c κs = search needs
 
-returns : tie.Need-returns
-returns c =
-    let r = c .before in
-    let a = r .before .before .before .before .before .before in
-    (reply-refused (a .args .p) (a .pre) (asked a) (λ z. c .if1 .taken (refused r ∙ z)), omega arith)
-
-is-set-request-requires : tie.Need-is-set-request-requires
-is-set-request-requires c κs = search needs
-
 returns-2 : tie.Need-returns-2
 returns-2 c =
-    let r = c .before .before .before in
-    let a = r .before .before .before .before .before .before in
-    (reply-set (a .args .p) (a .pre) (asked a) (sym (c .before .is-set-request .ensures) ∙ c .if2 .taken), omega arith)
+    let r = c .before in
+    let a = r .before .before .before .before .before .before .before .before in
+    (reply-refused (a .args .p) (a .pre) (asked a) (λ z. c .if2 .taken (refused r ∙ z)), omega arith)
 
 code-requires : tie.Need-code-requires
 code-requires c κs = search needs
@@ -70,28 +69,29 @@ min-requires c κs = search needs
 returns-3 : tie.Need-returns-3
 returns-3 c =
     let e = c .before .before .before .before in
-    let r = e .before .before .before in
-    let a = r .before .before .before .before .before .before in
+    let r = e .before in
+    let g = r .before .before .before .before in
+    let a = g .before .before .before .before in
     let full =
     c .before .before .answer-length .ensures
     ∙ ap₂ (answerLength (a .args .p)) (r .before .before .before .selector .ensures) (c .before .before .before .code .ensures) in
     let is =
     c .min .ensures
     ∙ ap₂ min (c .before .wlength .ensures .0) full
-    ∙ reply-get (a .args .p) (a .pre) (asked a) (sym (refused r) ∙ e .before .before .if1 .left)
-    (sym (e .before .is-set-request .ensures) ∙ e .if2 .left) in
+    ∙ reply-get (a .args .p) (a .pre) (asked a) (sym (refused r) ∙ e .if2 .left)
+    (sym (g .before .is-set-request .ensures) ∙ g .if1 .left) in
     (is, omega (arith, is, reply-within (a .args .p) (a .pre) (asked a)))
 
 pub reply-length-spec : {M : Type 1} → statement M
 reply-length-spec =
     tie.close
     (tie.spec
+    is-set-request-requires
+    returns
     selector-requires
     control-requires
     extension-unit-requires
     refusal-requires
-    returns
-    is-set-request-requires
     returns-2
     code-requires
     answer-length-requires
