@@ -23,8 +23,8 @@ use Rattle.demands.specs.Calls.{Call, request, outcome, left, next}
 use Rattle.demands.specs.{Runs.{gives, leaves}, Cameras.{Written}}
 
 -- New settings. What any call leaves of a record that is not refused 0x21: of each key the last setting that the call gives, else the one
--- held, and the streaming flag of a notice. An accepted SET gives its payload's settings, an accepted load its records', a refused call
--- none.
+-- held, and the streaming flag of a notice. An accepted SET gives its payload's settings, an accepted load its records', an accepted batch
+-- its requests', a refused call none.
 pub record NewSettings (c : Camera) (call : Call) : Type 0 where
   pub settings : (k : ℕ) → held (next c call) k ≡ over (held c k) (lastOf (gives (c .profile) (c .streaming) call) k)
   pub streaming : next c call .streaming ≡ leaves (c .streaming) call
