@@ -1,6 +1,8 @@
 // A GET's full answer, control by control, by a camera's profile and settings, and how long it is, by the profile alone. Document 01, "The
 // five controls".
 // The crates of the controls know their own answers; `request` cuts an answer to wLength and sends it.
+#![tactic(auto)]
+
 ghost use Rattle.std.specs.Prelude.{◌≡◌};
 ghost use Rattle.request.specs.Answers.{packed};
 ghost use Rattle.answering.specs.Answering.{control_answer, answer_length};

@@ -14,7 +14,7 @@ use Rattle.invariants.proofs.Laws.Replies.{ample, no_ninth, same_reply}
 use Rattle.batch.specs.Packing.{Request, batch_of, requests_of, rest_of}
 use Rattle.batch.specs.Answers.{ample_room, sent, answers_to, camera_after, answers_length}
 use Rattle.batch.specs.Batch.{batch_answers, batch_code, batched, batched_out, batch_tests}
-use Rattle.batch.specs.Theorems.{AllAmple, one_by_one_lem, left_by, EachAmple, AllOneByOne}
+use Rattle.batch.specs.Theorems.{AllAmple, one_by_one, left_by, EachAmple, AllOneByOne}
 use Rattle.batch.specs.Theorems.{LengthByProfile, AllNumbered, AlikeByProfile, BatchSuffices}
 use Rattle.batch.specs.Theorems.{handed_answers, AllJoined}
 use Rattle.batch.proofs.Splitting.{packed_then_split, whole_packed, stops_cut}
@@ -75,14 +75,14 @@ module _ (c : Camera) (s out : List ℕ) (z : (batched c s (length out)).code �
 
 -- requests sent one by one with any ample buffers
 one_by_one_lem : (c : Camera) → record_well_formed c ≡ true → (l : List (Request × List ℕ)) → EachAmple l
-    → (one_by_one_lem c l ≡ answers_to c (map (λ x. x.0) l)) × (left_by c l ≡ camera_after c (map (λ x. x.0) l))
+    → (one_by_one c l ≡ answers_to c (map (λ x. x.0) l)) × (left_by c l ≡ camera_after c (map (λ x. x.0) l))
 one_by_one_lem c w [] e = (refl, refl)
 one_by_one_lem c w (x ∷ l) e =
     let r = x.0 in
     let room = ample c w r.setup r.payload (length x.1) e.0 in
     let next = ap (λ o. o.camera) (answers.sent_same c w r x.1 room) in
     let rest = one_by_one_lem (sent c r).camera (answers.sent_stays c w r).formed l e.1 in (
-      ap₂ (λ a b. a ++ b) (answers.answer_same c w r x.1 room) (ap (λ d. one_by_one_lem d l) next ∙ rest.0),
+      ap₂ (λ a b. a ++ b) (answers.answer_same c w r x.1 room) (ap (λ d. one_by_one d l) next ∙ rest.0),
       ap (λ d. left_by d l) next ∙ rest.1,
     )
 
@@ -90,7 +90,7 @@ pub all_one_by_one : AllOneByOne
 all_one_by_one c s out z l e ample =
     let q = one_by_one_lem c (passes c s out z).formed l ample in
     let rs = sym e in
-    let is : batch_answers c s ≡ one_by_one_lem c l = ap (answers_to c) rs ∙ sym q.0 in
+    let is : batch_answers c s ≡ one_by_one c l = ap (answers_to c) rs ∙ sym q.0 in
     record {
       outcome = done c s out z
           ∙ ap₂ (λ a d. record { code = 0; count = length a; camera = d }) is (ap (camera_after c) rs ∙ sym q.1);

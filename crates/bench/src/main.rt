@@ -2,6 +2,8 @@
 // count, what the sensor is handed, the reply and the snapshot (01's settings sheet); a batch of requests; an exchange with the peripheral
 // control unit; the paper's metadata blocks; and 004's two descriptor sets. `demands` has the rows marked (p) as a theorem over the
 // definitions.
+#![tactic(auto)]
+
 mod batches;
 mod blocks;
 mod device;

@@ -2,6 +2,8 @@
 // the crates of the controls share. Document 01, "The five controls".
 // Each control has a crate of its own: `exposure`, `face` with `entries`, `metadata`, `hdr` and `throttle`. Nothing in them knows of a
 // camera: each function goes by its control's limits, the setting held and the payload.
+#![tactic(auto)]
+
 ghost use Rattle.std.specs.Prelude.{◌≡◌};
 ghost use Rattle.controls.specs.Controls.{item_of, item_code, number_or};
 

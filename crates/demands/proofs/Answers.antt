@@ -32,12 +32,12 @@ use Rattle.profile.specs.{declared.Profile.{Profile}, KnownControl.{KnownControl
 use Rattle.profile.specs.Items.{set_refusal}
 use Rattle.profile.specs.KnownControl as selectors
 use Rattle.settings.specs.{Held.{ev_held, metadata_held, hdr_held, throttle_held, settings_held}, Settings.{no_settings}}
-use Rattle.settings.specs.Items.{all_given, set_gives_lem, put_all}
+use Rattle.settings.specs.Items.{all_given, set_gives, put_all}
 use Rattle.answering.specs.Answering.{value_of}
 use Rattle.profile.proofs.Laws.{Profile.{valid_presence, valid_face}, KnownControl.{control_known}}
 use Rattle.camera.specs.{declared.record.Camera.{Camera}, Record.{fresh, held, puts, record_well_formed}}
 use Rattle.camera.specs.Requests.{state_refusal, table, rules, accepts_set, request_gives, camera_answer, requested_code, request_done, requested}
-use Rattle.camera.specs.{Loading.{selector_at, record_item, load_gives_lem}, Calls.{sensed}}
+use Rattle.camera.specs.{Loading.{selector_at, record_item, load_gives}, Calls.{sensed}}
 use Rattle.camera.proofs.Laws.Record.{formed_profile}
 use Rattle.demands.specs.Calls.{Call, request, load, outcome, left, next}
 use Rattle.demands.specs.{Runs.{gives, run}, Cameras.{Ok, Typed, Same}}
@@ -62,12 +62,12 @@ new_settings c o call =
 
 module _ (c : Camera) (w : record_well_formed c ≡ true) where
   pub set_gives_lem : (s payload reply : List ℕ) → is_set_request s ≡ true → (outcome c (request s payload reply)).code ≡ 0
-      → gives c.profile c.streaming (request s payload reply) ≡ set_gives_lem c.profile (setup_selector s) payload
+      → gives c.profile c.streaming (request s payload reply) ≡ set_gives c.profile (setup_selector s) payload
   unfolding gives request_gives
   set_gives_lem s payload reply i e = rw (set_answer c s payload (length reply) w i, eq-eqb _ 0 e)
 
   pub load_gives_lem : (s : List ℕ) → (outcome c (load s)).code ≡ 0
-      → gives c.profile c.streaming (load s) ≡ load_gives_lem c.profile c.streaming s
+      → gives c.profile c.streaming (load s) ≡ load_gives c.profile c.streaming s
   unfolding gives
   load_gives_lem s e = rw (eq-eqb _ 0 (sym (load_answer c s w) ∙ e))
 
@@ -177,7 +177,7 @@ set_verdict c w s payload room i = set_answer c s payload room w i
 module _ (c : Camera) (o : Ok c.profile c) (payload : List ℕ) (r : profile_refusal c.profile selector.face ≡ 0)
     (z : set_refusal c.profile selector.face payload ≡ 0) where
   abbrev d : Camera
-  d = puts c (set_gives_lem c.profile selector.face payload)
+  d = puts c (set_gives c.profile selector.face payload)
 
   abbrev limits : FaceLimits
   limits = c.profile.face
@@ -207,7 +207,7 @@ module _ (c : Camera) (o : Ok c.profile c) (payload : List ℕ) (r : profile_ref
       (each_taken i h).some
 
   face_back : Bytes payload → length payload ≡ set_length c.profile selector.face payload → FaceReadsBack c d payload
-  unfolding set_gives_lem all_given put_all
+  unfolding set_gives all_given put_all
   face_back b n =
       let v = valid_face c.profile (formed_profile c o.formed) (control_there c.profile selector.face r) in
       let m = face_sized limits payload n in
@@ -226,7 +226,7 @@ module _ (c : Camera) (o : Ok c.profile c) (payload : List ℕ) (r : profile_ref
       }
 
 set_next : (c : Camera) → Ok c.profile c → (s payload reply : List ℕ) → accepts_set c.profile c.streaming s payload ≡ true
-    → next c (request s payload reply) ≡ puts c (set_gives_lem c.profile (setup_selector s) payload)
+    → next c (request s payload reply) ≡ puts c (set_gives c.profile (setup_selector s) payload)
 unfolding request_gives
 set_next c o s payload reply a = request_next c s payload (length reply) o.formed ∙ rw a
 
@@ -241,12 +241,12 @@ set_then_get c o s payload reply b i e =
     let h = accepted_control (rules p c.streaming) s payload a in
     let r = set_control p c.streaming s payload a in
     let k = control_known p.controls (setup_selector s) (valid_presence p (formed_profile c o.formed)) h.0 in
-    let d : next c (request s payload reply) ≡ puts c (set_gives_lem p (setup_selector s) payload) = set_next c o s payload reply a in
+    let d : next c (request s payload reply) ≡ puts c (set_gives p (setup_selector s) payload) = set_next c o s payload reply a in
     record {
       known = k;
       answer = λ m. ap (λ d. camera_answer d (setup_selector s) get_cur) d ∙ answer_back c payload b (setup_selector s) k m h.1 z n;
       of_face =
-          λ q. subst (λ d. FaceReadsBack c d payload) (sym (d ∙ ap (λ (m : ℕ). puts c (set_gives_lem p m payload)) q))
+          λ q. subst (λ d. FaceReadsBack c d payload) (sym (d ∙ ap (λ (m : ℕ). puts c (set_gives p m payload)) q))
           (face_back c o payload (rw q at r) (rw q at z) b (rw q at n));
     }
 

@@ -4,6 +4,8 @@
 // the sensor's number), of lists of calls, merging and loading (demand 3, Lists, over Runs, document 01's "The list of demand 3"), and of
 // what counts as a SET (Loading); and what request #107 asks (Endpoints). proofs/ has the theorems under the same names. The demands on
 // `packet`, `frame`, `snapshot`, `merging` and `descriptors` are in these crates' own Theorems.
+#![tactic(auto)]
+
 mod buffers;
 mod program;
 

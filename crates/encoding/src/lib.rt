@@ -1,6 +1,8 @@
 // Settings as a snapshot, 01's settings sheet: how long it is, and its bytes. Document 01, "Settings sheet".
 // A snapshot has a record for each setting held and no other, in ascending order of the keys. `snapshot` knows the form of any snapshot and
 // `settings` what is held; the record test and the room that a call is lent are the camera's.
+#![tactic(auto)]
+
 ghost use mathlib.Core.{Path.{◌≡◌}, Bool.{cond}};
 ghost use lib.{Dec.{eqb}, ListN.{length}};
 ghost use Rattle.wire.specs.{Writes.{overlay}, Numbers.{bytes_of}};

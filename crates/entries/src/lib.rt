@@ -1,6 +1,8 @@
 // Entries of face authentication: what a SET of them comes to, the tests of each, and the settings with them. Document 01, "The five
 // controls"; 003 decides. All entries are taken or none, and an endpoint that none names keeps its setting.
 // Settings stand by address, that of 0x81 first: the flag chosen, or 0 for none. `face` has the limits and GET's answers.
+#![tactic(auto)]
+
 ghost use mathlib.Core.{Path.{◌≡◌}, Bool.{cond}};
 ghost use Rattle.std.specs.Prelude.{ℕ, ◌<◌, ◌+◌, ◌^◌, get_or};
 ghost use Rattle.wire.specs.Endpoints.{first_address, places};

@@ -2,6 +2,8 @@
 // sensor. Document 01, "The five controls"; 003 decides for it.
 // A setting is a step and a whole number of such steps, and what the sensor gets is exact: nothing here divides a setting.
 // Its payload is seven bytes of flags, of which one says the step, then a signed 32-bit value in such steps.
+#![tactic(auto)]
+
 ghost use Rattle.std.specs.Prelude.{◌≡◌};
 ghost use Rattle.request.specs.Answers.{packed};
 ghost use Rattle.exposure.specs.Exposure.{ev_valid, divisor, in_range, ev_refusal, ev_item, ev_bytes, ev_attribute, ev_answer, scaled};

@@ -1,5 +1,7 @@
 // Face authentication: the endpoints that a profile lists, with what each offers, and GET's answers. Document 01, "The five controls"; 003
 // decides for it. Each endpoint has a setting of its own, kept by its address. `entries` has what a SET comes to.
+#![tactic(auto)]
+
 mod answers;
 mod limits;
 

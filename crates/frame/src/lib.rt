@@ -3,6 +3,8 @@
 // 01 does not know is marked (#105 of document 02). The writer puts one item, of a known id, at a place of a lent buffer.
 // The rules for ids, the longest block and the refusals' numbers each stand in one place.
 // Every function takes any bytes: what is refused gets its number, with zeros, no mark and an empty part, and no byte is written.
+#![tactic(auto)]
+
 mod codes;
 mod ids;
 mod items;

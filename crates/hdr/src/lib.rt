@@ -1,5 +1,7 @@
 // HDR: SET's value tests, the setting that a SET gives, and GET's answers. Document 01, "The five controls"; 001 decides.
 // Its payload is a number of four bytes: 0 off, 1 on and 2 auto. The maximum is a mask of modes and no largest mode.
+#![tactic(auto)]
+
 ghost use Rattle.std.specs.Prelude.{◌≡◌};
 ghost use Rattle.request.specs.Answers.{packed};
 ghost use Rattle.hdr.specs.Hdr.{hdr_refusal, hdr_item, hdr_attribute, hdr_answer};

@@ -1,5 +1,7 @@
 // Merging two snapshots: one record for each key that is in either, in ascending order, the second's where both have it.
 // Document 01, "Settings sheet", and demand 3's sentences on merging. Merging looks at form only, never at the values that records carry.
+#![tactic(auto)]
+
 ghost use mathlib.Core.{Path.{◌≡◌}, Bool.{true}};
 ghost use lib.{ListN.{length}, Dec.{leb}};
 ghost use Rattle.wire.specs.Writes.{overlay};

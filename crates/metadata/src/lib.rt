@@ -1,5 +1,7 @@
 // Metadata: limits, SET's value tests, the setting that a SET gives, and GET's answers. Document 01, "The five controls"; 001 decides.
 // Its payload is a number of four bytes, the size of the buffer that frame metadata goes to; 0 turns it off and the maximum on.
+#![tactic(auto)]
+
 ghost use Rattle.std.specs.Prelude.{◌≡◌};
 ghost use Rattle.request.specs.Answers.{packed};
 ghost use Rattle.metadata.specs.Metadata.{metadata_valid, metadata_refusal, metadata_item, metadata_attribute, metadata_info};

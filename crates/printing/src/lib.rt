@@ -2,6 +2,8 @@
 // Each function answers how many columns it prints, a byte a column, so that a table's cells can be filled up.
 // That number is all that is promised. What then stands on the screen is outside: of a write the logic knows how many bytes the C
 // library took and not which, and a write that fails is passed over.
+#![tactic(auto)]
+
 ghost use Rattle.std.specs.Prelude.{◌≡◌, ◌+◌, ◌-◌, ◌*◌, ◌≤◌, min, length};
 ghost use Rattle.printing.specs.Printing.{saturated, decimal_columns, signed_columns, hex_columns, bytes_columns};
 

@@ -2,6 +2,8 @@
 // and "The five controls".
 // What goes by the profile alone stands here: which profiles keep their rules, what the tests of a request go by, and what an item of a SET
 // comes to. `settings` has the settings that a camera of a profile holds.
+#![tactic(auto)]
+
 ghost use mathlib.Core.{Path.{◌≡◌}, Bool.{cond}};
 ghost use Rattle.std.specs.Prelude.{◌≤◌};
 ghost use Rattle.request.specs.Table.{has_control};

@@ -2,6 +2,8 @@
 // answer, and how it is cut to wLength and sent. USB Video Class 1.5 gives the request codes.
 // The definitions have all nine tests over a table of controls. The code has tests 2 to 6 and, in `send`, test 9; a unit's
 // record, state and values, tests 1, 7 and 8, are its own.
+#![tactic(auto)]
+
 mod answers;
 mod reply;
 mod setup;

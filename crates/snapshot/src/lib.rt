@@ -4,6 +4,8 @@
 // `key_at` says which key stands at a place and `record_length` how long its records are: with these code goes through a snapshot that
 // `check` accepts, from record to record. `record_of` reads one.
 // Nothing here judges the values that the records carry: that is the camera's.
+#![tactic(auto)]
+
 mod form;
 mod keys;
 mod records;

@@ -1,5 +1,7 @@
 // The throttle: limits, SET's value tests, the setting that a SET gives, and GET's answers. Document 01, "The five controls"; 001 decides.
 // Its payload is five numbers of four bytes: mode, percent, minimum, maximum and step; a SET's last three are not looked at.
+#![tactic(auto)]
+
 ghost use Rattle.std.specs.Prelude.{◌≡◌};
 ghost use Rattle.request.specs.Answers.{packed};
 ghost use Rattle.throttle.specs.Throttle.{divides, throttle_valid, throttle_refusal, throttle_item, throttle_attribute, throttle_bytes};

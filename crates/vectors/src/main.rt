@@ -3,6 +3,8 @@
 // A row is a name, a colon, a call and the call's fields in hex, little-endian, `-` for no bytes. A line without a colon is a
 // heading. The calls are in src/camera_calls.rt, peripherals.rt, snapshots.rt, frames.rt and sets.rt, the fields of a camera in
 // src/record.rt.
+#![tactic(auto)]
+
 mod buffers;
 mod camera_calls;
 mod frames;

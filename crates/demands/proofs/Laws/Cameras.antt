@@ -24,39 +24,39 @@ use Rattle.profile.specs.{declared.Profile.{Profile}, Items.{profile_item}}
 use Rattle.settings.specs.{Settings.{setting_key, setting_selector}, Kept.{value_refusal}}
 use Rattle.camera.specs.{declared.record.Camera.{Camera}, Requests.{control_refusal}, Record.{held, record_well_formed}}
 use Rattle.camera.specs.Loading.{selector_at, record_item}
-use Rattle.encoding.specs.Encoding.{record_of_lem, no_limits}
+use Rattle.encoding.specs.Encoding.{record_of, no_limits}
 use Rattle.invariants.proofs.Laws.{Held.{Proper, Each}, Kept.{Good, held_good, streaming_control}}
 use Rattle.demands.proofs.Laws.Fits.{Fitting}
 
 -- a setting's record, under its key
-pub record_of_lem : (k : ℕ) (s : Setting) → setting_key s ≡ k → Proper s → IsRecord k (record_of_lem s)
-unfolding record_of_lem ev_bytes throttle_bytes bytes_of
-record_of_lem k (S.Ev s) e p = subst (λ j. IsRecord j (record_of_lem (S.Ev s))) e (record_ev _ _ _ _ _ _ _ _ _ _ _)
+pub record_of_lem : (k : ℕ) (s : Setting) → setting_key s ≡ k → Proper s → IsRecord k (record_of s)
+unfolding record_of ev_bytes throttle_bytes bytes_of
+record_of_lem k (S.Ev s) e p = subst (λ j. IsRecord j (record_of (S.Ev s))) e (record_ev _ _ _ _ _ _ _ _ _ _ _)
 record_of_lem k (S.Face address flags) e p =
     let f : first_address - 1 + (address - (first_address - 1)) ≡ address = omega arith in
-    subst (λ j. IsRecord j (record_of_lem (S.Face address flags))) e
+    subst (λ j. IsRecord j (record_of (S.Face address flags))) e
     (subst (λ a. IsRecord (address - (first_address - 1)) (13 ∷ 0 ∷ selector.face ∷ 0 ∷ 1 ∷ entry_of a flags)) f
     (record_face (address - (first_address - 1)) _ _ _ _ _ _ _ (omega arith) (omega arith)))
-record_of_lem k (S.Metadata n) e p = subst (λ j. IsRecord j (record_of_lem (S.Metadata n))) e (record_metadata _ _ _ _)
-record_of_lem k (S.Hdr n) e p = subst (λ j. IsRecord j (record_of_lem (S.Hdr n))) e (record_hdr _ _ _ _)
-record_of_lem k (S.Throttle s) e p = subst (λ j. IsRecord j (record_of_lem (S.Throttle s))) e (record_throttle _ _ _ _ _ _ _ _)
+record_of_lem k (S.Metadata n) e p = subst (λ j. IsRecord j (record_of (S.Metadata n))) e (record_metadata _ _ _ _)
+record_of_lem k (S.Hdr n) e p = subst (λ j. IsRecord j (record_of (S.Hdr n))) e (record_hdr _ _ _ _)
+record_of_lem k (S.Throttle s) e p = subst (λ j. IsRecord j (record_of (S.Throttle s))) e (record_throttle _ _ _ _ _ _ _ _)
 
-pub each_record : (p : Profile) (l : List (ℕ × Setting)) → Each (Good p) l → EachRecord record_of_lem l
+pub each_record : (p : Profile) (l : List (ℕ × Setting)) → Each (Good p) l → EachRecord record_of l
 each_record p [] g = tt
 each_record p (x ∷ l) g = (record_of_lem x.0 x.1 (sym g.0) g.1.proper, each_record p l g.2)
 
 -- the records of what a well-formed camera holds are records of their keys
-pub held_records : (c : Camera) → record_well_formed c ≡ true → records.Good (λ k. map record_of_lem (held c k))
+pub held_records : (c : Camera) → record_well_formed c ≡ true → records.Good (λ k. map record_of (held c k))
 held_records c w k = go (held c k) refl
   where
-    go : (o : Option Setting) → held c k ≡ o → GoodAt k (map record_of_lem o)
+    go : (o : Option Setting) → held c k ≡ o → GoodAt k (map record_of o)
     go none e = tt
     go (some s) e = let g = held_good c.profile c.settings w k s e in record_of_lem k s g.0 g.1.proper
 
 -- the record's payload, read as a SET, comes to its setting by the value tests of that setting
 record_of_item : (p : Profile) (k : ℕ) (s : Setting) → Fitting s
-    → profile_item p (setting_selector s) (drop 4 (record_of_lem s)) 0 ≡ item_of (value_refusal p s) s
-unfolding profile_item value_refusal setting_refusal record_of_lem bytes_of
+    → profile_item p (setting_selector s) (drop 4 (record_of s)) 0 ≡ item_of (value_refusal p s) s
+unfolding profile_item value_refusal setting_refusal record_of bytes_of
 record_of_item p k (S.Ev s) f = ev_read s f.0 f.1 p.ev
 record_of_item p k (S.Face address flags) f = one_entry p.face address flags f
 record_of_item p k (S.Metadata n) f = metadata_read p.metadata n f
@@ -73,7 +73,7 @@ key_selector k (S.Throttle s) e p = rw (← e)
 
 -- so a setting's record is taken by a camera that streams, and gives the setting back
 pub record_of_taken : (p : Profile) (k : ℕ) (s : Setting) → Fitting s → setting_key s ≡ k → Good p s
-    → record_item p true k (record_of_lem s) ≡ Given s
+    → record_item p true k (record_of s) ≡ Given s
 unfolding record_item item_of
 record_of_taken p k s f e g =
     rw (

@@ -18,7 +18,7 @@ use Rattle.entries.proofs.Laws.Payload.{set_length_first}
 use Rattle.profile.specs.{declared.Profile.{Profile}, Profile.{has, is_settable, set_length, profile_valid}}
 use Rattle.profile.specs.Items.{item_count, profile_item, set_refusal}
 use Rattle.camera.specs.{Requests.{state_refusal, control_refusal, request_gives}, Loading.{selector_at, record_item}}
-use Rattle.settings.specs.Items.{given_of, all_given, set_gives_lem}
+use Rattle.settings.specs.Items.{given_of, all_given, set_gives}
 use Rattle.profile.proofs.Laws.Profile.{valid_face}
 use Rattle.demands.specs.{Runs.{gives}, Loading.{record_set, set_code, AsSet}}
 
@@ -85,8 +85,8 @@ module _ (k : ℕ) (r : List ℕ) (g : IsRecord k r) where
       go true e = sym (eqb-true _ 0 e)
       go false e = refl
 
-  set_gives_lem : (p : Profile) → set_gives_lem p (selector_at k) (drop 4 r) ≡ given_of (profile_item p (selector_at k) (drop 4 r) 0)
-  unfolding set_gives_lem all_given
+  set_gives_lem : (p : Profile) → set_gives p (selector_at k) (drop 4 r) ≡ given_of (profile_item p (selector_at k) (drop 4 r) 0)
+  unfolding set_gives all_given
   set_gives_lem p = rw one_item (append-nil (given_of (profile_item p (selector_at k) (drop 4 r) 0)))
 
   -- test 6: the payload has the control's length. Of face authentication, one entry is no more than a valid profile's endpoints.
@@ -184,7 +184,7 @@ module _ (k : ℕ) (r : List ℕ) (g : IsRecord k r) where
         go false q z = absurd (eqb-false code 0 q z)
 
     set_settings : (b : Bool) → eqb (item_code (record_item p streaming k r)) 0 ≡ b
-        → cond b (set_gives_lem p (selector_at k) (drop 4 r)) [] ≡ given_of (record_item p streaming k r)
+        → cond b (set_gives p (selector_at k) (drop 4 r)) [] ≡ given_of (record_item p streaming k r)
     set_settings true e = set_gives_lem p ∙ ap given_of (sym (record_item_lem (eqb-true _ 0 e)))
     set_settings false e = sym (refused_nothing (record_item p streaming k r) e)
 

@@ -5,7 +5,7 @@ use native.Mathlib.{Omega.{arith}, Numerals.{add-one}}
 use lib.{ListN.{length, drop, length-take, length-drop}, Seq.{drop-drop}}
 use borrow.Author.Tests.{eq-eqb, ne_eqb, lt-ltb, le-ltb}
 use Rattle.frame.specs.declared.{items.Head.{Head}, items.Head.TheVariants.{Bad, Whole}, items.Found.{Found}, items.Survey.{Survey}}
-use Rattle.frame.specs.{Codes.{no_item, too_long_lem, longest_block}, Ids.{is_known}}
+use Rattle.frame.specs.{Codes.{no_item, too_long, longest_block}, Ids.{is_known}}
 use Rattle.frame.specs.Items.{MetadataItem, BlockReading, refused, sound, first_item, ◌before◌, follow, items_from, block_items_under}
 use Rattle.frame.specs.Items.{block_items, item_in, refused_item, found_item, nth_item}
 use Rattle.frame.specs.Steps.{survey_of, stopped_at, pass_item, walked_over, onward}
@@ -71,7 +71,7 @@ onward_before k at n found i (refused code) = refl
 onward_before k at n found i (sound is) = refl
 
 -- the longest block
-pub too_long_lem : (k : ℕ) (s : List ℕ) → longest_block < length s → stopped_at too_long_lem ≡ survey_of k (block_items s)
+pub too_long_lem : (k : ℕ) (s : List ℕ) → longest_block < length s → stopped_at too_long ≡ survey_of k (block_items s)
 unfolding block_items_under
 too_long_lem k s h = simp (lt-ltb _ _ h)
 

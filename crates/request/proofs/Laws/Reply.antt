@@ -4,12 +4,12 @@ use Prim.Native.Nat.{ℕ, ◌+◌, ◌≤◌, ◌<◌}
 use native.Mathlib.Omega.{arith}
 use lib.{ListN.{length, take, drop}, Seq.{length-take-le}}
 use borrow.Author.Tests.{le-leb, lt-leb}
-use Rattle.wire.specs.{Uvc.{no_room_lem}, Writes.{overlay}}
+use Rattle.wire.specs.{Uvc.{no_room}, Writes.{overlay}}
 use Rattle.wire.proofs.Laws.Writes.{fits}
 use Rattle.request.specs.Reply.{sent_length, sent_of, reply_of}
 
 module _ (a : List ℕ) (w : ℕ) (d : List ℕ) where
-  pub no_room_lem : length d < sent_length a w → (record { code = no_room_lem; count = 0 } ≡ sent_of a w (length d)) × (d ≡ reply_of a w d)
+  pub no_room_lem : length d < sent_length a w → (record { code = no_room; count = 0 } ≡ sent_of a w (length d)) × (d ≡ reply_of a w d)
   unfolding sent_of reply_of
   no_room_lem h = (rw (lt-leb (sent_length a w) (length d) h), rw (lt-leb (sent_length a w) (length d) h))
 
