@@ -17,7 +17,7 @@ use Rattle.profile.specs.{declared.Profile.{Profile}, Profile.{profile_valid}}
 use Rattle.camera.specs.{declared.{record.Camera.{Camera}, calls.Outcome.{Outcome}}, Record.{fresh, held, record_well_formed, puts}}
 use Rattle.camera.specs.Loading.{record_item, load_tests, load_code, load_code_under, load_gives, loaded, loaded_under}
 use Rattle.camera.specs.Writing.{snapshot, write_code, written, written_out}
-use Rattle.encoding.specs.Encoding.{record_of_lem}
+use Rattle.encoding.specs.Encoding.{record_of}
 use Rattle.demands.specs.Calls.{Call, load}
 use Rattle.demands.specs.{Runs.{gives, leaves, flag_after, given, snapshot_after, run}, Cameras.{Ok, Typed, handed_snapshot, Written}}
 use Rattle.demands.specs.Lists.{MergesTo, Whole, LoadsMerged, AcceptedInTurn, Restores}
@@ -36,7 +36,7 @@ writes c out w h =
 
 -- a camera's snapshot decodes to its settings' records
 module _ (c : Camera) (w : record_well_formed c ≡ true) where
-  pub snapshot_decodes : decode (snapshot c) ≡ (λ k. map record_of_lem (held c k))
+  pub snapshot_decodes : decode (snapshot c) ≡ (λ k. map record_of (held c k))
   unfolding snapshot
   snapshot_decodes = decode_encode _ (held_records c w)
 
@@ -58,20 +58,20 @@ merges_to a b s w v e =
     }
 
 module _ (p : Profile) (v : profile_valid p ≡ true) where
-  given_records : (f : Bool) (cs : List Call) → EachRecord record_of_lem (given p f cs)
+  given_records : (f : Bool) (cs : List Call) → EachRecord record_of (given p f cs)
   given_records f [] = tt
   given_records f (c ∷ cs) =
-      records_append record_of_lem (gives p f c) _ (each_record p (gives p f c) (gives_good p v f c)) (given_records (leaves f c) cs)
+      records_append record_of (gives p f c) _ (each_record p (gives p f c) (gives_good p v f c)) (given_records (leaves f c) cs)
 
   snapshot_after_lem : (f : Bool) (cs : List Call) → snapshot (run (fresh p f) cs) ≡ snapshot_after p f cs
   unfolding snapshot
-  snapshot_after_lem f cs = ap (snapshot_of record_of_lem) (held_after p v f cs)
+  snapshot_after_lem f cs = ap (snapshot_of record_of) (held_after p v f cs)
 
   cut : (f : Bool) (xs ys : List Call) → snapshot_after p f (xs ++ ys) ≡ merged (snapshot_after p f xs) (snapshot_after p (flag_after f xs) ys)
   cut f xs ys =
       let g = flag_after f xs in
-      ap (λ l. snapshot_of record_of_lem (last_of l)) (given_append p f xs ys)
-      ∙ snapshot_append record_of_lem (given p f xs) (given p g ys) (given_records f xs) (given_records g ys)
+      ap (λ l. snapshot_of record_of (last_of l)) (given_append p f xs ys)
+      ∙ snapshot_append record_of (given p f xs) (given p g ys) (given_records f xs) (given_records g ys)
 
   -- every list of calls, from a fresh camera of a valid profile, streaming or not, wherever it is cut
   pub whole : (f : Bool) (xs ys : List Call) → Whole p f xs ys
@@ -181,13 +181,13 @@ load_in_turn c h a b ea eb =
 -- the record of what a well-formed camera holds of a key
 module _ (c : Camera) (w : record_well_formed c ≡ true) (t : Typed c) where
   pub written_item : (k : ℕ) (o : Option Setting) → held c k ≡ o
-      → map (record_item c.profile true k) (map record_of_lem o) ≡ map Given o
+      → map (record_item c.profile true k) (map record_of o) ≡ map Given o
   written_item k none e = refl
   written_item k (some s) e =
       let g = held_good c.profile c.settings w k s e in
       ap some (record_of_taken c.profile k s (held_fitting c w t k s e) g.0 g.1)
 
-  written_code : (k : ℕ) → code_by c.profile true k (map record_of_lem (held c k)) ≡ 0
+  written_code : (k : ℕ) → code_by c.profile true k (map record_of (held c k)) ≡ 0
   unfolding Option-elim item_code
   written_code k = ap (λ o. Option-elim o 0 item_code) (written_item k (held c k) refl) ∙ go (held c k)
     where
@@ -195,7 +195,7 @@ module _ (c : Camera) (w : record_well_formed c ≡ true) (t : Typed c) where
       go none = refl
       go (some s) = refl
 
-  written_given : (k : ℕ) → last_of (given_by c.profile true k (map record_of_lem (held c k))) k ≡ held c k
+  written_given : (k : ℕ) → last_of (given_by c.profile true k (map record_of (held c k))) k ≡ held c k
   unfolding Option-elim given_of
   written_given k = ap (λ o. last_of (Option-elim o [] given_of) k) (written_item k (held c k) refl) ∙ go (held c k) refl
     where

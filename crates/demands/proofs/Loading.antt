@@ -15,7 +15,7 @@ use Rattle.settings.specs.{Kept.{kept}, Items.{put_all, given_of, all_given}}
 use Rattle.settings.proofs.Laws.Items.{puts_append}
 use Rattle.camera.specs.{declared.record.Camera.{Camera}, Record.{held, record_well_formed, puts, with_settings}}
 use Rattle.camera.specs.Loading.{load_refusal, load_tests, load_gives, loaded}
-use Rattle.encoding.specs.Encoding.{record_of_lem}
+use Rattle.encoding.specs.Encoding.{record_of}
 use Rattle.camera.proofs.Laws.{Record.{formed_profile}, Loading.{code_by, given_by}}
 use Rattle.demands.specs.Calls.{request, load, next}
 use Rattle.demands.specs.{Runs.{gives, given, run}, Cameras.{Ok, Typed}}
@@ -125,13 +125,13 @@ module _ (c : Camera) (v : profile_valid c.profile ≡ true) where
   unfolding given_of
   own_given w t k s e =
       let g = held_good c.profile c.settings w k s e in
-      (record_as_set c.profile v true k (record_of_lem s) (record_of_lem k s g.0 g.1.proper)).settings []
+      (record_as_set c.profile v true k (record_of s) (record_of_lem k s g.0 g.1.proper)).settings []
       ∙ ap given_of (record_of_taken c.profile k s (held_fitting c w t k s e) g.0 g.1)
       ∙ ap (λ (j : ℕ). (j, s) ∷ []) g.0
 
   own_kept : (k : ℕ) (s : Setting) → OwnSet c.profile k s → kept c.profile (some s) ≡ true
   own_kept k s e =
-      let g = gives_good c.profile v true (request (record_set c.profile k (record_of_lem s)) (drop 4 (record_of_lem s)) []) in
+      let g = gives_good c.profile v true (request (record_set c.profile k (record_of s)) (drop 4 (record_of s)) []) in
       good_kept c.profile s (subst (Each (Good c.profile)) e g).1
 
   pub own_sets : Typed c → KeepsSetRules c

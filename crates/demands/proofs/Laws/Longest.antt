@@ -16,7 +16,7 @@ use Rattle.entries.specs.Entries.{is_choice, setting_refusal}
 use Rattle.controls.specs.declared.Setting.{Setting}
 use Rattle.controls.specs.declared.Setting.TheVariants as S
 use Rattle.camera.specs.{declared.record.Camera.{Camera}, Record.{held, record_well_formed}, Writing.{snapshot}}
-use Rattle.encoding.specs.Encoding.{record_of_lem}
+use Rattle.encoding.specs.Encoding.{record_of}
 use Rattle.invariants.proofs.Laws.{Held.{held_face, none_never}, Kept.{held_good}}
 use Rattle.demands.proofs.Laws.Cameras.{held_records}
 
@@ -130,7 +130,7 @@ module _ (c : Camera) (w : record_well_formed c ≡ true) where
           ∙ found limits k (endpoints_of limits) 0 (rw a at (value_offered limits address flags v))
 
   abbrev rows : ℕ → Option (List ℕ)
-  rows k = map record_of_lem (held c k)
+  rows k = map record_of (held c k)
 
   held_tally : (n k : ℕ) → 1 ≤ k → n + k ≤ places + 1 → record_count n k rows ≤ tally n k (listed limits (endpoints_of limits))
   unfolding record_count tally
@@ -138,7 +138,7 @@ module _ (c : Camera) (w : record_well_formed c ≡ true) where
   held_tally (suc n) k l h = go (held c k) refl (held_tally n (suc k) (omega arith) (omega arith))
     where
       go : (o : Option Setting) → held c k ≡ o → record_count n (suc k) rows ≤ tally n (suc k) (listed limits (endpoints_of limits))
-          → count_one (map record_of_lem o) (record_count n (suc k) rows)
+          → count_one (map record_of o) (record_count n (suc k) rows)
           ≤ cond (listed limits (endpoints_of limits) k) 1 0 + tally n (suc k) (listed limits (endpoints_of limits))
       go none e ih = omega arith
       go (some s) e ih = rw (held_listed k s l (omega arith) e) (omega arith)
