@@ -5,7 +5,7 @@ ghost use Rattle.camera.specs.Record.{fresh, with_streaming, with_settings};
 use profile::Profile;
 use settings::Settings;
 
-#[derive(Drop)]
+#[derive(Clone, Copy)]
 pub struct Camera {
     pub profile: Profile,
     pub streaming: bool,

@@ -8,20 +8,20 @@ ghost use Rattle.std.specs.Prelude.{◌≡◌};
 ghost use Rattle.controls.specs.Controls.{item_of, item_code, number_or};
 
 // The flag of a step, and a number of such steps.
-#[derive(Drop)]
+#[derive(Clone, Copy)]
 pub struct EvSetting {
     pub flags: u8,
     pub value: i32,
 }
 
-#[derive(Drop)]
+#[derive(Clone, Copy)]
 pub struct ThrottleSetting {
     pub mode: u32,
     pub percent: u32,
 }
 
 // One setting, as a SET gives it. A face setting names its endpoint by the address.
-#[derive(Drop)]
+#[derive(Clone, Copy)]
 pub enum Setting {
     Ev(EvSetting),
     Face { address: u8, flags: u8 },
@@ -31,7 +31,7 @@ pub enum Setting {
 }
 
 // What one item of a SET or one record of a snapshot comes to.
-#[derive(Drop)]
+#[derive(Clone, Copy)]
 pub enum Item {
     // document 01's number
     Refused(u8),
@@ -39,14 +39,14 @@ pub enum Item {
 }
 
 // The setting held of a control whose payload is one number, or none.
-#[derive(Drop)]
+#[derive(Clone, Copy)]
 pub enum HeldNumber {
     Unset,
     Held(u32),
 }
 
 // The setting held of a key, or none.
-#[derive(Drop)]
+#[derive(Clone, Copy)]
 pub enum HeldSetting {
     Unset,
     Held(Setting),

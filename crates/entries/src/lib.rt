@@ -82,7 +82,7 @@ pub fn put(held: [u8; endpoints::PLACES], address: u8, flags: u8) -> [u8; endpoi
 }
 
 // What a SET comes to: the first refusal of its entries, or 0 and the settings with all of them.
-#[derive(Drop)]
+#[derive(Clone, Copy)]
 pub struct FacesTaken {
     pub code: u8,
     pub held: [u8; endpoints::PLACES],

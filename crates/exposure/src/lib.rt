@@ -18,14 +18,14 @@ use wire::uvc;
 const UNITS_PER_STOP: i32 = 120;
 
 // Whole stops, and the steps offered as flags D0 to D4.
-#[derive(Drop)]
+#[derive(Clone, Copy)]
 pub struct EvLimits {
     pub minimum: i32,
     pub maximum: i32,
     pub steps: u8,
 }
 
-#[derive(Drop)]
+#[derive(Clone, Copy)]
 pub enum HeldEv {
     Unset,
     Held(EvSetting),

@@ -8,7 +8,7 @@ use wire::endpoints;
 const LAST: u8 = endpoints::FIRST + (endpoints::PLACES as u8) - 1;
 
 // Endpoints in ascending order of their addresses, each with the flags that it offers; places behind the count are zero.
-#[derive(Drop)]
+#[derive(Clone, Copy)]
 pub struct FaceLimits {
     pub count: u8,
     pub addresses: [u8; endpoints::LIMIT],

@@ -14,7 +14,7 @@ pub const LONGEST_BLOCK: usize = 65535;
 pub(crate) const ITEM_HEADER: usize = 8;
 
 // An item's id, whether it is unknown, and the place of its payload, with code 0; or a refusal, with id 0, not marked, and an empty part.
-#[derive(Drop)]
+#[derive(Clone, Copy)]
 pub struct Found {
     pub code: u8,
     pub id: u32,
@@ -23,21 +23,21 @@ pub struct Found {
 }
 
 // How many items a sound block has, with code 0; or a refusal, with none.
-#[derive(Drop)]
+#[derive(Clone, Copy)]
 pub struct Counted {
     pub code: u8,
     pub items: usize,
 }
 
 // One item by itself: its refusal, or its id and its size.
-#[derive(Drop)]
+#[derive(Clone, Copy)]
 pub(crate) enum Head {
     Bad(u8),
     Whole(u32, usize),
 }
 
 // What one walk over a block finds: how many items, and the one asked for.
-#[derive(Drop)]
+#[derive(Clone, Copy)]
 pub(crate) struct Survey {
     pub counted: Counted,
     pub found: Found,

@@ -4,7 +4,7 @@ ghost use Rattle.frame.specs.{Items.{block_item}, View.{Views}};
 use crate::items::item;
 
 // An item's id, whether it is unknown, and its payload, with code 0; or a refusal, with id 0, not marked, and an empty part.
-#[derive(Drop)]
+#[derive(Clone, Copy)]
 pub struct ItemView<'a> {
     pub code: u8,
     pub id: u32,

@@ -9,7 +9,7 @@ use crate::items::{ITEM_HEADER, LONGEST_BLOCK};
 use wire::uvc;
 
 // The place behind the item, with code 0; or a refusal, with 0.
-#[derive(Drop)]
+#[derive(Clone, Copy)]
 pub struct Appended {
     pub code: u8,
     pub end: usize,

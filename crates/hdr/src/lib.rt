@@ -11,7 +11,7 @@ use request::{Answer, answer_by};
 use wire::uvc;
 
 // Whether Auto is offered.
-#[derive(Drop)]
+#[derive(Clone, Copy)]
 pub struct HdrLimits {
     pub auto: bool,
 }

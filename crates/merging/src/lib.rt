@@ -12,7 +12,7 @@ use snapshot::{LONGEST, key_at, record_length, well_formed};
 use wire::{Part, uvc};
 
 // The verdict, and how many bytes the merged snapshot has; 0 where it is refused.
-#[derive(Drop)]
+#[derive(Clone, Copy)]
 pub struct Merged {
     pub code: u8,
     pub len: usize,

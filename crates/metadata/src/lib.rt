@@ -11,7 +11,7 @@ use controls::{HeldNumber, Item, Setting, item_of, number_or};
 use request::{Answer, answer_by};
 use wire::uvc;
 
-#[derive(Drop)]
+#[derive(Clone, Copy)]
 pub struct MetadataLimits {
     pub maximum: u32,
     pub writable: bool,

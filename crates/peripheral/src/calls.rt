@@ -7,7 +7,7 @@ use wire::uvc;
 
 // Document 01's number, how many bytes were written, and the next record. A refusal has a count of 0 and the record as it
 // came in.
-#[derive(Drop)]
+#[derive(Clone, Copy)]
 pub struct Outcome {
     pub code: u8,
     pub count: usize,

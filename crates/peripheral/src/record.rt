@@ -3,7 +3,7 @@ ghost use Rattle.std.specs.Prelude.{◌≡◌};
 ghost use Rattle.peripheral.specs.Record.{fresh, mode_valid, record_well_formed, holding};
 
 // `mask` has a bit for each mode that is supported, and `mode` is one of them or 0; `count` is the detector's last.
-#[derive(Drop)]
+#[derive(Clone, Copy)]
 pub struct Peripheral {
     pub unit: u8,
     pub interface: u8,

@@ -10,7 +10,7 @@ ghost use Rattle.printing.specs.Printing.{saturated, decimal_columns, signed_col
 const STDOUT: i32 = 1;
 
 // The letters of hex digits.
-#[derive(Drop)]
+#[derive(Clone, Copy)]
 pub enum Case {
     Lower,
     Upper,

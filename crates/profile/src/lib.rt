@@ -21,7 +21,7 @@ use throttle::ThrottleLimits;
 use wire::{selectors, uvc};
 
 // `controls` has bit s - 1 for the control of selector s, as bmControls has.
-#[derive(Drop)]
+#[derive(Clone, Copy)]
 pub struct Profile {
     pub unit: u8,
     pub interface: u8,

@@ -8,7 +8,7 @@ use wire::{endpoints, uvc};
 pub const LONGEST_ANSWER: usize = 1 + 8 * endpoints::LIMIT;
 
 // The first len bytes are the answer, the others 0.
-#[derive(Drop)]
+#[derive(Clone, Copy)]
 pub struct Answer {
     pub bytes: [u8; LONGEST_ANSWER],
     pub len: usize,

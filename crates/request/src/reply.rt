@@ -5,7 +5,7 @@ ghost use Rattle.request.specs.Reply.{sent_of, reply_of};
 use wire::uvc;
 
 // What a GET reports: document 01's number and how many bytes were written.
-#[derive(Drop)]
+#[derive(Clone, Copy)]
 pub struct Sent {
     pub code: u8,
     pub count: usize,

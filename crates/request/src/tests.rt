@@ -7,7 +7,7 @@ use crate::setup::{is_get_request, is_set_request, selector, wlength};
 use wire::uvc;
 
 // A unit: bit s - 1 of `present` says that the control of selector s is there.
-#[derive(Drop)]
+#[derive(Clone, Copy)]
 pub struct Unit {
     pub unit: u8,
     pub interface: u8,
@@ -15,7 +15,7 @@ pub struct Unit {
 }
 
 // The control that a setup selects: whether it takes a SET, and the length that a SET of the payload at hand must have.
-#[derive(Drop)]
+#[derive(Clone, Copy)]
 pub struct Control {
     pub settable: bool,
     pub len: usize,

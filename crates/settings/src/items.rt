@@ -8,7 +8,7 @@ use profile::Profile;
 use wire::selectors;
 
 // Document 01's number, and the settings; on a refusal they are as they came in.
-#[derive(Drop)]
+#[derive(Clone, Copy)]
 pub struct SetTaken {
     pub code: u8,
     pub settings: Settings,

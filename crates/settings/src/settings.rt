@@ -8,7 +8,7 @@ use throttle::HeldThrottle;
 use wire::endpoints;
 
 // Face settings stand by address, that of 0x81 first: the flag chosen, or 0 for none.
-#[derive(Drop)]
+#[derive(Clone, Copy)]
 pub struct Settings {
     pub ev: HeldEv,
     pub face: [u8; endpoints::PLACES],

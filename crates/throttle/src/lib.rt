@@ -11,14 +11,14 @@ use controls::{Item, Setting, ThrottleSetting, item_of};
 use request::{Answer, answer_by};
 use wire::uvc;
 
-#[derive(Drop)]
+#[derive(Clone, Copy)]
 pub struct ThrottleLimits {
     pub minimum: u32,
     pub maximum: u32,
     pub step: u32,
 }
 
-#[derive(Drop)]
+#[derive(Clone, Copy)]
 pub enum HeldThrottle {
     Unset,
     Held(ThrottleSetting),

@@ -20,7 +20,7 @@ use peripheral::Peripheral;
 use wire::Part;
 
 // The two units that the rows go to.
-#[derive(Drop)]
+#[derive(Clone, Copy)]
 struct Board {
     camera: Camera,
     peripheral: Peripheral,
