@@ -1,5 +1,5 @@
 -- What one call, and a list of calls, leaves of a well-formed record. Assumes nothing.
-use mathlib.Core.{Path.{◌≡◌, refl, ap, sym, ◌∙◌, subst}, List.{List, [], ◌∷◌}, Bool.{Bool, true, false, cond, not}}
+use mathlib.Core.{Path.{◌≡◌, refl, ap, sym, ◌∙◌, subst}, List.{List, [], ◌∷◌}, Bool.{Bool, true, false, cond}}
 use Prim.Native.Nat.{ℕ}
 use lib.{Dec.{eqb, leb, ltb}, ListN.{length}}
 use borrow.Author.Tests.{eqb-true, le-ltb, lt-ltb, leb-true, leb-false}
