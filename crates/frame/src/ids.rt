@@ -11,6 +11,7 @@ const LAST_STANDARD: u32 = 6;
 const FIRST_CUSTOM: u32 = 0x8000_0000;
 
 // The ids that the writer writes, and that are handed out without a mark.
+#[tactic(auto, unfolding(crate::specs::Ids::is_known))]
 pub(crate) fn is_known(id: u32) -> bool
     ensures { result ≡ is_known id }
 {
@@ -18,6 +19,7 @@ pub(crate) fn is_known(id: u32) -> bool
 }
 
 // The ids that a reader takes: all but 0.
+#[tactic(auto, unfolding(crate::specs::Ids::is_readable))]
 pub(crate) fn is_readable(id: u32) -> bool
     ensures { result ≡ is_readable id }
 {

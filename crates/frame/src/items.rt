@@ -44,6 +44,7 @@ pub(crate) struct Survey {
 }
 
 // The item that the rest of a block begins with.
+#[tactic(auto, unfolding(crate::specs::Items::first_item_under, crate::specs::Items::item_refusal_under))]
 fn first_item(rest: &[u8]) -> Head
     ensures { result ≡ first_item rest.now }
 {
@@ -86,6 +87,7 @@ fn stopped(code: u8) -> Survey
 }
 
 // Item n is passed, at `at`: it is the one asked for, or what was found before stays.
+#[tactic(auto, unfolding(crate::specs::Steps::pass_item))]
 fn pass_item(found: Found, k: usize, n: usize, id: u32, at: usize, size: usize) -> Found
     requires { (8 ≤ size) × (at + size ≤ 65535) }
     ensures { result ≡ pass_item k at n found id (size - 8) }
@@ -105,6 +107,7 @@ fn pass_item(found: Found, k: usize, n: usize, id: u32, at: usize, size: usize) 
 }
 
 // Walks the whole block, each item once.
+#[tactic(auto, using(crate::proofs::Laws::Walk::too_long_lem))]
 fn walk(block: &[u8], k: usize) -> Survey
     ensures { result ≡ survey_of k (block_items block.now) }
 {
@@ -134,6 +137,7 @@ fn walk(block: &[u8], k: usize) -> Survey
 }
 
 // Item k of the block, k from 0. `wire::part_at` hands out its payload.
+#[tactic(auto, unfolding(crate::specs::Items::block_item))]
 pub fn item(block: &[u8], k: usize) -> Found
     ensures { result ≡ block_item block.now k }
 {
@@ -142,6 +146,7 @@ pub fn item(block: &[u8], k: usize) -> Found
 }
 
 // How many items the block has.
+#[tactic(auto, unfolding(crate::specs::Items::block_count))]
 pub fn count(block: &[u8]) -> Counted
     ensures { result ≡ block_count block.now }
 {

@@ -16,6 +16,7 @@ pub struct Appended {
 }
 
 // The refusal of an item of `len` payload bytes at a place in `room` bytes, or 0. No sum can wrap.
+#[tactic(auto, unfolding(crate::specs::Writer::append_refusal))]
 fn append_refusal(room: usize, at: usize, id: u32, len: usize) -> u8
     ensures { result ≡ append_refusal room at id len }
 {
@@ -39,6 +40,7 @@ fn append_refusal(room: usize, at: usize, id: u32, len: usize) -> u8
 }
 
 // Writes the item where there is room.
+#[tactic(auto, using(crate::proofs::Laws::Append::item_in_turn))]
 fn put_item(buf: &mut [u8], at: usize, id: u32, payload: &[u8])
     requires { (at + 8 + length payload.now ≤ 65535) × (at + 8 + length payload.now ≤ length buf.old) }
     ensures { buf.new ≡ overlay buf.old at (item_bytes id payload.now) }
@@ -50,6 +52,7 @@ fn put_item(buf: &mut [u8], at: usize, id: u32, payload: &[u8])
 }
 
 // Puts the item with this id and payload at a place of the buffer. Only the item's bytes change.
+#[tactic(auto, using(crate::proofs::Laws::Append::accepted), unfolding(crate::specs::Writer::appended_of, crate::specs::Writer::written_of))]
 pub fn append(buf: &mut [u8], at: usize, id: u32, payload: &[u8]) -> Appended
     ensures { (result ≡ appended_of (length buf.old) at id (length payload.now))
         × (buf.new ≡ written_of buf.old at id payload.now) }

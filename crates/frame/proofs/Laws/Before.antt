@@ -1,6 +1,6 @@
 -- A block that the rules before #105 of document 02 do not refuse for an id is read as they read it. Assumes nothing.
 use Prim.Native.Nat.{ℕ, zero, suc}
-use mathlib.Core.{Path.{◌≡◌, refl, sym, ap, ◌∙◌}, List.{List, [], ◌∷◌}, Bool.{Bool, true, false, cond}}
+use mathlib.Core.{Path.{◌≡◌, refl, ap, ◌∙◌}, List.{List, []}, Bool.{Bool, true, false, cond}}
 use lib.{ListN.{length, drop}, Dec.{ltb, eqb}}
 use borrow.Author.Tests.{eqb-true}
 use Rattle.frame.specs.declared.{items.Head.{Head}, items.Head.TheVariants.{Bad, Whole}}

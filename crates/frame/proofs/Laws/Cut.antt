@@ -1,10 +1,10 @@
 -- A sound block with its unknown items cut out. Assumes nothing.
 use Prim.Native.Nat.{ℕ, zero, suc, ◌-◌, ◌≤◌}
-use mathlib.Core.{Path.{◌≡◌, refl, sym, ap, ap₂, ◌∙◌}, List.{List, [], ◌∷◌, ◌++◌}, Bool.{Bool, true, false, cond}}
+use mathlib.Core.{Path.{◌≡◌, refl, sym, ap, ap₂, ◌∙◌}, List.{List, [], ◌∷◌, ◌++◌}, Bool.{Bool, true, false}}
 use native.Mathlib.Omega.{arith}
 use lib.ListN.{length, take, drop, length-append, length-drop, take-append-drop}
 use lib.Seq.{length-take-le, take-append-le, drop-append-le, drop_at}
-use Rattle.frame.specs.{Ids.{is_known}, Items.{MetadataItem, BlockReading, sound, ◌before◌, first_item, items_from, item_in}}
+use Rattle.frame.specs.{Ids.{is_known}, Items.{MetadataItem, BlockReading, sound, ◌before◌, items_from, item_in}}
 use Rattle.wire.specs.Numbers.{le_at}
 use Rattle.frame.specs.Cut.{kept, cut_here, cut_in, without_unknown, known_of}
 use Rattle.frame.proofs.Laws.{Heads.{Sound, head_short, head_of}, Fuel.{nothing_left}, Bytes.{in-front}, Known.{AllKnown}}

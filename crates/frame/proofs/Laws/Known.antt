@@ -1,6 +1,6 @@
 -- The known ones of items, and where they stand. Assumes nothing.
 use Prim.Native.Nat.{ℕ, zero, suc, ◌+◌, ◌≤◌, ◌<◌}
-use mathlib.Core.{Path.{◌≡◌, refl, ap, ◌∙◌}, List.{List, [], ◌∷◌}, Bool.{Bool, true, false, not, cond}}
+use mathlib.Core.{Path.{◌≡◌, refl, ap}, List.{List, [], ◌∷◌}, Bool.{Bool, true, false, not, cond}}
 use native.Mathlib.Omega.{arith}
 use lib.ListN.{length, take, get_or}
 use borrow.Author.Tests.{not-false}
