@@ -42,6 +42,7 @@ pub fn fill(from: usize, to: usize) -> usize
     columns
 }
 
+#[tactic(auto, using(crate::proofs::Laws::Digits::decimal_counted, crate::proofs::Laws::Digits::decimal_most))]
 pub fn decimal(n: u64) -> usize
     ensures { (result ≡ decimal_columns n) × (result ≤ 20) }
 {
@@ -97,6 +98,7 @@ pub fn hex(n: u64, digits: usize, case: Case) -> usize
     text(&shown[..k])
 }
 
+#[tactic(auto, using(crate::proofs::Laws::Digits::byte_two))]
 fn pair(byte: u8, case: Case) -> usize
     ensures { result ≡ 2 }
 {
@@ -125,6 +127,7 @@ fn gap(i: usize, between: &[u8]) -> usize
 }
 
 // Each byte in two hex digits, with a text between two bytes.
+#[tactic(auto, unfolding(crate::specs::Printing::bytes_columns))]
 pub fn bytes(s: &[u8], between: &[u8], case: Case) -> usize
     ensures { result ≡ bytes_columns (length s.now) (length between.now) }
 {

@@ -89,6 +89,10 @@ hex_counted n digits k f = go (ltb (min (max digits 1) 16) k) refl
         )
     go false e = omega (arith, ltb-false (min (max digits 1) 16) k e, below 16 (lit< tt) n k f.1 (omega arith), some 16 (lit< tt) n)
 
+-- the digits that hold it in decimal
+pub decimal_counted : (n k : ℕ) → IsDigitCount 10 1 n k → digit_count 10 n ≡ k
+decimal_counted n k f = counted 10 (lit< tt) n k f
+
 -- a number of 64 bits has at most 20 digits in decimal and 16 in hex
 pub decimal_most : (n : ℕ) → n < 2 ^ 64 → digit_count 10 n ≤ 20
 decimal_most n h = below 10 (lit< tt) n 20 (omega arith) (lit< tt)
