@@ -14,6 +14,7 @@ pub struct Answer {
     pub len: usize,
 }
 
+#[tactic(auto, unfolding(crate::specs::Answers::packed))]
 pub(crate) fn pack(answer: &[u8]) -> Answer
     ensures { result ≡ packed answer.now }
 {
@@ -24,6 +25,7 @@ pub(crate) fn pack(answer: &[u8]) -> Answer
 }
 
 // LEN and INFO by themselves; every other request is answered by the control's bytes.
+#[tactic(auto, unfolding(crate::specs::Answers::answer_by))]
 pub fn answer_by(code: u8, len: usize, info: u8, value: &[u8]) -> Answer
     ensures { result ≡ packed (answer_by code len info value.now) }
 {

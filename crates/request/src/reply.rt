@@ -12,6 +12,7 @@ pub struct Sent {
 }
 
 // The first wLength bytes of the answer, or all of it, where the buffer has room; else test 9's 0x20.
+#[tactic(auto, using(crate::proofs::Laws::Reply::left, crate::proofs::Laws::Reply::laid), unfolding(crate::specs::Reply::sent_of))]
 pub fn send(answer: &[u8], wlength: usize, reply: &mut [u8]) -> Sent
     ensures value { result ≡ sent_of answer.now wlength (length reply.old) }
     ensures reply_after { reply.new ≡ reply_of answer.now wlength reply.old }

@@ -62,6 +62,7 @@ fn is_sized(len: usize, setup: &[u8], payload: &[u8]) -> bool
 }
 
 // The number of the first of tests 2 to 6 that fails, or 0.
+#[tactic(auto, unfolding(crate::specs::Tests::request_tests))]
 pub fn refusal(u: Unit, c: Control, setup: &[u8], payload: &[u8]) -> u8
     ensures { result ≡ first_of (request_tests (table_of u c) setup.now payload.now) }
 {

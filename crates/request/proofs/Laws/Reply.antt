@@ -1,5 +1,5 @@
 -- Laws of what a GET reports and leaves in the reply buffer. Assumes nothing.
-use mathlib.Core.{Path.{◌≡◌, ap, ◌∙◌}, List.{List, ◌++◌}}
+use mathlib.Core.{Path.{◌≡◌, ap, sym, ◌∙◌}, List.{List, ◌++◌}}
 use Prim.Native.Nat.{ℕ, ◌+◌, ◌≤◌, ◌<◌}
 use native.Mathlib.Omega.{arith}
 use lib.{ListN.{length, take, drop}, Seq.{length-take-le}}
@@ -23,3 +23,10 @@ module _ (a : List ℕ) (w : ℕ) (d : List ℕ) where
       let o : overlay d 0 (take (sent_length a w) a) ≡ take (sent_length a w) a ++ drop (sent_length a w) d =
       fits d 0 (take (sent_length a w) a) (omega arith) ∙ ap (λ (k : ℕ). take (sent_length a w) a ++ drop k d) m in
       (rw (le-leb (sent_length a w) (length d) h), rw (le-leb (sent_length a w) (length d) h) o)
+
+  -- the buffer by itself
+  pub left : length d < sent_length a w → reply_of a w d ≡ d
+  left h = sym (no_room_lem h).1
+
+  pub laid : sent_length a w ≤ length d → reply_of a w d ≡ overlay d 0 (take (sent_length a w) a)
+  laid h = sym (room h).1
