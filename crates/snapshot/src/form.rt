@@ -7,6 +7,7 @@ use crate::records::start_of;
 use wire::uvc;
 
 // Whether there is no form fault: going through the records in order passes all of it.
+#[tactic(auto, using(crate::proofs::Laws::Cursor::end))]
 pub fn well_formed(snapshot: &[u8]) -> bool
     ensures { result ≡ well_formed snapshot.now }
 {
@@ -14,6 +15,7 @@ pub fn well_formed(snapshot: &[u8]) -> bool
 }
 
 // The verdict on the form of any bytes: 0, or 0x22.
+#[tactic(auto, unfolding(crate::specs::Form::form_code))]
 pub fn check(snapshot: &[u8]) -> u8
     ensures { result ≡ form_code snapshot.now }
 {

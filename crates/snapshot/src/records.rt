@@ -16,11 +16,11 @@ fn zero_tail(r: &[u8]) -> bool
     (wire::le32(r, 12) == 0) & (wire::le32(r, 16) == 0) & (wire::le32(r, 20) == 0)
 }
 
-// The key of the sound record at `at`; KEYS where none stands there.
-pub fn key_at(s: &[u8], at: usize) -> usize
-    ensures { result ≡ key_at (drop at s.now) }
+// The key of the sound record at the start of r; KEYS where none stands there.
+#[tactic(auto, using(crate::proofs::Laws::Told::short_none, crate::proofs::Laws::Told::cut_none))]
+fn key_here(r: &[u8]) -> usize
+    ensures { result ≡ key_at r.now }
 {
-    let r = wire::tail(s, at);
     if r.len() < SHORTEST {
         return KEYS;
     }
@@ -39,6 +39,14 @@ pub fn key_at(s: &[u8], at: usize) -> usize
         return key;
     }
     KEYS
+}
+
+// The key of the sound record at `at`; KEYS where none stands there.
+#[tactic(auto, using(wire::proofs::Laws::Parts::rest))]
+pub fn key_at(s: &[u8], at: usize) -> usize
+    ensures { result ≡ key_at (drop at s.now) }
+{
+    key_here(wire::tail(s, at))
 }
 
 // Where the records of the keys below this one end. It goes from record to record while their keys ascend.

@@ -75,6 +75,11 @@ zero_words s =
 abbrev pub told : List ℕ → ℕ
 told s = key_by (stated_length s) (stated_kind s) (get_or s 4 0) (get_or s 5 0)
 
+-- as the code tells it, which reads these numbers
+pub told_by : (s : List ℕ) {len kind n address key : ℕ} → len ≡ stated_length s → kind ≡ stated_kind s → n ≡ get_or s 4 0
+    → address ≡ get_or s 5 0 → key ≡ key_by len kind n address → key ≡ told s
+told_by s e f g h i = i ∙ rw (e, f, g, h)
+
 abbrev stated : List ℕ → Bool
 stated s = all_of (record_tests (stated_length s) (stated_length s) (stated_kind s) (get_or s 4 0) (get_or s 5 0) true)
 
