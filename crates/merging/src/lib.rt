@@ -62,6 +62,7 @@ fn write_merged(first: &[u8], second: &[u8], out: &mut [u8]) -> usize
 }
 
 // Whether so much room is enough for the merged snapshot.
+#[tactic(auto, using(crate::proofs::Laws::Merging::merged_length))]
 fn has_room(first: &[u8], second: &[u8], room: usize) -> bool
     requires { (well_formed first.now ≡ true) × (well_formed second.now ≡ true) }
     ensures { result ≡ leb (length (merged first.now second.now)) room }
@@ -75,6 +76,7 @@ fn has_room(first: &[u8], second: &[u8], room: usize) -> bool
 }
 
 // Merges two snapshots into the start of out: a form fault of either is 0x22, then room short of the merged snapshot 0x20.
+#[tactic(auto, using(wire::proofs::Laws::Writes::fits_start), unfolding(crate::specs::Merging::merge_code, crate::specs::Merging::merge_len, crate::specs::Merging::merge_out))]
 pub fn merge(first: &[u8], second: &[u8], out: &mut [u8]) -> Merged
     ensures code_value { result.code ≡ merge_code first.now second.now out.old }
     ensures len_value { result.len ≡ merge_len first.now second.now out.old }
