@@ -12,6 +12,7 @@ use profile::Profile;
 use throttle::ThrottleLimits;
 use wire::endpoints;
 
+#[tactic(auto, unfolding(demands::specs::Bench::bench_profile))]
 fn profile() -> Profile
     ensures { result ≡ bench_profile }
 {
