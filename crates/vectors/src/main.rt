@@ -15,6 +15,8 @@ mod sets;
 mod snapshots;
 mod words;
 
+ghost use Rattle.std.specs.Prelude.{◌≡◌, length};
+
 use camera::Camera;
 use peripheral::Peripheral;
 use wire::Part;
@@ -53,8 +55,15 @@ fn rows(s: &[u8]) {
     }
 }
 
+// As many zeros. The length is promised for any number of them, so that no proof counts half a million.
+fn zeros<const N: usize>() -> [u8; N]
+    ensures { N ≡ length result }
+{
+    [0; N]
+}
+
 fn main() {
-    let mut input = [0u8; 524288];
+    let mut input = zeros::<524288>();
     let n = io::read_full(0, &mut input);
     rows(wire::head(&input, n));
 }
