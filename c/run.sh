@@ -4,7 +4,7 @@
 cd "$(dirname "$0")/.." || exit 2
 out=target/c
 mkdir -p "$out" || exit 2
-if rt staticlib descriptors >"$out/staticlib.out" 2>&1 &&
+if c/archive.sh >"$out/staticlib.out" 2>&1 &&
     ${CC:-cc} -std=c11 -O2 -Wall -Wextra -Werror -Iinclude c/check_arrays.c target/staticlib/libdescriptors.a -o "$out/check_arrays" &&
     "$out/check_arrays"; then
     echo pass

@@ -1,5 +1,5 @@
 /* The check of a Microsoft OS 2.0 descriptor set, for the boot code.
-   Link target/staticlib/libdescriptors.a, which `rt staticlib descriptors` proves and writes. */
+   Link target/staticlib/libdescriptors.a, which c/archive.sh proves and writes. */
 #ifndef FLANDURVI_DESCRIPTORS_H
 #define FLANDURVI_DESCRIPTORS_H
 
