@@ -53,6 +53,7 @@ pub enum HeldSetting {
 }
 
 // What an item comes to by the number that its tests give.
+#[tactic(auto, using(crate::proofs::Laws::Controls::item_given, crate::proofs::Laws::Controls::item_refused))]
 pub fn item_of(code: u8, s: Setting) -> Item
     ensures { result ≡ item_of code s }
 {
@@ -63,6 +64,7 @@ pub fn item_of(code: u8, s: Setting) -> Item
 }
 
 // The number of an item, 0 where it is taken.
+#[tactic(auto, unfolding(crate::specs::Controls::item_code))]
 pub fn item_code(item: Item) -> u8
     ensures { result ≡ item_code item }
 {
@@ -73,6 +75,7 @@ pub fn item_code(item: Item) -> u8
 }
 
 // The number held, or n while there is none.
+#[tactic(auto, unfolding(crate::specs::Controls::number_or))]
 pub fn number_or(n: u32, held: HeldNumber) -> u32
     ensures { result ≡ number_or n held }
 {
