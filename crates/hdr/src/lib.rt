@@ -17,6 +17,7 @@ pub struct HdrLimits {
 }
 
 // SET's value tests, and those of a setting held.
+#[tactic(auto, unfolding(crate::specs::Hdr::hdr_refusal))]
 pub fn refusal(l: HdrLimits, n: u32) -> u8
     ensures { result ≡ hdr_refusal l n }
 {
@@ -33,6 +34,7 @@ pub fn refusal(l: HdrLimits, n: u32) -> u8
 }
 
 // What a SET's payload comes to.
+#[tactic(auto, unfolding(crate::specs::Hdr::hdr_item))]
 pub fn item(l: HdrLimits, payload: &[u8]) -> Item
     ensures { result ≡ hdr_item l payload.now }
 {
@@ -41,6 +43,7 @@ pub fn item(l: HdrLimits, payload: &[u8]) -> Item
 }
 
 // The number that a GET asks for.
+#[tactic(auto, unfolding(crate::specs::Hdr::hdr_attribute))]
 fn attribute(l: HdrLimits, held: HeldNumber, code: u8) -> u32
     ensures { result ≡ hdr_attribute l held code }
 {
@@ -56,6 +59,7 @@ fn attribute(l: HdrLimits, held: HeldNumber, code: u8) -> u32
     0
 }
 
+#[tactic(auto, unfolding(crate::specs::Hdr::hdr_answer))]
 pub fn answer(l: HdrLimits, held: HeldNumber, code: u8) -> Answer
     ensures { result ≡ packed (hdr_answer l held code) }
 {
