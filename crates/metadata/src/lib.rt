@@ -24,6 +24,7 @@ pub fn valid(l: MetadataLimits) -> bool
 }
 
 // SET's value tests, and those of a setting held.
+#[tactic(auto, unfolding(crate::specs::Metadata::metadata_refusal))]
 pub fn refusal(l: MetadataLimits, n: u32) -> u8
     ensures { result ≡ metadata_refusal l n }
 {
@@ -40,6 +41,7 @@ pub fn refusal(l: MetadataLimits, n: u32) -> u8
 }
 
 // What a SET's payload comes to.
+#[tactic(auto, unfolding(crate::specs::Metadata::metadata_item))]
 pub fn item(l: MetadataLimits, payload: &[u8]) -> Item
     ensures { result ≡ metadata_item l payload.now }
 {
@@ -48,6 +50,7 @@ pub fn item(l: MetadataLimits, payload: &[u8]) -> Item
 }
 
 // The number that a GET asks for.
+#[tactic(auto, unfolding(crate::specs::Metadata::metadata_attribute))]
 fn attribute(l: MetadataLimits, held: HeldNumber, code: u8) -> u32
     ensures { result ≡ metadata_attribute l held code }
 {
@@ -67,12 +70,14 @@ fn attribute(l: MetadataLimits, held: HeldNumber, code: u8) -> u32
 }
 
 // The information byte: read-only metadata can be asked for and not set.
+#[tactic(auto, unfolding(crate::specs::Metadata::metadata_info))]
 fn info(l: MetadataLimits) -> u8
     ensures { result ≡ metadata_info l }
 {
     if l.writable { 0x03 } else { 0x01 }
 }
 
+#[tactic(auto, unfolding(crate::specs::Metadata::metadata_answer))]
 pub fn answer(l: MetadataLimits, held: HeldNumber, code: u8) -> Answer
     ensures { result ≡ packed (metadata_answer l held code) }
 {
