@@ -46,6 +46,7 @@ pub fn valid(l: ThrottleLimits) -> bool
 }
 
 // SET's value tests, and those of a setting held.
+#[tactic(auto, unfolding(crate::specs::Throttle::throttle_refusal))]
 pub fn refusal(l: ThrottleLimits, mode: u32, percent: u32) -> u8
     ensures { result ≡ throttle_refusal l mode percent }
 {
@@ -65,6 +66,7 @@ pub fn refusal(l: ThrottleLimits, mode: u32, percent: u32) -> u8
 }
 
 // What a SET's payload comes to.
+#[tactic(auto, unfolding(crate::specs::Throttle::throttle_item))]
 pub fn item(l: ThrottleLimits, payload: &[u8]) -> Item
     ensures { result ≡ throttle_item l payload.now }
 {
@@ -77,6 +79,7 @@ pub fn item(l: ThrottleLimits, payload: &[u8]) -> Item
 }
 
 // The mode and the percent that a GET asks for.
+#[tactic(auto, unfolding(crate::specs::Throttle::throttle_attribute, crate::specs::Throttle::throttle_current))]
 fn attribute(l: ThrottleLimits, held: HeldThrottle, code: u8) -> ThrottleSetting
     ensures { result ≡ throttle_attribute l held code }
 {
@@ -114,6 +117,7 @@ fn attribute(l: ThrottleLimits, held: HeldThrottle, code: u8) -> ThrottleSetting
 }
 
 // A setting with three numbers behind it: the limits in an answer, zeros in a snapshot.
+#[tactic(auto, using(crate::proofs::Laws::Throttle::throttle_written))]
 fn bytes(s: ThrottleSetting, tail: ThrottleLimits) -> [u8; 20]
     ensures { result ≡ throttle_bytes s tail }
 {
@@ -126,6 +130,7 @@ fn bytes(s: ThrottleSetting, tail: ThrottleLimits) -> [u8; 20]
     b
 }
 
+#[tactic(auto, unfolding(crate::specs::Throttle::throttle_answer))]
 pub fn answer(l: ThrottleLimits, held: HeldThrottle, code: u8) -> Answer
     ensures { result ≡ packed (throttle_answer l held code) }
 {

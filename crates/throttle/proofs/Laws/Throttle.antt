@@ -1,9 +1,9 @@
 -- Throttle: a payload reads back as its mode and percent, and what is accepted lies within the limits. Assumes nothing.
-use mathlib.Core.{Path.{◌≡◌, refl}, List.{[], ◌∷◌}, Bool.{Bool, true, false, true≢false, ◌||◌}}
+use mathlib.Core.{Path.{◌≡◌, refl}, List.{List, [], ◌∷◌}, Bool.{Bool, true, false, true≢false, ◌||◌}}
 use Prim.Native.Nat.{ℕ, ◌^◌, ◌<◌, ◌≤◌}
-use lib.{Dec.{ltb}, ListN.{length}}
+use lib.{Dec.{ltb}, ListN.{length, replicate}}
 use borrow.Author.Tests.{ltb-false}
-use Rattle.wire.specs.{Numbers.{le_at, bytes_of}, Rows.{◌⇒◌}, Uvc.{invalid_value, out_of_range}}
+use Rattle.wire.specs.{Numbers.{le_at, bytes_of}, Rows.{◌⇒◌}, Uvc.{invalid_value, out_of_range}, Writes.{overlay}}
 use Rattle.wire.proofs.Laws.{Rows.{quiet}, Bytes.{number_bytes}}
 use Rattle.controls.specs.{declared.ThrottleSetting.{ThrottleSetting}, Controls.{item_of}}
 use Rattle.controls.specs.declared.Setting.TheVariants as S
@@ -27,6 +27,15 @@ module _ (s : ThrottleSetting) (tail : ThrottleLimits) where
       → throttle_item l (throttle_bytes s tail) ≡ item_of (throttle_refusal l s.mode s.percent) (S.Throttle s)
   unfolding throttle_item
   throttle_read l m p = rw (throttle_mode m, throttle_percent p)
+
+-- five numbers, each written at its place in 20 bytes
+pub throttle_written : (s : ThrottleSetting) (tail : ThrottleLimits)
+    → let z : List ℕ = replicate 20 0 in
+    let b = overlay z 0 (bytes_of 4 s.mode) in
+    let c = overlay (overlay b 4 (bytes_of 4 s.percent)) 8 (bytes_of 4 tail.minimum) in
+    overlay (overlay c 12 (bytes_of 4 tail.maximum)) 16 (bytes_of 4 tail.step) ≡ throttle_bytes s tail
+unfolding throttle_bytes overlay bytes_of
+throttle_written s tail = refl
 
 neither : (a b : Bool) → (a || b) ≡ false → (a ≡ false) × (b ≡ false)
 neither true b h = absurd (true≢false h)
