@@ -56,6 +56,7 @@ fn divisor(place: u8) -> u8
 }
 
 // Whether the value lies between the limits, in steps of which d make a stop.
+#[tactic(auto, using(crate::proofs::Laws::Exposure::range_is, crate::proofs::Laws::Bounds::limit_fits))]
 fn in_range(l: EvLimits, d: u8, value: i32) -> bool
     ensures { result ≡ in_range l d value }
 {
@@ -64,6 +65,7 @@ fn in_range(l: EvLimits, d: u8, value: i32) -> bool
 }
 
 // SET's value tests on the flags and the value, and those of a setting held: document 01's number, or 0.
+#[tactic(auto, unfolding(crate::specs::Exposure::ev_refusal, crate::specs::Exposure::refusal_at))]
 pub fn refusal(l: EvLimits, flags: u64, value: i32) -> u8
     ensures { result ≡ ev_refusal l flags value }
 {
@@ -80,6 +82,7 @@ pub fn refusal(l: EvLimits, flags: u64, value: i32) -> u8
 }
 
 // What a SET's payload comes to.
+#[tactic(auto, using(crate::proofs::Laws::Exposure::ev_item_refused, crate::proofs::Laws::Exposure::ev_item_given))]
 pub fn item(l: EvLimits, payload: &[u8]) -> Item
     ensures { result ≡ ev_item l payload.now }
 {
@@ -96,6 +99,7 @@ pub fn item(l: EvLimits, payload: &[u8]) -> Item
 }
 
 // The payload of a setting.
+#[tactic(auto, using(crate::proofs::Laws::Exposure::ev_bytes_are))]
 pub fn bytes(s: EvSetting) -> [u8; 11]
     ensures { result ≡ ev_bytes s }
 {
@@ -104,6 +108,7 @@ pub fn bytes(s: EvSetting) -> [u8; 11]
 }
 
 // The flags and the value that a GET asks for.
+#[tactic(auto, unfolding(crate::specs::Exposure::ev_attribute, crate::specs::Exposure::ev_current))]
 fn attribute(l: EvLimits, held: HeldEv, code: u8) -> EvSetting
     ensures { result ≡ ev_attribute l held code }
 {
@@ -140,6 +145,7 @@ fn attribute(l: EvLimits, held: HeldEv, code: u8) -> EvSetting
     }
 }
 
+#[tactic(auto, unfolding(crate::specs::Exposure::ev_answer))]
 pub fn answer(l: EvLimits, held: HeldEv, code: u8) -> Answer
     ensures { result ≡ packed (ev_answer l held code) }
 {
@@ -148,6 +154,7 @@ pub fn answer(l: EvLimits, held: HeldEv, code: u8) -> Answer
 }
 
 // A setting in the sensor's units, exactly.
+#[tactic(auto, unfolding(crate::specs::Exposure::scaled, crate::specs::Exposure::scaled_at))]
 fn scaled(l: EvLimits, s: EvSetting) -> i32
     ensures { result ≡ scaled l s }
 {
@@ -169,6 +176,7 @@ fn scaled(l: EvLimits, s: EvSetting) -> i32
 }
 
 // What the sensor is handed, in its units: 0 where no setting that SET accepts is held.
+#[tactic(auto, unfolding(crate::specs::Exposure::sensor_value))]
 pub fn sensor_value(l: EvLimits, held: HeldEv) -> i32
     ensures { result ≡ sensor_value l held }
 {

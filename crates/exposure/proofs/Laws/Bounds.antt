@@ -1,10 +1,11 @@
--- Signed numbers between bounds, and products that fit. Assumes nothing.
-use mathlib.Core.{Path.{◌≡◌}, Bool.{true, false≢true}}
+-- Signed numbers between bounds, products that fit, and numbers in a wider type or a register. Assumes nothing.
+use mathlib.Core.{Path.{◌≡◌, ap₂, ◌∙◌}, Bool.{true, false≢true}}
 use Prim.Native.Nat.{ℕ, zero, suc, ◌*◌, ◌/◌, ◌^◌, ◌≤◌, ◌<◌, zero-le}
 use native.Mathlib.{Nat.{le_trans, le-suc, le_of_lt, div-le_self, lt_of_le_of_lt, mul-le-mul}, Omega.{arith}}
-use lib.{IntN.{ℤ, pos, negsuc, neg_ℤ, ◌*ℤ◌}, Signed.{mag, le_z, quot_z}}
-use mir.Syntax.{Width}
-use mir.Val.{SFits, hbits}
+use lib.{Dec.{lit<}, IntN.{ℤ, pos, negsuc, neg_ℤ, ◌*ℤ◌}, Signed.{mag, le_z, quot_z}}
+use mir.Syntax.{Width, w8, w32, w64}
+use mir.Val.{Fits, SFits, hbits, to_z, of_z}
+use mir.Facts.{to_z-of_z, to_z_pos, sfits_widen}
 use borrow.Author.Tests.{leb-true}
 
 -- a product is no larger than the product of the bounds, a quotient no larger than what is divided
@@ -32,3 +33,39 @@ between m a (pos n) (pos k) p q f g = omega (arith, leb-true n k q)
 between m a (pos n) (negsuc k) p q f g = absurd (false≢true q)
 between m (pos k) (negsuc n) b p q f g = absurd (false≢true p)
 between m (negsuc k) (negsuc n) b p q f g = omega (arith, leb-true n k p)
+
+-- a number in the wider type
+module _ (z : ℤ) (f : SFits w32 z) where
+  wide_fits : SFits w64 z
+  wide_fits = sfits_widen {w = w32} {w' = w64} tt f
+
+  widened_fits : SFits w64 (to_z w32 (of_z w32 z))
+  widened_fits = rw (to_z-of_z f) wide_fits
+
+  pub widened_is : to_z w64 (of_z w64 (to_z w32 (of_z w32 z))) ≡ z
+  widened_is = to_z-of_z widened_fits ∙ to_z-of_z f
+
+  -- and, a limit, times d
+  module _ (d : ℕ) (g : Fits w8 d) where
+    times_d : to_z w64 (of_z w64 (to_z w32 (of_z w32 z))) *ℤ to_z w64 d ≡ z *ℤ pos d
+    times_d = ap₂ ◌*ℤ◌ widened_is (to_z_pos w64 (omega arith))
+
+    pub limit_fits : SFits w64 (to_z w64 (of_z w64 (to_z w32 (of_z w32 z))) *ℤ to_z w64 d)
+    limit_fits = rw times_d (product_fits w64 z (pos d) (2 ^ 31) 256 f.sfits (omega arith) (lit< tt))
+
+    pub limit_is : to_z w64 (of_z w64 (to_z w64 (of_z w64 (to_z w32 (of_z w32 z))) *ℤ to_z w64 d)) ≡ z *ℤ pos d
+    limit_is = to_z-of_z limit_fits ∙ times_d
+
+-- a number below 1024 in a register, its quotient by d, and the product of two such
+module _ (z : ℤ) (h : mag z < 1024) where
+  pub small_fits : SFits w32 z
+  small_fits = record { sfits = omega arith }
+
+  pub small_held : mag (to_z w32 (of_z w32 z)) < 1024
+  small_held = rw (to_z-of_z small_fits) h
+
+  pub quotient_small : (d : ℕ) → d < 7 → mag (quot_z z (to_z w32 d)) < 1024
+  quotient_small d g = rw (to_z_pos w32 {n = d} (omega arith)) (lt_of_le_of_lt (mag_quot z d) h)
+
+pub small_product : (x y : ℤ) → mag x < 1024 → mag y < 1024 → SFits w32 (x *ℤ y)
+small_product x y h g = product_fits w32 x y 1024 1024 h g (lit< tt)
