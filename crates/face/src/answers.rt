@@ -15,6 +15,7 @@ fn entry_of(address: u8, flags: u8) -> [u8; 8]
     [address, flags, 0, 0, 0, 0, 0, 0]
 }
 
+#[tactic(auto, unfolding(crate::specs::Answers::default_of))]
 fn default_of(offers: u8) -> u8
     ensures { result ≡ default_of offers }
 {
@@ -36,6 +37,7 @@ fn held_at(held: [u8; endpoints::PLACES], address: u8) -> u8
 }
 
 // The flags of place i in an answer that lists every endpoint.
+#[tactic(auto, unfolding(crate::specs::Answers::flags_at))]
 fn flags_at(l: FaceLimits, held: [u8; endpoints::PLACES], code: u8, i: usize) -> u8
     requires { i < endpoint_limit }
     ensures { result ≡ flags_at l held code i }

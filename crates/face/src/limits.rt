@@ -23,6 +23,7 @@ pub fn endpoints_of(l: FaceLimits) -> usize
 }
 
 // The address that place i's has to be above.
+#[tactic(auto, using(crate::proofs::Laws::Limits::before_next), unfolding(crate::specs::Limits::address_before))]
 fn address_before(l: FaceLimits, i: usize) -> u8
     requires { i < endpoint_limit }
     ensures { result ≡ address_before l i }
@@ -34,6 +35,7 @@ fn address_before(l: FaceLimits, i: usize) -> u8
     l.addresses[j]
 }
 
+#[tactic(auto, unfolding(crate::specs::Limits::endpoint_valid))]
 fn endpoint_valid(l: FaceLimits, i: usize) -> bool
     requires { i < endpoint_limit }
     ensures { result ≡ endpoint_valid l i }
@@ -49,6 +51,7 @@ fn endpoint_valid(l: FaceLimits, i: usize) -> bool
     }
 }
 
+#[tactic(auto, unfolding(wire::specs::Rows::all_below, crate::specs::Limits::face_valid_under))]
 pub fn valid(l: FaceLimits) -> bool
     ensures { result ≡ face_valid l }
 {
@@ -62,6 +65,7 @@ pub fn valid(l: FaceLimits) -> bool
 }
 
 // The first place that lists an address, or LIMIT.
+#[tactic(auto, using(crate::proofs::Laws::Limits::look_up), unfolding(crate::specs::Limits::place_of, crate::specs::Limits::place_from))]
 pub fn place_of(l: FaceLimits, address: u8) -> usize
     ensures { result ≡ place_of l address }
 {
@@ -77,6 +81,7 @@ pub fn place_of(l: FaceLimits, address: u8) -> usize
 }
 
 // The flags that the endpoint at an address offers; 0 where it isn't listed.
+#[tactic(auto, using(crate::proofs::Laws::Limits::offers_none, crate::proofs::Laws::Limits::offers_placed))]
 pub fn offers_of(l: FaceLimits, address: u8) -> u8
     ensures { result ≡ offers_of l address }
 {

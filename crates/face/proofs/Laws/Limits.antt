@@ -125,6 +125,9 @@ module _ (l : FaceLimits) (address n i : ℕ) (h : i < n) where
   unfolding place_from
   place_next p = rw (left, ne_eqb (address_at l i) address p, add-one i)
 
+-- one step of the look-up, either way
+pub ruleset look_up = (place_here, place_next)
+
 -- what stands at its place
 module _ (l : FaceLimits) (address : ℕ) where
   abbrev at_place : ℕ → ℕ
