@@ -15,6 +15,7 @@ use flags::Choice;
 use wire::{endpoints, uvc};
 
 // The length that a SET of this payload must have; 0 where no length will do.
+#[tactic(auto, using(crate::proofs::Laws::Payload::set_length_empty, crate::proofs::Laws::Payload::set_length_first))]
 pub fn set_length(l: FaceLimits, payload: &[u8]) -> usize
     ensures { result ≡ face_set_length l payload.now }
 {
@@ -29,6 +30,7 @@ pub fn set_length(l: FaceLimits, payload: &[u8]) -> usize
 }
 
 // The tests of an entry: what its endpoint offers, whether an entry before it named that, and its flags, which fit a byte if taken.
+#[tactic(auto, using(crate::proofs::Laws::Payload::chosen_byte), unfolding(crate::specs::Entries::is_choice))]
 fn entry_tests(offers: u8, seen: bool, flags: u64) -> u8
     ensures { (result ≡ entry_tests offers seen flags) × (result ≡ 0 → flags < 2 ^ 56 → flags < 256) }
 {
@@ -45,6 +47,7 @@ fn entry_tests(offers: u8, seen: bool, flags: u64) -> u8
 }
 
 // What the one entry of a snapshot's record comes to.
+#[tactic(auto, using(crate::proofs::Laws::Entries::first_refused, crate::proofs::Laws::Entries::first_given))]
 pub fn item(l: FaceLimits, payload: &[u8]) -> Item
     ensures { result ≡ face_item l payload.now 0 }
 {
@@ -61,6 +64,7 @@ pub fn item(l: FaceLimits, payload: &[u8]) -> Item
 }
 
 // An address outside 0x81..0x8F has no place.
+#[tactic(auto, using(crate::proofs::Laws::Held::put_outside), unfolding(crate::specs::Entries::put_face))]
 fn lay(held: &mut [u8], address: u8, flags: u8)
     ensures { held.new ≡ put_face held.old address flags }
 {
@@ -121,6 +125,7 @@ pub fn take(l: FaceLimits, held: [u8; endpoints::PLACES], payload: &[u8]) -> Fac
 }
 
 // What each address offers, by its place; nothing where the control is absent. Of places that list one address the first wins.
+#[tactic(auto, using(crate::proofs::Laws::Held::table_next), unfolding(face::specs::Limits::offers_from, face::specs::Limits::offers_of))]
 fn offers_by_place(l: FaceLimits, present: bool) -> [u8; endpoints::PLACES]
     ensures { (i : ℕ) → i < places → get_or result i 0 ≡ cond present (offers_of l (first_address + i)) 0 }
 {
@@ -146,6 +151,7 @@ fn flags_kept(offers: u8, flags: u8) -> bool
 }
 
 // Whether every setting held keeps its rules.
+#[tactic(auto, using(crate::proofs::Laws::Held::kept_place), unfolding(wire::specs::Rows::all_below, crate::specs::Entries::faces_kept))]
 pub fn kept(l: FaceLimits, present: bool, held: [u8; endpoints::PLACES]) -> bool
     ensures { result ≡ faces_kept present l held }
 {

@@ -2,7 +2,7 @@
 use mathlib.Core.{Path.{◌≡◌, refl, ap, ◌∙◌}, List.{List}, Bool.{Bool, true, false, cond}}
 use Prim.Native.Nat.{ℕ, suc, ◌+◌, ◌-◌, ◌≤◌, ◌<◌}
 use native.Mathlib.Omega.{arith}
-use lib.{Dec.{leb, eqb}, ListN.{length, get_or, set, length-set}, Seq.{get_or-set_same, get_or-set_other}}
+use lib.{Dec.{leb, eqb}, ListN.{length, get_or, set, length-set}, Seq.{set_out, get_or-set_same, get_or-set_other}}
 use borrow.Author.Tests.{eqb-true, eqb-false, le-leb, leb-true}
 use Rattle.wire.specs.Endpoints.{first_address}
 use Rattle.face.specs.{declared.limits.FaceLimits.{FaceLimits}, Limits.{address_at, offers_at, offers_from, offers_of}}
@@ -15,6 +15,15 @@ length-put held address flags = go (leb first_address address)
   where
     go : (b : Bool) → length (cond b (set held (address - first_address) flags) held) ≡ length held
     go true = simp length-set
+    go false = refl
+
+-- an address past the last place changes nothing
+pub put_outside : (held : List ℕ) (address flags : ℕ) → length held ≤ address - first_address → put_face held address flags ≡ held
+unfolding put_face
+put_outside held address flags h = go (leb first_address address)
+  where
+    go : (b : Bool) → cond b (set held (address - first_address) flags) held ≡ held
+    go true = set_out held (address - first_address) flags h
     go false = refl
 
 -- at another address nothing changes

@@ -6,7 +6,8 @@ use lib.{Dec.{leb, eqb}, ListN.{length, get_or}}
 use borrow.Author.Tests.{eqb-false, le-leb, leb-true}
 use Rattle.wire.specs.{Numbers.{le_at, bytes_of}, Rows.{◌⇒◌, first_of}, Uvc.{invalid_value, out_of_range}}
 use Rattle.wire.proofs.Laws.Bytes.{number_bytes}
-use Rattle.flags.specs.Flags.{one_flag}
+use Rattle.flags.specs.{declared.Choice.TheVariants.{At}, Flags.{one_flag}}
+use Rattle.flags.proofs.Laws.Bits.{chosen_below}
 use Rattle.controls.specs.{declared.Item.TheVariants.{Given}, Controls.{item_of}}
 use Rattle.controls.specs.declared.Setting.TheVariants as S
 use Rattle.controls.proofs.Laws.Controls.{given_is}
@@ -14,6 +15,10 @@ use Rattle.face.specs.{declared.limits.FaceLimits.{FaceLimits}, Limits.{endpoint
 use Rattle.face.proofs.Laws.Limits.{count_placed}
 use Rattle.entries.specs.Entries.{face_set_length, entry_address, entry_flags, seen_in, seen_before, is_choice, face_refusal, entry_refusal}
 use Rattle.entries.specs.Entries.{face_item}
+
+-- the one flag that a byte of offers offers fits a byte
+pub chosen_byte : (offers flags place : ℕ) → one_flag offers flags ≡ At place → offers < 256 → flags < 2 ^ 56 → flags < 256
+chosen_byte offers flags place e = chosen_below offers flags place e 8
 
 -- the length that a payload must have, by its first byte
 pub set_length_empty : (l : FaceLimits) (s : List ℕ) → length s ≡ 0 → face_set_length l s ≡ 1
