@@ -62,6 +62,7 @@ fn bit_at(bits: u32, selector: u8, worth: u32) -> u32
 }
 
 // Only the five controls have bits: the number is the sum of theirs.
+#[tactic(auto, unfolding(crate::specs::Profile::presence_valid))]
 fn presence_valid(bits: u32) -> bool
     ensures { result ≡ presence_valid bits }
 {
@@ -90,6 +91,7 @@ fn set_length(p: Profile, selector: u8, payload: &[u8]) -> usize
 
 impl Profile {
     // Whether the profile keeps its rules. Limits of controls that it does not have are not looked at.
+    #[tactic(auto, using(crate::proofs::Laws::Profile::all_five), unfolding(crate::specs::Profile::profile_valid_under))]
     pub fn valid(self) -> bool
         ensures { result ≡ profile_valid self }
     {
@@ -101,6 +103,7 @@ impl Profile {
     }
 
     // What a request's tests 2 to 6 go by.
+    #[tactic(auto, unfolding(crate::specs::Profile::extension_unit))]
     pub fn extension_unit(self) -> Unit
         ensures { result ≡ extension_unit self }
     {
@@ -111,6 +114,7 @@ impl Profile {
         }
     }
 
+    #[tactic(auto, unfolding(crate::specs::Profile::profile_control))]
     pub fn control(self, selector: u8, payload: &[u8]) -> Control
         ensures { result ≡ profile_control self selector payload.now }
     {
@@ -140,6 +144,7 @@ impl Profile {
     }
 
     // The number of a SET that is refused whatever its payload: the control is absent, or read only; else 0.
+    #[tactic(auto, unfolding(crate::specs::Profile::profile_refusal))]
     pub fn refusal(self, selector: u8) -> u8
         ensures { result ≡ profile_refusal self selector }
     {
@@ -153,6 +158,7 @@ impl Profile {
     }
 
     // The first item of a SET's payload, and the only one but of face authentication.
+    #[tactic(auto, unfolding(crate::specs::Items::profile_item))]
     pub fn item(self, selector: u8, payload: &[u8]) -> Item
         ensures { result ≡ profile_item self selector payload.now 0 }
     {
