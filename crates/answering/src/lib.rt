@@ -12,6 +12,7 @@ use request::Answer;
 use settings::Settings;
 use wire::{selectors, uvc};
 
+#[tactic(auto, using(crate::proofs::Laws::Answering::by_control))]
 pub fn answer(p: Profile, s: Settings, selector: u8, code: u8) -> Answer
     ensures { result ≡ packed (control_answer p s selector code) }
 {
@@ -36,6 +37,7 @@ pub fn answer(p: Profile, s: Settings, selector: u8, code: u8) -> Answer
 }
 
 // How long it is, whatever the settings: only face authentication's goes by the code.
+#[tactic(auto, using(crate::proofs::Laws::Answering::length_by_lem))]
 pub fn answer_length(p: Profile, selector: u8, code: u8) -> usize
     ensures { result ≡ answer_length p selector code }
 {

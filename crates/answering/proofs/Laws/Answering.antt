@@ -1,4 +1,4 @@
--- How long an answer is: that goes by the profile alone, and fits the place that the code has for it. Assumes nothing.
+-- How long an answer is: that goes by the profile alone, and fits the place that the code has for it. And whose it is. Assumes nothing.
 use mathlib.Core.{Path.{◌≡◌, refl, sym, ◌∙◌}, List.{[], ◌∷◌}, Bool.{Bool, true, false, cond, ◌&&◌, ◌||◌}}
 use Prim.Native.Nat.{ℕ, ◌+◌, ◌*◌, ◌≤◌}
 use native.Mathlib.Omega.{arith}
@@ -7,12 +7,12 @@ use borrow.Author.Tests.{eqb-true}
 use Rattle.wire.specs.{Endpoints.{endpoint_limit}, Numbers.{bytes_of}, Selectors.{ev, face, metadata, hdr}}
 use Rattle.wire.specs.Uvc.{get_info, get_len, get_min, get_res}
 use Rattle.request.specs.Answers.{answer_by, longest_answer}
-use Rattle.exposure.specs.Exposure.{ev_attribute, ev_bytes}
-use Rattle.face.specs.{Limits.{endpoints_of}, Answers.{face_value}}
+use Rattle.exposure.specs.Exposure.{ev_attribute, ev_bytes, ev_answer}
+use Rattle.face.specs.{Limits.{endpoints_of}, Answers.{face_value, face_answer}}
 use Rattle.face.proofs.Laws.Answers as faces
-use Rattle.metadata.specs.Metadata.{metadata_attribute}
-use Rattle.hdr.specs.Hdr.{hdr_attribute}
-use Rattle.throttle.specs.Throttle.{throttle_attribute, throttle_bytes}
+use Rattle.metadata.specs.Metadata.{metadata_attribute, metadata_info, metadata_answer}
+use Rattle.hdr.specs.Hdr.{hdr_attribute, hdr_answer}
+use Rattle.throttle.specs.Throttle.{throttle_attribute, throttle_bytes, throttle_answer}
 use Rattle.throttle.proofs.Laws.Throttle.{throttle_length}
 use Rattle.profile.specs.{declared.Profile.{Profile}, Profile.{payload_length}}
 use Rattle.settings.specs.{declared.settings.Settings.{Settings}, Settings.{no_settings}}
@@ -83,3 +83,34 @@ module _ (p : Profile) (s : Settings) (selector code : ℕ) where
 pub length_fixed : (p : Profile) (s : Settings) (selector code : ℕ)
     → length (control_answer p s selector code) ≡ answer_length p selector code
 length_fixed p s selector code = length_by_lem p s selector code ∙ sym (length_by_lem p no_settings selector code)
+
+-- the full answer, control by control
+pub by_control : (p : Profile) (s : Settings) (selector code : ℕ)
+    → control_answer p s selector code
+    ≡ cond (eqb selector ev) (ev_answer p.ev s.ev code)
+    (cond (eqb selector face) (face_answer p.face s.face code)
+    (cond (eqb selector metadata) (metadata_answer p.metadata s.metadata code)
+    (cond (eqb selector hdr) (hdr_answer p.hdr s.hdr code)
+    (throttle_answer p.throttle s.throttle code))))
+unfolding control_answer value_of ev_answer face_answer metadata_answer hdr_answer throttle_answer
+by_control p s selector code = go (eqb selector ev) (eqb selector face) (eqb selector metadata) (eqb selector hdr) refl refl
+  where
+    go : (a b d e : Bool) → eqb selector face ≡ b → eqb selector metadata ≡ d
+        → answer_by code (cond a 11 (cond b (1 + 8 * endpoints_of p.face) (cond d 4 (cond e 4 20))))
+        (cond a 0x13 (cond d (metadata_info p.metadata) 0x03))
+        (cond a (ev_bytes (ev_attribute p.ev s.ev code))
+        (cond b (face_value p.face s.face code)
+        (cond d (bytes_of 4 (metadata_attribute p.metadata s.metadata code))
+        (cond e (bytes_of 4 (hdr_attribute p.hdr s.hdr code))
+        (throttle_bytes (throttle_attribute p.throttle s.throttle code) p.throttle)))))
+        ≡ cond a (ev_answer p.ev s.ev code)
+        (cond b (face_answer p.face s.face code)
+        (cond d (metadata_answer p.metadata s.metadata code)
+        (cond e (hdr_answer p.hdr s.hdr code)
+        (throttle_answer p.throttle s.throttle code))))
+    go true b d e q r = refl
+    go false true true e q r = absurd (omega (arith, eqb-true selector face q, eqb-true selector metadata r))
+    go false true false e q r = refl
+    go false false true e q r = refl
+    go false false false true q r = refl
+    go false false false false q r = refl
