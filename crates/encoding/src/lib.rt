@@ -15,6 +15,7 @@ use settings::Settings;
 use wire::{endpoints, selectors};
 
 // Each of these writes the record of a setting at a place, as far as out reaches.
+#[tactic(auto, unfolding(crate::specs::Encoding::record_of, wire::specs::Numbers::bytes_of, exposure::specs::Exposure::ev_bytes))]
 fn put_ev(out: &mut [u8], at: usize, s: EvSetting)
     ensures { out.new ≡ overlay out.old at (record_of (Setting.Ev s)) }
 {
@@ -39,6 +40,7 @@ fn put_ev(out: &mut [u8], at: usize, s: EvSetting)
     wire::copy(out, at, &b);
 }
 
+#[tactic(auto, using(crate::proofs::Laws::Encoding::face_record))]
 fn put_face(out: &mut [u8], at: usize, address: u8, flags: u8)
     ensures { out.new ≡ overlay out.old at (record_of (Setting.Face address flags)) }
 {
@@ -60,6 +62,7 @@ fn put_face(out: &mut [u8], at: usize, address: u8, flags: u8)
     wire::copy(out, at, &b);
 }
 
+#[tactic(auto, using(wire::proofs::Laws::Bytes::bytes_byte), unfolding(wire::specs::Numbers::bytes_of))]
 fn put_number(out: &mut [u8], at: usize, kind: u8, n: u32)
     ensures { out.new ≡ overlay out.old at (framed kind (bytes_of 4 n)) }
 {
@@ -68,6 +71,7 @@ fn put_number(out: &mut [u8], at: usize, kind: u8, n: u32)
     wire::copy(out, at, &b);
 }
 
+#[tactic(auto, using(crate::proofs::Laws::Encoding::throttle_record))]
 fn put_throttle(out: &mut [u8], at: usize, s: ThrottleSetting)
     ensures { out.new ≡ overlay out.old at (record_of (Setting.Throttle s)) }
 {
@@ -102,6 +106,7 @@ fn put_throttle(out: &mut [u8], at: usize, s: ThrottleSetting)
     wire::copy(out, at, &b);
 }
 
+#[tactic(auto, unfolding(crate::specs::Encoding::record_of))]
 fn put_setting(out: &mut [u8], at: usize, s: Setting)
     ensures { out.new ≡ overlay out.old at (record_of s) }
 {
@@ -125,6 +130,7 @@ fn put_setting(out: &mut [u8], at: usize, s: Setting)
 }
 
 // The record of what a key holds, of no bytes where that is nothing.
+#[tactic(auto, using(crate::proofs::Laws::Encoding::nothing_laid))]
 fn put_held(out: &mut [u8], at: usize, held: HeldSetting)
     ensures { out.new ≡ overlay out.old at (record_held (setting_held held)) }
 {
@@ -136,6 +142,7 @@ fn put_held(out: &mut [u8], at: usize, held: HeldSetting)
     }
 }
 
+#[tactic(auto, using(crate::proofs::Laws::Encoding::record_lengths))]
 fn length_of(s: Setting) -> usize
     ensures { result ≡ length (record_of s) }
 {
@@ -161,6 +168,7 @@ fn length_held(held: HeldSetting) -> usize
 }
 
 // The same of an endpoint, by its address and the flags that it holds, 0 for none.
+#[tactic(auto, using(crate::proofs::Laws::Encoding::nothing_laid))]
 fn put_place(out: &mut [u8], at: usize, address: u8, flags: u8)
     ensures { out.new ≡ overlay out.old at (record_held (face_held address flags)) }
 {

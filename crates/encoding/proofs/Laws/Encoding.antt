@@ -1,5 +1,5 @@
 -- Writing a snapshot key by key, as far as the lent buffer reaches. Assumes nothing.
-use mathlib.Core.{Path.{◌≡◌, refl, ap, ap₂, sym, ◌∙◌}, List.{List, [], ◌++◌, append-nil}, Option.{Option, none, some, map}}
+use mathlib.Core.{Path.{◌≡◌, refl, ap, ap₂, sym, ◌∙◌}, List.{List, [], ◌∷◌, ◌++◌, append-nil}, Option.{Option, none, some, map}}
 use mathlib.Core.Bool.{Bool, true, false, cond}
 use Prim.Native.Nat.{ℕ, suc, ◌+◌, ◌-◌, ◌*◌, ◌≤◌, ◌<◌}
 use native.Mathlib.{Nat.{zero-add, add-zero}, Numerals.{add-one, sub-one}, Omega.{arith}}
@@ -11,7 +11,9 @@ use Rattle.snapshot.specs.{Keys.{keys}, Records.{record_bytes, records, encode}}
 use Rattle.snapshot.proofs.Laws.Maps.{records_split}
 use Rattle.controls.specs.{declared.{Setting.{Setting}, HeldSetting.{HeldSetting}}, Controls.{setting_held}}
 use Rattle.controls.specs.declared.Setting.TheVariants as S
+use Rattle.controls.specs.declared.{EvSetting.{EvSetting}, ThrottleSetting.{ThrottleSetting}}
 use Rattle.exposure.specs.Exposure.{ev_bytes}
+use Rattle.face.proofs.Laws.Answers.{entry_small}
 use Rattle.throttle.specs.Throttle.{throttle_bytes}
 use Rattle.settings.specs.{declared.settings.Settings.{Settings}, Held.{settings_held, held_setting, face_held}}
 use Rattle.encoding.specs.{Encoding.{record_of, encoded}, Steps.{record_held}}
@@ -23,6 +25,42 @@ record_short (S.Face address flags) = lit≤ tt
 record_short (S.Metadata n) = lit≤ tt
 record_short (S.Hdr n) = lit≤ tt
 record_short (S.Throttle s) = lit≤ tt
+
+-- how long each is
+pub length_ev : (s : EvSetting) → length (record_of (S.Ev s)) ≡ 15
+unfolding record_of bytes_of ev_bytes
+length_ev s = refl
+
+pub length_face : (address flags : ℕ) → length (record_of (S.Face address flags)) ≡ 13
+unfolding record_of bytes_of
+length_face address flags = refl
+
+pub length_metadata : (n : ℕ) → length (record_of (S.Metadata n)) ≡ 8
+unfolding record_of bytes_of
+length_metadata n = refl
+
+pub length_hdr : (n : ℕ) → length (record_of (S.Hdr n)) ≡ 8
+unfolding record_of bytes_of
+length_hdr n = refl
+
+pub length_throttle : (s : ThrottleSetting) → length (record_of (S.Throttle s)) ≡ 24
+unfolding record_of bytes_of throttle_bytes
+length_throttle s = refl
+
+pub ruleset record_lengths = (length_ev, length_face, length_metadata, length_hdr, length_throttle)
+
+-- the records of a place and of a throttle, byte by byte
+pub face_record : (address flags : ℕ) → flags < 256
+    → record_of (S.Face address flags) ≡ 13 ∷ 0 ∷ 6 ∷ 0 ∷ 1 ∷ address ∷ flags ∷ 0 ∷ 0 ∷ 0 ∷ 0 ∷ 0 ∷ 0 ∷ []
+unfolding record_of bytes_of
+face_record address flags h = ap (λ (l : List ℕ). 13 ∷ 0 ∷ 6 ∷ 0 ∷ 1 ∷ l) (entry_small address flags h)
+
+pub throttle_record : (s : ThrottleSetting) → let m = bytes_of 4 s.mode in let p = bytes_of 4 s.percent in
+    record_of (S.Throttle s)
+    ≡ 24 ∷ 0 ∷ 14 ∷ 0 ∷ get_or m 0 0 ∷ get_or m 1 0 ∷ get_or m 2 0 ∷ get_or m 3 0
+    ∷ get_or p 0 0 ∷ get_or p 1 0 ∷ get_or p 2 0 ∷ get_or p 3 0 ∷ 0 ∷ 0 ∷ 0 ∷ 0 ∷ 0 ∷ 0 ∷ 0 ∷ 0 ∷ 0 ∷ 0 ∷ 0 ∷ 0 ∷ []
+unfolding record_of bytes_of throttle_bytes
+throttle_record s = refl
 
 lit_nil : (n : ℕ) → length {A = ℕ} [] ≤ n
 lit_nil n = omega arith
