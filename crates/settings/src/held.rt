@@ -55,6 +55,7 @@ fn held_throttle(held: HeldThrottle) -> HeldSetting
 
 impl Settings {
     // The setting held of a key, or none.
+    #[tactic(auto, unfolding(crate::specs::Held::settings_held))]
     pub fn held(self, key: usize) -> HeldSetting
         ensures { result ≡ held_setting (settings_held self key) }
     {

@@ -16,6 +16,7 @@ pub struct SetTaken {
 
 impl Settings {
     // The settings with what an item gives.
+    #[tactic(auto, unfolding(crate::specs::Items::given_of, crate::specs::Items::put_all))]
     pub fn put_item(self, item: Item) -> Settings
         ensures { result ≡ put_all self (given_of item) }
     {
@@ -26,6 +27,7 @@ impl Settings {
     }
 
     // SET's value tests, and its settings: all of them or none.
+    #[tactic(auto, using(crate::proofs::Laws::Items::one_item, crate::proofs::Laws::Items::face_set))]
     pub fn set(self, p: Profile, selector: u8, payload: &[u8]) -> SetTaken
         ensures { result ≡ set_taken p self selector payload.now }
     {

@@ -10,6 +10,7 @@ use request::has_control;
 use throttle::HeldThrottle;
 use wire::selectors;
 
+#[tactic(auto, using(crate::proofs::Laws::Kept::kept_ev), unfolding(crate::specs::Kept::kept))]
 fn ev_kept(p: Profile, held: HeldEv) -> bool
     ensures { result ≡ kept p (ev_held held) }
 {
@@ -20,6 +21,7 @@ fn ev_kept(p: Profile, held: HeldEv) -> bool
     }
 }
 
+#[tactic(auto, using(crate::proofs::Laws::Kept::kept_metadata), unfolding(crate::specs::Kept::kept))]
 fn metadata_kept(p: Profile, held: HeldNumber) -> bool
     ensures { result ≡ kept p (metadata_held held) }
 {
@@ -31,6 +33,7 @@ fn metadata_kept(p: Profile, held: HeldNumber) -> bool
     }
 }
 
+#[tactic(auto, using(crate::proofs::Laws::Kept::kept_hdr), unfolding(crate::specs::Kept::kept))]
 fn hdr_kept(p: Profile, held: HeldNumber) -> bool
     ensures { result ≡ kept p (hdr_held held) }
 {
@@ -41,6 +44,7 @@ fn hdr_kept(p: Profile, held: HeldNumber) -> bool
     }
 }
 
+#[tactic(auto, using(crate::proofs::Laws::Kept::kept_throttle), unfolding(crate::specs::Kept::kept))]
 fn throttle_kept(p: Profile, held: HeldThrottle) -> bool
     ensures { result ≡ kept p (throttle_held held) }
 {
@@ -53,6 +57,7 @@ fn throttle_kept(p: Profile, held: HeldThrottle) -> bool
 
 impl Settings {
     // The profile is valid, and every setting that is held keeps its own SET's rules.
+    #[tactic(auto, using(crate::proofs::Laws::Kept::formed_controls))]
     pub fn well_formed(self, p: Profile) -> bool
         ensures { result ≡ settings_well_formed p self }
     {

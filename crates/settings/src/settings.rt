@@ -18,6 +18,7 @@ pub struct Settings {
 }
 
 impl Settings {
+    #[tactic(auto, unfolding(crate::specs::Settings::no_settings))]
     pub fn none() -> Settings
         ensures { result ≡ no_settings }
     {
@@ -31,6 +32,7 @@ impl Settings {
     }
 
     // The settings with one more of an endpoint.
+    #[tactic(auto, unfolding(crate::specs::Settings::put))]
     fn put_face(self, address: u8, flags: u8) -> Settings
         ensures { result ≡ put self (Setting.Face address flags) }
     {
@@ -42,6 +44,7 @@ impl Settings {
     }
 
     // The settings with one more.
+    #[tactic(auto, unfolding(crate::specs::Settings::put))]
     pub fn put(self, s: Setting) -> Settings
         ensures { result ≡ put self s }
     {

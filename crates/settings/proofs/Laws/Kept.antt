@@ -6,11 +6,14 @@ use native.Mathlib.{Numerals.{sub-one}, Omega.{arith}}
 use lib.{Dec.{eqb}, ListN.{get_or}}
 use borrow.Author.Tests.{ne_eqb, le-leb}
 use Rattle.wire.specs.{Uvc.{invalid_control, invalid_request}, Endpoints.{first_address, places}, Rows.{◌⇒◌, first_of, all_below}}
-use Rattle.wire.specs.Selectors.{face, metadata}
+use Rattle.wire.specs.Selectors.{ev, face, metadata, hdr, throttle}
 use Rattle.snapshot.specs.Keys.{ev_key, metadata_key, hdr_key, throttle_key}
-use Rattle.controls.specs.declared.Setting.{Setting}
+use Rattle.controls.specs.declared.{EvSetting.{EvSetting}, ThrottleSetting.{ThrottleSetting}, Setting.{Setting}}
 use Rattle.controls.specs.declared.Setting.TheVariants as S
+use Rattle.exposure.specs.Exposure.{ev_refusal}
 use Rattle.metadata.specs.Metadata.{metadata_refusal}
+use Rattle.hdr.specs.Hdr.{hdr_refusal}
+use Rattle.throttle.specs.Throttle.{throttle_refusal}
 use Rattle.entries.specs.Entries.{setting_refusal, face_kept, faces_kept}
 use Rattle.wire.proofs.Laws.Below.{all_same, below_front}
 use Rattle.profile.specs.{declared.Profile.{Profile}, Profile.{has, is_settable, profile_valid, profile_refusal}}
@@ -34,6 +37,19 @@ module _ (p : Profile) where
       → has p (setting_selector s) && eqb (value_refusal p s) 0 ≡ kept p (some s)
   unfolding kept
   kept_settable s t = rw (control_kept (setting_selector s), t, and-true (has p (setting_selector s)))
+
+  pub kept_ev : (s : EvSetting) → has p ev && eqb (ev_refusal p.ev s.flags s.value) 0 ≡ kept p (some (S.Ev s))
+  unfolding value_refusal
+  kept_ev s = kept_settable (S.Ev s) refl
+
+  pub kept_hdr : (n : ℕ) → has p hdr && eqb (hdr_refusal p.hdr n) 0 ≡ kept p (some (S.Hdr n))
+  unfolding value_refusal
+  kept_hdr n = kept_settable (S.Hdr n) refl
+
+  pub kept_throttle : (s : ThrottleSetting)
+      → has p throttle && eqb (throttle_refusal p.throttle s.mode s.percent) 0 ≡ kept p (some (S.Throttle s))
+  unfolding value_refusal
+  kept_throttle s = kept_settable (S.Throttle s) refl
 
   pub kept_metadata : (n : ℕ)
       → has p metadata && p.metadata.writable && eqb (metadata_refusal p.metadata n) 0 ≡ kept p (some (S.Metadata n))
