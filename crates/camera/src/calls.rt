@@ -34,6 +34,7 @@ impl Camera {
     }
 
     // The stream has started or stopped, 01's streaming notice. Settings stay.
+    #[tactic(auto, using(crate::proofs::Laws::Record::streamed_refused, crate::proofs::Laws::Record::streamed_done))]
     pub fn set_streaming(self, on: bool) -> Outcome
         ensures { result ≡ streamed self on }
     {
@@ -49,6 +50,7 @@ impl Camera {
     }
 
     // The number handed to the sensor.
+    #[tactic(auto, using(crate::proofs::Laws::Record::sensed_refused, crate::proofs::Laws::Record::sensed_done))]
     pub fn sensor(self) -> Sensed
         ensures { result ≡ sensed self }
     {

@@ -29,6 +29,7 @@ fn selector_at(key: usize) -> u8
 }
 
 // A record of a key, as a SET.
+#[tactic(auto, using(crate::proofs::Laws::Loading::record_refused, crate::proofs::Laws::Loading::record_tested))]
 fn record_item(p: Profile, streaming: bool, key: usize, r: &[u8]) -> Item
     ensures { result ≡ record_item p streaming key r.now }
 {
@@ -69,6 +70,7 @@ impl Camera {
     }
 
     // Loads a snapshot, 01's settings sheet: it counts as its records' SETs, in order.
+    #[tactic(auto, using(crate::proofs::Laws::Loading::loading))]
     pub fn load(self, s: &[u8]) -> Outcome
         ensures { result ≡ loaded self s.now }
     {

@@ -19,6 +19,7 @@ fn state_refusal(streaming: bool, selector: u8, code: u8) -> u8
 }
 
 // The number of a SET before its payload is looked at, or 0.
+#[tactic(auto, using(crate::proofs::Laws::Requests::control_refused, crate::proofs::Laws::Requests::control_state))]
 pub(crate) fn control_refusal(p: Profile, streaming: bool, selector: u8) -> u8
     ensures { result ≡ control_refusal p streaming selector }
 {
@@ -31,6 +32,7 @@ pub(crate) fn control_refusal(p: Profile, streaming: bool, selector: u8) -> u8
 
 impl Camera {
     // Test 8 of a SET, then its settings: all of them or none.
+    #[tactic(auto, using(crate::proofs::Laws::Requests::set_done_lem))]
     fn set(self, selector: u8, payload: &[u8]) -> Outcome
         ensures { result ≡ set_done self selector payload.now }
     {

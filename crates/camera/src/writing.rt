@@ -8,6 +8,7 @@ use wire::uvc;
 
 impl Camera {
     // Writes the camera's snapshot, 01's settings sheet, to the start of out.
+    #[tactic(auto, using(crate::proofs::Laws::Writing::writing))]
     pub fn write(self, out: &mut [u8]) -> Outcome
         ensures value { result ≡ written self (length out.old) }
         ensures out_after { out.new ≡ written_out self out.old }

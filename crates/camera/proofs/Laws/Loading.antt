@@ -138,6 +138,15 @@ module _ (c : Camera) (s : List ℕ) where
         go i true p gap = absent_code i (gap (leb-true (k + 1) i p))
         go i false p gap = let u = leb-false (k + 1) i p in below_more (λ j. code_at j ≡ 0) k w.taken (sym code_here ∙ z) i (omega arith)
 
+  -- what a turn that is refused comes to, by where the record stands
+  abbrev pub Stops : (at k : ℕ) → Type 0
+  Stops at k =
+      let code = item_code (record_item c.profile c.streaming k (take (record_length k) (drop at s))) in
+      k < keys → (code ≡ 0 → ⊥) → load_done c s ≡ refused code c
+
+  pub stops_at : {h : Settings} {at k : ℕ} → Loads h at k → Stops at k
+  stops_at w l bad = sym (load_stops w l refl refl refl refl bad)
+
   pub load_end : {h : Settings} {at k : ℕ} → Loads h at k → keys ≤ k → {camera : Camera} → camera ≡ with_settings c h
       → ◌≡◌ {A = Outcome} (record { code = 0; count = 0; camera = camera }) (load_done c s)
   unfolding load_done load_refusal load_gives
@@ -147,7 +156,7 @@ module _ (c : Camera) (s : List ℕ) where
       rw (e, w.is, q, z)
 
 -- what a load answers, by its form
-form_good : (s : List ℕ) → form_code s ≡ 0 → well_formed s ≡ true
+pub form_good : (s : List ℕ) → form_code s ≡ 0 → well_formed s ≡ true
 unfolding form_code
 form_good s e = go (well_formed s) e
   where
@@ -189,3 +198,6 @@ module _ (c : Camera) (s : List ℕ) where
       go : (b : Bool) → eqb code 0 ≡ b → cond b done (refused code c) ≡ outcome_by (cond (not b) code 0) c done
       go true e = refl
       go false e = rw e
+
+-- what `load` goes by
+pub ruleset loading = (form_good, load_unformed, load_malformed, load_records)

@@ -1,5 +1,5 @@
 -- What writing a snapshot answers and leaves. Assumes nothing.
-use mathlib.Core.{Path.{◌≡◌, ◌∙◌}, List.{List}, Bool.{true, false}}
+use mathlib.Core.{Path.{◌≡◌, refl, sym, ◌∙◌}, List.{List}, Bool.{true, false}}
 use Prim.Native.Nat.{ℕ, ◌≤◌, ◌<◌}
 use native.Mathlib.Omega.{arith}
 use lib.ListN.{length}
@@ -32,3 +32,18 @@ module _ (c : Camera) (out : List ℕ) where
         let l : length (snapshot c) ≤ length out = omega (arith, long) in
         let z = le-ltb (length out) (length (snapshot c)) l in
         (rw (formed, z, long), f ∙ rw (formed, z) (fits_start out (snapshot c) l))
+
+-- what each leaves in the buffer
+module _ (c : Camera) (out : List ℕ) where
+  pub out_unformed : record_well_formed c ≡ false → written_out c out ≡ out
+  out_unformed e = sym (write_unformed c out e).1
+
+  pub out_no_room : record_well_formed c ≡ true → {n : ℕ} → n ≡ length (encoded c.settings) → length out < n → written_out c out ≡ out
+  out_no_room e is h = sym (write_no_room c out e is h).1
+
+  pub out_done : record_well_formed c ≡ true → {n : ℕ} → n ≡ length (encoded c.settings) → n ≤ length out
+      → written_out c out ≡ overlay out 0 (encoded c.settings)
+  out_done e is h = sym (write_done c out e is h refl).1
+
+-- what `write` goes by
+pub ruleset writing = (write_unformed, write_no_room, write_done, out_unformed, out_no_room, out_done)
