@@ -26,6 +26,7 @@ impl Peripheral {
     }
 
     // The detector has counted so many occupants. It is kept whether the toggle is 1 or 0.
+    #[tactic(auto, unfolding(crate::specs::Calls::counted, crate::specs::Calls::count_code))]
     pub fn set_count(self, occupants: u32) -> Outcome
         ensures { result ≡ counted self occupants }
     {
@@ -44,6 +45,7 @@ impl Peripheral {
     }
 
     // The unit has restarted: no reset is asked for any more, and all else stays.
+    #[tactic(auto, unfolding(crate::specs::Calls::restarted, crate::specs::Calls::restart_code))]
     pub fn restart(self) -> Outcome
         ensures { result ≡ restarted self }
     {

@@ -41,6 +41,7 @@ impl Peripheral {
     }
 
     // Whether calls can leave such a record; all others are 0x21.
+    #[tactic(auto, unfolding(crate::specs::Record::record_well_formed))]
     pub(crate) fn well_formed(self) -> bool
         ensures { result ≡ record_well_formed self }
     {

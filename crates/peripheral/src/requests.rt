@@ -12,6 +12,7 @@ use wire::uvc;
 
 impl Peripheral {
     // The number of the first of tests 1 to 7 that fails, or 0.
+    #[tactic(auto, using(crate::proofs::Laws::Admission::admission_rules))]
     fn refusal(self, setup: &[u8], payload: &[u8]) -> u8
         ensures { result ≡ admission (table self) setup.now payload.now }
     {
@@ -33,6 +34,7 @@ impl Peripheral {
     }
 
     // Test 8 of a SET, then its setting.
+    #[tactic(auto, unfolding(crate::specs::Steps::set_done))]
     fn set(self, selector: u8, payload: &[u8]) -> Outcome
         ensures { result ≡ set_done self selector payload.now }
     {
@@ -49,6 +51,7 @@ impl Peripheral {
     }
 
     // Test 9 of a GET, then as much of its answer as wLength asks for.
+    #[tactic(auto, using(crate::proofs::Laws::Answers::answer_rules), unfolding(crate::specs::Steps::get_done))]
     fn get(self, setup: &[u8], reply: &mut [u8]) -> Outcome
         ensures value { result ≡ get_done self setup.now (length reply.old) }
         ensures reply_after { reply.new
@@ -67,6 +70,7 @@ impl Peripheral {
     }
 
     // A request: eight setup bytes and a payload; a GET's answer goes to the start of `reply`.
+    #[tactic(auto, using(crate::proofs::Laws::Requests::request_rules))]
     pub fn request(self, setup: &[u8], payload: &[u8], reply: &mut [u8]) -> Outcome
         ensures value { result ≡ requested self setup.now payload.now (length reply.old) }
         ensures reply_after { reply.new ≡ requested_reply self setup.now payload.now reply.old }

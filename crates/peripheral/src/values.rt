@@ -54,6 +54,7 @@ pub(crate) fn state_refusal(toggle: u8, selector: u8, code: u8) -> u8
 }
 
 // Test 8 of a SET.
+#[tactic(auto, unfolding(crate::specs::Values::set_refusal))]
 pub(crate) fn set_refusal(mask: u64, selector: u8, payload: &[u8]) -> u8
     ensures { result ≡ set_refusal mask selector payload.now }
 {
@@ -111,6 +112,7 @@ pub(crate) fn answer_length(selector: u8, code: u8) -> usize
 
 impl Peripheral {
     // What an accepted SET leaves. Asking for no reset changes nothing.
+    #[tactic(auto, unfolding(crate::specs::Values::after_set))]
     pub(crate) fn after_set(self, selector: u8, payload: &[u8]) -> Peripheral
         ensures { result ≡ after_set self selector payload.now }
     {

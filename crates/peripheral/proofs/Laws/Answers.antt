@@ -4,6 +4,7 @@ use Prim.Native.Nat.{ℕ, ◌≤◌}
 use native.Mathlib.Omega.{arith}
 use lib.Dec.{eqb}
 use Rattle.wire.specs.{Numbers.{bytes_of}, Uvc.{get_info, get_len}}
+use Rattle.wire.proofs.Laws.Bytes.{first_bytes}
 use Rattle.request.specs.{Answers.{answer_by}, Tests.{full_answer}}
 use Rattle.peripheral.specs.Selectors as selector
 use Rattle.peripheral.specs.{declared.record.Peripheral.{Peripheral}, Values.{payload_length, info_of, attribute}, Requests.{table}}
@@ -46,3 +47,6 @@ answer_most s code = go (eqb code get_len) (eqb code get_info)
     go true b = omega arith
     go false true = omega arith
     go false false = length_most s
+
+-- what the proof of `get` goes by
+pub ruleset answer_rules = (answer_bytes_lem, answer_most, first_bytes)
