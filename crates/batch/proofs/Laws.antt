@@ -2,3 +2,4 @@ pub mod Packing
 pub mod Answers
 pub mod Walking
 pub mod Running
+pub mod Measuring

@@ -11,6 +11,7 @@ use profile::Profile;
 use wire::{Part, uvc};
 
 // How many bytes of reply a request sends, whatever the settings and the streaming flag: an accepted GET's, else none.
+#[tactic(auto, using(crate::proofs::Laws::Measuring::measuring_rules))]
 fn reply_length(p: Profile, setup: &[u8], payload: &[u8]) -> usize
     requires { profile_valid p ≡ true }
     ensures { (result ≡ reply_length p (record { setup = setup.entry.now; payload = payload.now })) × (result ≤ longest_answer) }
