@@ -14,7 +14,7 @@ use wire::{Part, uvc};
 #[tactic(auto, using(crate::proofs::Laws::Measuring::measuring_rules))]
 fn reply_length(p: Profile, setup: &[u8], payload: &[u8]) -> usize
     requires { profile_valid p ≡ true }
-    ensures { (result ≡ reply_length p (record { setup = setup.entry.now; payload = payload.now })) × (result ≤ longest_answer) }
+    ensures { (result ≡ reply_length p (record { setup = setup.now; payload = payload.now })) × (result ≤ longest_answer) }
 {
     if request::is_set_request(setup) {
         return 0;

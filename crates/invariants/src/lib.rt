@@ -2,4 +2,3 @@
 // so, whatever is asked of it. Document 01, "Profile and camera record".
 // `batch` and `demands` stand on them.
 #![tactic(auto)]
-
