@@ -16,24 +16,13 @@ use wire::{selectors, uvc};
 pub fn answer(p: Profile, s: Settings, selector: u8, code: u8) -> Answer
     ensures { result ≡ packed (control_answer p s selector code) }
 {
-    if selector == selectors::EV {
-        let held = s.ev;
-        return exposure::answer(p.ev, held, code);
+    match selector {
+        selectors::EV => exposure::answer(p.ev, s.ev, code),
+        selectors::FACE => face::answer(p.face, s.face, code),
+        selectors::METADATA => metadata::answer(p.metadata, s.metadata, code),
+        selectors::HDR => hdr::answer(p.hdr, s.hdr, code),
+        _ => throttle::answer(p.throttle, s.throttle, code),
     }
-    if selector == selectors::FACE {
-        let held = s.face;
-        return face::answer(p.face, held, code);
-    }
-    if selector == selectors::METADATA {
-        let held = s.metadata;
-        return metadata::answer(p.metadata, held, code);
-    }
-    if selector == selectors::HDR {
-        let held = s.hdr;
-        return hdr::answer(p.hdr, held, code);
-    }
-    let held = s.throttle;
-    throttle::answer(p.throttle, held, code)
 }
 
 // How long it is, whatever the settings: only face authentication's goes by the code.
@@ -41,14 +30,10 @@ pub fn answer(p: Profile, s: Settings, selector: u8, code: u8) -> Answer
 pub fn answer_length(p: Profile, selector: u8, code: u8) -> usize
     ensures { result ≡ answer_length p selector code }
 {
-    if code == uvc::GET_LEN {
-        return 2;
+    match code {
+        uvc::GET_LEN => 2,
+        uvc::GET_INFO => 1,
+        uvc::GET_MIN | uvc::GET_RES if selector == selectors::FACE => 1,
+        _ => p.payload_length(selector),
     }
-    if code == uvc::GET_INFO {
-        return 1;
-    }
-    if (selector == selectors::FACE) & ((code == uvc::GET_MIN) | (code == uvc::GET_RES)) {
-        return 1;
-    }
-    p.payload_length(selector)
 }

@@ -3,3 +3,4 @@ pub mod Answers
 pub mod Walking
 pub mod Running
 pub mod Measuring
+pub mod Refusals

@@ -7,7 +7,8 @@ use lib.{Dec.{eqb}, ListN.{length, take, drop, replicate, length-append}, Seq.{t
 use borrow.Author.Tests.{eq-eqb, lt-ltb, le-ltb}
 use Rattle.wire.specs.Rows.{first_of}
 use Rattle.profile.specs.{declared.Profile.{Profile}, Profile.{profile_valid}}
-use Rattle.camera.specs.declared.{record.Camera.{Camera}, calls.Outcome.{Outcome}}
+use Rattle.camera.specs.declared.record.Camera.{Camera}
+use Rattle.camera.specs.Outcomes.{Outcome}
 use Rattle.camera.specs.{Record.{record_well_formed}, Requests.{refused, requested_reply}}
 use Rattle.camera.proofs.Laws.Record.{formed_profile}
 use Rattle.invariants.proofs.Laws.Replies.{ample, no_ninth, same_reply}

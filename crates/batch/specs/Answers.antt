@@ -5,7 +5,10 @@ use Rattle.std.specs.Prelude.{take, replicate}
 use Rattle.wire.specs.Numbers.{bytes_of}
 use Rattle.request.specs.Answers.{longest_answer}
 use Rattle.profile.specs.declared.Profile.{Profile}
-use Rattle.camera.specs.{declared.{record.Camera.{Camera}, calls.Outcome.{Outcome}}, Record.{fresh}, Requests.{requested, requested_reply}}
+use Rattle.camera.specs.declared.record.Camera.{Camera}
+use Rattle.camera.specs.Outcomes.{Outcome}
+use Rattle.camera.specs.Record.{fresh}
+use Rattle.camera.specs.Requests.{requested, requested_reply}
 use Rattle.batch.specs.Packing.{Request}
 
 -- an answer: the number, the count in two bytes, and as many bytes of the reply buffer

@@ -4,12 +4,11 @@ use mathlib.Core.{List.{List, [], ◌∷◌, ◌++◌}, Bool.{cond, not}}
 use lib.{Dec.{ltb, eqb}, ListN.{length, drop}}
 use Rattle.wire.specs.{Rows.{Row, ◌⇒◌, first_of}, Uvc.{malformed_record, no_room}}
 use Rattle.profile.specs.declared.Profile.{Profile}
-use Rattle.camera.specs.{declared.{record.Camera.{Camera}, calls.Outcome.{Outcome}}, Record.{record_well_formed}, Requests.{outcome_by}}
-use Rattle.batch.specs.{Packing.{requests_of, is_whole}, Answers.{answers_to, camera_after, answers_length}}
-
--- the number of a batch that stops inside a request
-abbrev pub cut_batch : ℕ
-cut_batch = 0x48
+use Rattle.camera.specs.declared.record.Camera.{Camera}
+use Rattle.camera.specs.Outcomes.{Outcome}
+use Rattle.camera.specs.Record.{record_well_formed}
+use Rattle.camera.specs.Requests.{outcome_by}
+use Rattle.batch.specs.{Refusals.{cut_batch}, Packing.{requests_of, is_whole}, Answers.{answers_to, camera_after, answers_length}}
 
 -- the answers to a batch, and the record that they leave
 abbrev pub batch_answers : Camera → List ℕ → List ℕ

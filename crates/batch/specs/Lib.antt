@@ -2,5 +2,7 @@
 pub mod Packing
 pub mod Splitting
 pub mod Answers
+pub mod Refusals
 pub mod Batch
 pub mod Theorems
+pub mod Steps

@@ -3,7 +3,9 @@ use Rattle.std.specs.Prelude.{ℕ, ◌+◌, ◌*◌, ◌≤◌, ◌<◌}
 use mathlib.Core.{Path.{◌≡◌}, List.{List, [], ◌∷◌, ◌++◌, map}, Option.{some}, Bool.{true, false}}
 use Rattle.std.specs.Prelude.{length, take, drop}
 use Rattle.request.specs.Tests.{test_number}
-use Rattle.camera.specs.{declared.{record.Camera.{Camera}, calls.Outcome.{Outcome}}, Record.{record_well_formed}}
+use Rattle.camera.specs.declared.record.Camera.{Camera}
+use Rattle.camera.specs.Outcomes.{Outcome}
+use Rattle.camera.specs.Record.{record_well_formed}
 use Rattle.camera.specs.Requests.{table, requested, requested_reply}
 use Rattle.batch.specs.Packing.{Request, EachWhole, batch_of, requests_of}
 use Rattle.batch.specs.{Splitting.{StopsInside}, Answers.{answer_bytes, ample_room, sent, sent_reply, answers_to, answers_length}}

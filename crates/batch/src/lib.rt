@@ -6,7 +6,8 @@
 
 mod measuring;
 mod packing;
+mod refusal;
 mod running;
 
-pub use packing::CUT_BATCH;
+pub use refusal::Refusal;
 pub use running::{ANSWER_ROOM, run};

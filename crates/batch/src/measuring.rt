@@ -4,11 +4,12 @@ ghost use Rattle.std.specs.Prelude.{◌≤◌, ◌<◌, ◌^◌};
 ghost use Rattle.wire.specs.Rows.{first_of};
 ghost use Rattle.request.specs.Answers.{longest_answer};
 ghost use Rattle.profile.specs.Profile.{profile_valid};
-ghost use Rattle.batch.specs.{Answers.{reply_length}, Batch.{batch_tests}};
+ghost use Rattle.batch.specs.{Refusals.{verdict}, Answers.{reply_length}, Batch.{batch_tests}};
 
-use crate::packing::{CUT_BATCH, data_length, setup_at};
+use crate::packing::{data_length, setup_at};
+use crate::refusal::Refusal;
 use profile::Profile;
-use wire::{Part, uvc};
+use wire::Part;
 
 // How many bytes of reply a request sends, whatever the settings and the streaming flag: an accepted GET's, else none.
 #[tactic(auto, using(crate::proofs::Laws::Measuring::measuring_rules))]
@@ -21,17 +22,17 @@ fn reply_length(p: Profile, setup: &[u8], payload: &[u8]) -> usize
     }
     let selector = request::selector(setup);
     let control = p.control(selector, payload);
-    if request::refusal(p.extension_unit(), control, setup, payload) != 0 {
+    if p.extension_unit().check(control, setup, payload).is_err() {
         return 0;
     }
     let full = answering::answer_length(p, selector, request::code(setup));
-    wire::min(request::wlength(setup), full)
+    request::wlength(setup).min(full)
 }
 
-// The number of a batch that is refused whole, or 0. No more than room + 1 bytes are counted, so that no sum wraps.
-pub(crate) fn refusal(p: Profile, packed: &[u8], room: usize) -> u8
+// Whether a batch is refused whole. No more than room + 1 bytes are counted, so that no sum wraps.
+pub(crate) fn check(p: Profile, packed: &[u8], room: usize) -> Result<(), Refusal>
     requires { (profile_valid p ≡ true) × (room < 2 ^ 63) }
-    ensures { result ≡ first_of (batch_tests p packed.now room) }
+    ensures { verdict result ≡ first_of (batch_tests p packed.now room) }
 {
     let mut needed = 0;
     let mut at = 0;
@@ -39,14 +40,14 @@ pub(crate) fn refusal(p: Profile, packed: &[u8], room: usize) -> u8
         let setup = setup_at(packed, at);
         let len = data_length(setup);
         if packed.len() - at < 8 + len {
-            return CUT_BATCH;
+            return Err(Refusal::Cut);
         }
         let payload = wire::part_at(packed, Part { at: at + 8, len });
-        needed = wire::min(needed + 3 + reply_length(p, setup, payload), room + 1);
+        needed = (needed + 3 + reply_length(p, setup, payload)).min(room + 1);
         at += 8 + len;
     }
     if room < needed {
-        return uvc::NO_ROOM;
+        return Err(Refusal::NoRoom);
     }
-    0
+    Ok(())
 }

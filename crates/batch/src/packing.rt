@@ -5,9 +5,6 @@ ghost use Rattle.batch.specs.Packing.{data_length};
 
 use wire::Part;
 
-// A batch that stops inside a request.
-pub const CUT_BATCH: u8 = 0x48;
-
 // The setup bytes of the request at `at`.
 pub(crate) fn setup_at(packed: &[u8], at: usize) -> &[u8]
     ensures { PartOf packed.entry (record { at = at; len = 8 }) result }

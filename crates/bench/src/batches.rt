@@ -3,8 +3,8 @@
 use crate::device::bench;
 use crate::print;
 use batch::ANSWER_ROOM;
-use camera::Outcome;
 use printing::text;
+use request::Done;
 
 // GETs of EV, a SET of it, metadata that is absent, a throttle off its step, HDR on, then face and EV read back, and another unit.
 fn start_up() -> [u8; 115] {
@@ -20,28 +20,29 @@ fn start_up() -> [u8; 115] {
         \xA1\x81\x00\x03\x00\x05\x0B\x00"
 }
 
-fn outcome(name: &[u8], bytes: usize, room: usize, done: Outcome) {
-    print::label(name, 18);
-    print::number(bytes, 7);
-    print::number(room, 6);
-    print::code(done.code, 8);
-    print::number(done.count, 7);
-    print::signed(done.camera.sensor().value, 0);
-    print::end();
-}
-
 // A batch to a fresh camera, with room for as many bytes of answers.
 fn send(name: &[u8], packed: &[u8], out: &mut [u8]) {
-    let room = out.len();
-    outcome(name, packed.len(), room, batch::run(bench(), packed, out));
+    print::label(name, 18);
+    print::number(packed.len(), 7);
+    print::number(out.len(), 6);
+    let done = batch::run(bench(), packed, out);
+    print::code(wire::status(done), 8);
+    let Done { count, next } = done.unwrap_or(Done {
+        count: 0,
+        next: bench(),
+    });
+    print::number(count, 7);
+    print::sensor(next, 0);
+    print::end();
 }
 
 // Behind a setup of type 0x21 stand wLength bytes of payload.
 fn payload_length(setup: &[u8]) -> usize {
     if wire::byte(setup, 0) == 0x21 {
-        return wire::le16(setup, 6);
+        wire::le16(setup, 6)
+    } else {
+        0
     }
-    0
 }
 
 fn exchange(setup: &[u8], payload: &[u8], answer: &[u8]) {

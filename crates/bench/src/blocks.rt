@@ -6,11 +6,18 @@ fn row(name: &[u8], block: &[u8]) {
     print::label(name, 18);
     print::bytes(block, 49);
     let counted = frame::count(block);
-    print::code(counted.code, 8);
-    print::number(counted.items, 7);
-    let first = frame::item(block, 0);
-    print::id(first.id, first.unknown, 10);
-    print::bytes(wire::part_at(block, first.payload), 0);
+    print::code(wire::status(counted), 8);
+    print::number(counted.unwrap_or(0), 7);
+    match frame::item(block, 0) {
+        Ok(first) => {
+            print::id(first.id, first.unknown, 10);
+            print::bytes(wire::part_at(block, first.payload), 0);
+        }
+        Err(_) => {
+            print::id(0, false, 10);
+            print::bytes(b"", 0);
+        }
+    }
     print::end();
 }
 

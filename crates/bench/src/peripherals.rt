@@ -1,24 +1,26 @@
 // An exchange with the peripheral control unit of #101: unit 6 beside the camera's unit 4, with 002's own mask of supported modes. A line
 // for each call, with the record behind its answer.
 use crate::print;
-use peripheral::{Outcome, Peripheral, selectors};
+use peripheral::{Peripheral, selectors};
 use printing::{fill, text};
+use request::Done;
+use wire::Refusal;
 
 fn record(p: Peripheral) {
-    print::bytes(&wire::bytes64(p.mode), 25);
-    print::number(p.toggle as usize, 8);
+    print::bytes(&wire::bytes::<8>(p.mode), 25);
+    print::number(usize::from(p.toggle), 8);
     print::number(p.count as usize, 11);
-    print::number(p.reset as usize, 0);
+    print::number(usize::from(p.reset), 0);
     print::end();
 }
 
-fn answered(r: Outcome, reply: &[u8]) -> Peripheral {
-    print::code(r.code, 8);
-    print::number(r.count, 7);
-    print::bytes(wire::head(reply, r.count), 25);
-    let p = r.peripheral;
-    record(p);
-    p
+fn answered(p: Peripheral, done: Result<Done<Peripheral>, Refusal>, reply: &[u8]) -> Peripheral {
+    print::code(wire::status(done), 8);
+    let Done { count, next } = done.unwrap_or(Done { count: 0, next: p });
+    print::number(count, 7);
+    print::bytes(wire::head(reply, count), 25);
+    record(next);
+    next
 }
 
 fn send(p: Peripheral, name: &[u8], setup: &[u8], payload: &[u8]) -> Peripheral {
@@ -27,7 +29,7 @@ fn send(p: Peripheral, name: &[u8], setup: &[u8], payload: &[u8]) -> Peripheral 
     print::bytes(payload, 25);
     let mut reply = [0u8; 8];
     let done = p.request(setup, payload, &mut reply);
-    answered(done, &reply)
+    answered(p, done, &reply)
 }
 
 fn set(p: Peripheral, name: &[u8], selector: u8, payload: &[u8], wlength: u8) -> Peripheral {
@@ -47,10 +49,10 @@ fn get(p: Peripheral, name: &[u8], code: u8, selector: u8, wlength: u8) -> Perip
 }
 
 // A notice has neither setup nor payload.
-fn noticed(name: &[u8], r: Outcome) -> Peripheral {
+fn noticed(p: Peripheral, name: &[u8], next: Result<Peripheral, Refusal>) -> Peripheral {
     print::label(name, 20);
     fill(0, 50);
-    answered(r, b"")
+    answered(p, next.map(|next| Done { count: 0, next }), b"")
 }
 
 fn strategy_rows(fresh: Peripheral) -> Peripheral {
@@ -67,17 +69,17 @@ fn strategy_rows(fresh: Peripheral) -> Peripheral {
 }
 
 fn occupancy_rows(p: Peripheral) -> Peripheral {
-    let a = noticed(b"12 occupants", p.set_count(12));
+    let a = noticed(p, b"12 occupants", p.set_count(12));
     let b = get(a, b"reading, off", 0x81, selectors::OCCUPANCY_READING, 2);
     let c = set(b, b"toggle 1", selectors::OCCUPANCY_TOGGLE, b"\x01", 1);
     let d = get(c, b"reading", 0x81, selectors::OCCUPANCY_READING, 2);
-    noticed(b"256 occupants", d.set_count(256))
+    noticed(d, b"256 occupants", d.set_count(256))
 }
 
 fn reset_rows(p: Peripheral) {
     let a = set(p, b"reset 1", selectors::STATUS_RESET, b"\x01", 1);
     let b = set(a, b"reset 0", selectors::STATUS_RESET, b"\x00", 1);
-    let c = noticed(b"restart", b.restart());
+    let c = noticed(b, b"restart", b.restart());
     send(
         c,
         b"to the camera",

@@ -3,7 +3,7 @@ use crate::device::bench;
 use crate::print;
 use camera::Camera;
 use printing::{fill, text};
-use request::LONGEST_ANSWER;
+use request::{Done, LONGEST_ANSWER};
 use snapshot::LONGEST_WRITTEN;
 
 fn header(title: &[u8]) {
@@ -15,9 +15,9 @@ fn header(title: &[u8]) {
 
 fn snapshot(c: Camera) {
     let mut out = [0u8; LONGEST_WRITTEN];
-    let w = c.write(&mut out);
+    let count = c.write(&mut out).unwrap_or(0);
     print::label(b"  snapshot", 18);
-    print::bytes(wire::head(&out, w.count), 0);
+    print::bytes(wire::head(&out, count), 0);
     print::end();
 }
 
@@ -30,22 +30,18 @@ fn rest(payload: &[u8]) {
     }
 }
 
-fn answered(c: Camera, answer: u8, count: usize, reply: &[u8]) {
-    print::code(answer, 8);
-    print::number(count, 7);
-    print::signed(c.sensor().value, 10);
-    print::bytes(wire::head(reply, count), 0);
-    print::end();
-}
-
 fn send(c: Camera, name: &[u8], setup: &[u8], payload: &[u8]) -> Camera {
     print::label(name, 18);
     print::bytes(setup, 25);
     print::bytes(wire::head(payload, 12), 37);
     let mut reply = [0u8; LONGEST_ANSWER];
     let done = c.request(setup, payload, &mut reply);
-    let next = done.camera;
-    answered(next, done.code, done.count, &reply);
+    let Done { count, next } = done.unwrap_or(Done { count: 0, next: c });
+    print::code(wire::status(done), 8);
+    print::number(count, 7);
+    print::sensor(next, 10);
+    print::bytes(wire::head(&reply, count), 0);
+    print::end();
     rest(payload);
     snapshot(next);
     next

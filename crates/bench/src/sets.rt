@@ -1,22 +1,19 @@
 // 004's two descriptor sets, each with its check and, where that accepts it, its registry properties.
 use crate::print;
-use descriptors::{Interface, RegistryProperty};
+use descriptors::RegistryProperty;
 use printing::text;
+use wire::Numbered;
 
-fn interface(i: Interface) {
-    match i {
-        Interface::Nowhere => {
-            print::label(b"-", 11);
-        }
-        Interface::First(n) => {
-            print::number(n as usize, 11);
-        }
+fn interface(first: Option<u8>) {
+    match first {
+        None => print::label(b"-", 11),
+        Some(n) => print::number(usize::from(n), 11),
     }
 }
 
 // Data types 4 and 5 are numbers, the others here UTF-16 text.
 fn data(kind: usize, s: &[u8]) {
-    if (kind == 4) | (kind == 5) {
+    if kind == 4 || kind == 5 {
         print::bytes(s, 0);
     } else {
         print::utf16(s, 0);
@@ -26,8 +23,7 @@ fn data(kind: usize, s: &[u8]) {
 fn property(p: RegistryProperty, name: &[u8], value: &[u8]) {
     print::label(b"  property", 24);
     print::number(p.offset, 8);
-    let i = p.interface;
-    interface(i);
+    interface(p.interface);
     print::number(p.kind, 6);
     print::utf16(name, 36);
     data(p.kind, value);
@@ -35,23 +31,23 @@ fn property(p: RegistryProperty, name: &[u8], value: &[u8]) {
 }
 
 fn properties(set: &[u8]) {
-    let mut k = 0;
-    while k < 16 {
-        let p = descriptors::property(set, k);
-        if p.code != 0 {
+    for k in 0..16 {
+        let Ok(p) = descriptors::property(set, k) else {
             return;
-        }
+        };
         property(p, wire::part_at(set, p.name), wire::part_at(set, p.value));
-        k += 1;
     }
 }
 
 fn row(name: &[u8], set: &[u8]) {
     print::label(name, 24);
     print::number(set.len(), 8);
-    let f = descriptors::check(set);
-    print::code(f.code, 8);
-    print::number(f.offset, 0);
+    let (code, offset) = match descriptors::check(set) {
+        Ok(()) => (0, 0),
+        Err(fault) => (fault.refusal.code(), fault.offset),
+    };
+    print::code(code, 8);
+    print::number(offset, 0);
     print::end();
     properties(set);
 }

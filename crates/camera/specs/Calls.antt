@@ -2,7 +2,8 @@
 use Rattle.std.specs.Prelude.{ℕ, Bool, cond, pos}
 use Rattle.wire.specs.Uvc.{malformed_record}
 use Rattle.exposure.specs.Exposure.{sensor_value}
-use Rattle.camera.specs.declared.{record.Camera.{Camera}, calls.Outcome.{Outcome}, calls.Sensed.{Sensed}}
+use Rattle.camera.specs.declared.record.Camera.{Camera}
+use Rattle.camera.specs.Outcomes.{Outcome, Sensed}
 use Rattle.camera.specs.{Record.{with_streaming, record_well_formed}, Requests.{outcome_by}}
 
 -- the test that every call begins with

@@ -5,10 +5,13 @@ use lib.{Dec.{leb, eqb}, ListN.{drop}}
 use Rattle.wire.specs.{Rows.{Row, ◌⇒◌, answers, first_of}, Endpoints.{places, endpoint_limit}, Uvc.{malformed_record, malformed_snapshot}}
 use Rattle.wire.specs.Selectors as selector
 use Rattle.snapshot.specs.{Keys.{ev_key, hdr_key, keys, metadata_key}, Form.{well_formed}, Records.{decode}}
-use Rattle.controls.specs.{declared.{Item.{Item}, Item.TheVariants.{Refused}, Setting.{Setting}}, Controls.{item_code, first_refusal}}
+use Rattle.controls.specs.Controls.{Item, Refused, item_code, first_refusal}
+use Rattle.controls.specs.declared.Setting.{Setting}
 use Rattle.profile.specs.{declared.Profile.{Profile}, Items.{profile_item}}
 use Rattle.settings.specs.Items.{given_of, all_given}
-use Rattle.camera.specs.{declared.{record.Camera.{Camera}, calls.Outcome.{Outcome}}, Record.{puts, record_well_formed_under}}
+use Rattle.camera.specs.declared.record.Camera.{Camera}
+use Rattle.camera.specs.Outcomes.{Outcome}
+use Rattle.camera.specs.Record.{puts, record_well_formed_under}
 use Rattle.camera.specs.Requests.{control_refusal, outcome_by}
 
 -- the selector of a key, which is the kind of its records

@@ -9,7 +9,9 @@ use Rattle.controls.specs.declared.Setting.{Setting}
 use Rattle.profile.specs.{declared.Profile.{Profile}, Profile.{has, is_settable, set_length, payload_length}, Items.{set_refusal}}
 use Rattle.settings.specs.{declared.settings.Settings.{Settings}, Settings.{no_settings}, Kept.{settings_well_formed}, Items.{set_gives}}
 use Rattle.answering.specs.Answering.{info_of, value_of}
-use Rattle.camera.specs.{declared.{record.Camera.{Camera}, calls.Outcome.{Outcome}}, Record.{puts}}
+use Rattle.camera.specs.declared.record.Camera.{Camera}
+use Rattle.camera.specs.Outcomes.{Outcome}
+use Rattle.camera.specs.Record.{puts}
 
 -- test 7: a SET of the throttle while the stream is stopped
 abbrev pub state_refusal : (streaming : Bool) → (selector code : ℕ) → ℕ

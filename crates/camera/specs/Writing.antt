@@ -4,7 +4,10 @@ use mathlib.Core.{List.{List, [], ◌∷◌, ◌++◌}, Bool.{cond, not}}
 use lib.{Dec.{ltb, eqb}, ListN.{length, drop}}
 use Rattle.wire.specs.{Rows.{◌⇒◌, first_of}, Uvc.{malformed_record, no_room}}
 use Rattle.encoding.specs.Encoding.{encoded}
-use Rattle.camera.specs.{declared.{record.Camera.{Camera}, calls.Outcome.{Outcome}}, Record.{record_well_formed}, Requests.{outcome_by}}
+use Rattle.camera.specs.declared.record.Camera.{Camera}
+use Rattle.camera.specs.Outcomes.{Outcome}
+use Rattle.camera.specs.Record.{record_well_formed}
+use Rattle.camera.specs.Requests.{outcome_by}
 
 -- a camera's snapshot
 unfoldable pub snapshot : Camera → List ℕ

@@ -11,5 +11,4 @@ mod record;
 mod requests;
 mod writing;
 
-pub use calls::{Outcome, Sensed};
 pub use record::Camera;

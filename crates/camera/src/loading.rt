@@ -1,86 +1,70 @@
 // Loading a snapshot: its form, then each record as a SET; all or nothing.
 ghost use mathlib.Core.{Path.{◌≡◌}, Bool.{true}};
 ghost use Rattle.snapshot.specs.Form.{well_formed};
-ghost use Rattle.camera.specs.{Loading.{selector_at, record_item, loaded}, Steps.{load_done}};
+ghost use Rattle.controls.specs.Controls.{item};
+ghost use Rattle.settings.specs.Items.{taken};
+ghost use Rattle.camera.specs.{Outcomes.{of_change}, Loading.{selector_at, record_item, loaded}, Steps.{item_taken, load_done}};
 
-use crate::calls::Outcome;
 use crate::record::Camera;
-use crate::requests::control_refusal;
-use controls::{Item, item_code};
-use profile::Profile;
-use wire::{Part, endpoints, selectors, uvc};
+use controls::Setting;
+use settings::Settings;
+use wire::{Part, Refusal, endpoints, selectors};
 
 fn selector_at(key: usize) -> u8
     ensures { result ≡ selector_at key }
 {
-    if key == snapshot::EV_KEY {
-        return selectors::EV;
+    match key {
+        snapshot::EV_KEY => selectors::EV,
+        1..=endpoints::PLACES => selectors::FACE,
+        snapshot::METADATA_KEY => selectors::METADATA,
+        snapshot::HDR_KEY => selectors::HDR,
+        _ => selectors::THROTTLE,
     }
-    if key <= endpoints::PLACES {
-        return selectors::FACE;
-    }
-    if key == snapshot::METADATA_KEY {
-        return selectors::METADATA;
-    }
-    if key == snapshot::HDR_KEY {
-        return selectors::HDR;
-    }
-    selectors::THROTTLE
-}
-
-// A record of a key, as a SET.
-#[tactic(auto, using(crate::proofs::Laws::Loading::record_refused, crate::proofs::Laws::Loading::record_tested))]
-fn record_item(p: Profile, streaming: bool, key: usize, r: &[u8]) -> Item
-    ensures { result ≡ record_item p streaming key r.now }
-{
-    let selector = selector_at(key);
-    let code = control_refusal(p, streaming, selector);
-    if code != 0 {
-        return Item::Refused(code);
-    }
-    p.item(selector, wire::tail(r, 4))
 }
 
 impl Camera {
+    // A record of a key, as a SET.
+    #[tactic(auto, using(crate::proofs::Laws::Loading::as_set))]
+    fn record_item(self, key: usize, bytes: &[u8]) -> Result<Setting, Refusal>
+        ensures { item result ≡ record_item self.profile self.streaming key bytes.now }
+    {
+        let selector = selector_at(key);
+        self.check_set(selector)?;
+        self.profile.item(selector, wire::tail(bytes, 4))
+    }
+
+    // The settings with a record of a key.
+    #[tactic(auto, using(crate::proofs::Laws::Loading::taking))]
+    fn take_record(self, settings: Settings, key: usize, bytes: &[u8]) -> Result<Settings, Refusal>
+        ensures { taken settings result ≡ item_taken settings (record_item self.profile self.streaming key bytes.now) }
+    {
+        Ok(settings.put(self.record_item(key, bytes)?))
+    }
+
     // Every record of a well-formed snapshot as a SET, in order: the first refusal, or the record with all of them.
-    fn load_records(self, s: &[u8]) -> Outcome
+    #[tactic(auto, using(crate::proofs::Laws::Loading::load_end))]
+    fn load_records(self, s: &[u8]) -> Result<Camera, Refusal>
         requires { well_formed s.now ≡ true }
-        ensures { result ≡ load_done self s.now }
+        ensures { of_change self result ≡ load_done self s.now }
     {
         let mut settings = self.settings;
         let mut at = 0;
-        let mut key = snapshot::key_at(s, 0);
-        while key < snapshot::KEYS {
-            let size = snapshot::record_length(key);
-            let r = wire::part_at(s, Part { at, len: size });
-            let item = record_item(self.profile, self.streaming, key, r);
-            let code = item_code(item);
-            if code != 0 {
-                return self.refuse(code);
-            }
-            settings = settings.put_item(item);
-            at += size;
-            key = snapshot::key_at(s, at);
+        while let Some(key) = snapshot::key_at(s, at) {
+            let len = snapshot::record_length(key);
+            let record = wire::part_at(s, Part { at, len });
+            settings = self.take_record(settings, key, record)?;
+            at += len;
         }
-        Outcome {
-            code: 0,
-            count: 0,
-            camera: self.with_settings(settings),
-        }
+        Ok(Camera { settings, ..self })
     }
 
     // Loads a snapshot, 01's settings sheet: it counts as its records' SETs, in order.
     #[tactic(auto, using(crate::proofs::Laws::Loading::loading))]
-    pub fn load(self, s: &[u8]) -> Outcome
-        ensures { result ≡ loaded self s.now }
+    pub fn load(self, s: &[u8]) -> Result<Camera, Refusal>
+        ensures { of_change self result ≡ loaded self s.now }
     {
-        if !self.settings.well_formed(self.profile) {
-            return self.refuse(uvc::MALFORMED_RECORD);
-        }
-        let form = snapshot::check(s);
-        if form != 0 {
-            return self.refuse(form);
-        }
+        self.check()?;
+        snapshot::check(s)?;
         self.load_records(s)
     }
 }

@@ -5,7 +5,10 @@
 #![tactic(auto)]
 
 ghost use Rattle.std.specs.Prelude.{◌≡◌};
-ghost use Rattle.controls.specs.Controls.{item_of, item_code, number_or};
+ghost use Rattle.wire.specs.Refusals.{verdict};
+ghost use Rattle.controls.specs.Controls.{item, item_of};
+
+use wire::Refusal;
 
 // The flag of a step, and a number of such steps.
 #[derive(Clone, Copy)]
@@ -30,57 +33,11 @@ pub enum Setting {
     Throttle(ThrottleSetting),
 }
 
-// What one item of a SET or one record of a snapshot comes to.
-#[derive(Clone, Copy)]
-pub enum Item {
-    // document 01's number
-    Refused(u8),
-    Given(Setting),
-}
-
-// The setting held of a control whose payload is one number, or none.
-#[derive(Clone, Copy)]
-pub enum HeldNumber {
-    Unset,
-    Held(u32),
-}
-
-// The setting held of a key, or none.
-#[derive(Clone, Copy)]
-pub enum HeldSetting {
-    Unset,
-    Held(Setting),
-}
-
-// What an item comes to by the number that its tests give.
-#[tactic(auto, using(crate::proofs::Laws::Controls::item_given, crate::proofs::Laws::Controls::item_refused))]
-pub fn item_of(code: u8, s: Setting) -> Item
-    ensures { result ≡ item_of code s }
+// What an item of a SET comes to by its value tests: the setting, or the refusal.
+#[tactic(auto, using(wire::proofs::Laws::Refusals::refused), unfolding(crate::specs::Controls::item_of))]
+pub fn item_of(tested: Result<(), Refusal>, s: Setting) -> Result<Setting, Refusal>
+    ensures { item result ≡ item_of (verdict tested) s }
 {
-    if code == 0 {
-        return Item::Given(s);
-    }
-    Item::Refused(code)
-}
-
-// The number of an item, 0 where it is taken.
-#[tactic(auto, unfolding(crate::specs::Controls::item_code))]
-pub fn item_code(item: Item) -> u8
-    ensures { result ≡ item_code item }
-{
-    match item {
-        Item::Refused(code) => code,
-        Item::Given(_) => 0,
-    }
-}
-
-// The number held, or n while there is none.
-#[tactic(auto, unfolding(crate::specs::Controls::number_or))]
-pub fn number_or(n: u32, held: HeldNumber) -> u32
-    ensures { result ≡ number_or n held }
-{
-    match held {
-        HeldNumber::Unset => n,
-        HeldNumber::Held(m) => m,
-    }
+    tested?;
+    Ok(s)
 }

@@ -14,13 +14,13 @@ use Rattle.request.specs.Setup.{setup_code, setup_selector, setup_w_length, is_s
 use Rattle.request.specs.{Answers.{answer_by}, Tests.{full_answer, asked, sent_count}}
 use Rattle.request.proofs.Theorems.{get_no_set, len_answers}
 use Rattle.request.proofs.Theorems as requests
-use Rattle.controls.specs.{declared.HeldNumber.{HeldNumber}, Controls.{number_or}}
-use Rattle.controls.specs.declared.HeldNumber.TheVariants as N
+use Rattle.controls.specs.Controls.{HeldNumber, number_or}
+use Rattle.std.specs.declared.option.Option.TheVariants as N
 use Rattle.controls.specs.declared.Setting.TheVariants as S
-use Rattle.throttle.specs.{declared.HeldThrottle.{HeldThrottle}, Throttle.{throttle_attribute, throttle_bytes, throttle_current}}
-use Rattle.throttle.specs.declared.HeldThrottle.TheVariants as T
-use Rattle.exposure.specs.{declared.HeldEv.{HeldEv}, Exposure.{ev_attribute, ev_bytes, ev_current}}
-use Rattle.exposure.specs.declared.HeldEv.TheVariants as E
+use Rattle.controls.specs.Controls.{HeldThrottle}
+use Rattle.throttle.specs.Throttle.{throttle_attribute, throttle_bytes, throttle_current}
+use Rattle.controls.specs.Controls.{HeldEv}
+use Rattle.exposure.specs.Exposure.{ev_attribute, ev_bytes, ev_current}
 use Rattle.face.specs.{declared.limits.FaceLimits.{FaceLimits}, Limits.{endpoints_of, address_at}}
 use Rattle.face.specs.Answers.{entry_of, held_at, flags_at, face_answer}
 use Rattle.entries.specs.Entries.{entry_address, entry_flags, entries_put}
@@ -81,29 +81,29 @@ module _ (c : Camera) (l : length c.settings.face ≡ places) where
     where
       go : (e : HeldEv) → ev_held e ≡ none
           → ev_bytes (ev_attribute c.profile.ev e get_cur) ≡ ev_bytes (ev_attribute c.profile.ev e get_def)
-      go E.Unset z = refl
-      go (E.Held s) z = absurd (none_never (S.Ev s) (sym z))
+      go N.None z = refl
+      go (N.Some s) z = absurd (none_never (S.Ev s) (sym z))
   unset_current _ selectors.face h = fresh_answer c.profile.face c.settings.face (face_none c.settings l h)
   unset_current _ selectors.metadata h = go c.settings.metadata (h metadata_key refl)
     where
       go : (n : HeldNumber) → metadata_held n ≡ none
           → bytes_of 4 (metadata_attribute c.profile.metadata n get_cur) ≡ bytes_of 4 (metadata_attribute c.profile.metadata n get_def)
-      go N.Unset z = refl
-      go (N.Held n) z = absurd (none_never (S.Metadata n) (sym z))
+      go N.None z = refl
+      go (N.Some n) z = absurd (none_never (S.Metadata n) (sym z))
   unset_current _ selectors.hdr h = go c.settings.hdr (h hdr_key refl)
     where
       go : (n : HeldNumber) → hdr_held n ≡ none
           → bytes_of 4 (hdr_attribute c.profile.hdr n get_cur) ≡ bytes_of 4 (hdr_attribute c.profile.hdr n get_def)
-      go N.Unset z = refl
-      go (N.Held n) z = absurd (none_never (S.Hdr n) (sym z))
+      go N.None z = refl
+      go (N.Some n) z = absurd (none_never (S.Hdr n) (sym z))
   unset_current _ selectors.throttle h = go c.settings.throttle (h throttle_key refl)
     where
       bytes : HeldThrottle → ℕ → List ℕ
       bytes t code = throttle_bytes (throttle_attribute c.profile.throttle t code) c.profile.throttle
 
       go : (t : HeldThrottle) → throttle_held t ≡ none → bytes t get_cur ≡ bytes t get_def
-      go T.Unset z = refl
-      go (T.Held s) z = absurd (none_never (S.Throttle s) (sym z))
+      go N.None z = refl
+      go (N.Some s) z = absurd (none_never (S.Throttle s) (sym z))
 
 -- So it is before any SET, whatever the selector.
 pub fresh_current : (p : Profile) (streaming : Bool) (control : ℕ)

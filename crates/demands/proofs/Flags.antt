@@ -8,7 +8,8 @@ use Rattle.wire.specs.Uvc.{invalid_value, out_of_range}
 use Rattle.wire.specs.Selectors as selectors
 use Rattle.request.specs.Setup.{setup_selector, setup_code}
 use Rattle.request.proofs.Laws.Tests.{at_set}
-use Rattle.controls.specs.{declared.{Setting.{Setting}, Item.{Item}, Item.TheVariants.{Refused, Given}}, Controls.{item_code, first_refusal}}
+use Rattle.controls.specs.declared.Setting.{Setting}
+use Rattle.controls.specs.Controls.{Item, Refused, Given, item_code, first_refusal}
 use Rattle.controls.proofs.Laws.Items.{stops, passes, none_refused}
 use Rattle.exposure.specs.Exposure.{divisor, in_range, ev_value, ev_item}
 use Rattle.exposure.proofs.Theorems.{ev_by_flags}

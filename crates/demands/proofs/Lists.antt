@@ -11,10 +11,13 @@ use Rattle.merging.specs.Merging.{merged}
 use Rattle.snapshot.proofs.Laws.{Maps.{decode_encode}, Form.{encode_formed}, Given.{over_assoc, over_none, EachRecord, records_append}}
 use Rattle.merging.proofs.Laws.{Answers.{Answer}, Given.{snapshot_append}}
 use Rattle.merging.proofs.Laws.Answers as answers
-use Rattle.controls.specs.{declared.{Setting.{Setting}, Item.TheVariants.{Given}}, Controls.{item_code}}
+use Rattle.controls.specs.declared.Setting.{Setting}
+use Rattle.controls.specs.Controls.{Given, item_code}
 use Rattle.settings.specs.Items.{given_of}
 use Rattle.profile.specs.{declared.Profile.{Profile}, Profile.{profile_valid}}
-use Rattle.camera.specs.{declared.{record.Camera.{Camera}, calls.Outcome.{Outcome}}, Record.{fresh, held, record_well_formed, puts}}
+use Rattle.camera.specs.declared.record.Camera.{Camera}
+use Rattle.camera.specs.Outcomes.{Outcome}
+use Rattle.camera.specs.Record.{fresh, held, record_well_formed, puts}
 use Rattle.camera.specs.Loading.{record_item, load_tests, load_code, load_code_under, load_gives, loaded, loaded_under}
 use Rattle.camera.specs.Writing.{snapshot, write_code, written, written_out}
 use Rattle.encoding.specs.Encoding.{record_of}

@@ -10,7 +10,9 @@ use Rattle.request.proofs.Laws.Requests as laws
 use Rattle.request.proofs.Theorems as requests
 use Rattle.exposure.specs.Exposure.{sensor_value}
 use Rattle.settings.specs.Items.{set_gives}
-use Rattle.camera.specs.{declared.{record.Camera.{Camera}, calls.Outcome.{Outcome}}, Record.{puts, record_well_formed}}
+use Rattle.camera.specs.declared.record.Camera.{Camera}
+use Rattle.camera.specs.Outcomes.{Outcome}
+use Rattle.camera.specs.Record.{puts, record_well_formed}
 use Rattle.camera.specs.Requests.{table, requested_code, outcome_of, refused, outcome_by, request_done, requested}
 use Rattle.camera.specs.{Loading.{load_code, load_code_under, loaded_under}, Writing.{write_code, written, written_out}}
 use Rattle.camera.specs.Calls.{record_code, streamed, sensed}

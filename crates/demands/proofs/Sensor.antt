@@ -4,13 +4,16 @@ use Prim.Native.Nat.{◌/◌}
 use lib.{Dec.{T}, IntN.{ℤ, pos, ◌*ℤ◌}, Signed.{le_z, le_z_yes, ◌≤ℤ◌}}
 use Rattle.wire.specs.{Numbers.{number, le_at, signed32}, Rows.{all_below}}
 use Rattle.wire.specs.Selectors as selector
-use Rattle.flags.specs.{declared.{Choice.{Choice}, Choice.TheVariants.{At, Refused}}, Flags.{is_set, bits_of, count, first, one_flag}}
+use Rattle.flags.specs.Flags.{Choice, is_set, bits_of, count, first, one_flag}
+use Rattle.std.specs.declared.option.Option.TheVariants.{Some, None}
 use Rattle.flags.proofs.Laws.Bits.{chosen_is}
 use Rattle.request.specs.Tests.{request_tests, value_tests, request_rows, request_code}
 use Rattle.controls.specs.{declared.EvSetting.{EvSetting}, Controls.{item_of, item_code, first_refusal}}
 use Rattle.controls.specs.declared.Setting.TheVariants as S
-use Rattle.exposure.specs.{declared.{EvLimits.{EvLimits}, HeldEv.{HeldEv}}, Exposure.{ev_valid, divisor, in_range, refusal_at}}
-use Rattle.exposure.specs.declared.HeldEv.TheVariants as E
+use Rattle.exposure.specs.declared.EvLimits.{EvLimits}
+use Rattle.controls.specs.Controls.{HeldEv}
+use Rattle.exposure.specs.Exposure.{ev_valid, divisor, in_range, refusal_at}
+use Rattle.std.specs.declared.option.Option.TheVariants as E
 use Rattle.exposure.specs.Exposure.{ev_refusal, ev_item, units_per_stop, scaled_at, scaled, sensor_value}
 use Rattle.exposure.proofs.Laws.Exposure.{accepts, steps_below, scaled_is}
 use Rattle.face.specs.Limits.{address_before, endpoint_valid, face_valid_under}
@@ -33,7 +36,7 @@ pub sensor_exact : (c : Camera) → record_well_formed c ≡ true → SensorExac
 unfolding sensed sensor_value settings_held value_refusal
 sensor_exact c w = record { code = rw w; held = unrounded; unset = λ e. rw (w, e) }
   where
-    unrounded : (s : EvSetting) → c.settings.ev ≡ E.Held s → Unrounded c s
+    unrounded : (s : EvSetting) → c.settings.ev ≡ E.Some s → Unrounded c s
     unrounded s e =
         let l = c.profile.ev in
         let g = (held_good c.profile c.settings w 0 (S.Ev s) (rw e)).1 in
@@ -64,15 +67,15 @@ else_zero false z h = zero_in_range
 
 value_in_range : (l : EvLimits) → ev_valid l ≡ true → (v : ℤ) (x : Choice) → SensorRange (scaled_at l v x)
 unfolding scaled_at
-value_in_range l h v Refused = zero_in_range
-value_in_range l h v (At place) =
+value_in_range l h v None = zero_in_range
+value_in_range l h v (Some place) =
     else_zero (in_range l (divisor place) v) (v *ℤ pos (units_per_stop / divisor place))
     (λ r. record { least = tested (least_units l h place v r); most = tested (most_units l h place v r) })
 
 setting_in_range : (l : EvLimits) (held : HeldEv) → SensorRange (sensor_value l held)
 unfolding sensor_value scaled
-setting_in_range l E.Unset = zero_in_range
-setting_in_range l (E.Held s) = else_zero (ev_valid l) _ (λ h. value_in_range l h s.value (one_flag l.steps s.flags))
+setting_in_range l E.None = zero_in_range
+setting_in_range l (E.Some s) = else_zero (ev_valid l) _ (λ h. value_in_range l h s.value (one_flag l.steps s.flags))
 
 pub sensor_in_range : (c : Camera) → SensorRange (sensed c).value
 unfolding sensed

@@ -8,7 +8,9 @@ use Rattle.wire.specs.Selectors as selector
 use Rattle.request.specs.Setup.{setup_w_length}
 use Rattle.request.specs.Theorems as unit
 use Rattle.snapshot.specs.{Keys.{key_for, longest_written}, Form.{well_formed}, Records.{decode}, Given.{over, last_of}}
-use Rattle.controls.specs.declared.{EvSetting.{EvSetting}, ThrottleSetting.{ThrottleSetting}, Item.TheVariants.{Given}}
+use Rattle.controls.specs.declared.EvSetting.{EvSetting}
+use Rattle.controls.specs.declared.ThrottleSetting.{ThrottleSetting}
+use Rattle.controls.specs.Controls.{Given}
 use Rattle.controls.specs.declared.Setting.TheVariants as S
 use Rattle.exposure.specs.Exposure.{ev_bytes}
 use Rattle.face.specs.{Limits.{endpoints_of, address_at}, Answers.{entry_of, held_at, flags_at}}

@@ -2,7 +2,10 @@
 use Rattle.std.specs.Prelude.{ℕ}
 use mathlib.Core.{List.{List, []}, Bool.{Bool}}
 use Rattle.std.specs.Prelude.{length}
-use Rattle.camera.specs.{declared.{record.Camera.{Camera}, calls.Outcome.{Outcome}}, Requests.{requested, requested_reply}, Loading.{loaded}}
+use Rattle.camera.specs.declared.record.Camera.{Camera}
+use Rattle.camera.specs.Outcomes.{Outcome}
+use Rattle.camera.specs.Requests.{requested, requested_reply}
+use Rattle.camera.specs.Loading.{loaded}
 use Rattle.camera.specs.{Writing.{written, written_out}, Calls.{streamed, sensed}}
 use Rattle.batch.specs.Batch.{batched, batched_out}
 

@@ -7,12 +7,12 @@ use Rattle.wire.specs.{Endpoints.{places, endpoint_limit}, Uvc.{get_cur, set_cur
 use Rattle.wire.specs.Selectors as selector
 use Rattle.request.specs.{Setup.{is_set_request, setup_selector}, Tests.{test_number}}
 use Rattle.snapshot.specs.{Keys.{length_with}, Form.{well_formed, stated_kind}, Records.{KeyedRecord, records_of}}
-use Rattle.exposure.specs.declared.HeldEv.TheVariants as E
-use Rattle.throttle.specs.declared.HeldThrottle.TheVariants as T
-use Rattle.controls.specs.declared.HeldNumber.TheVariants as N
+use Rattle.std.specs.declared.option.Option.TheVariants as E
 use Rattle.face.specs.{Limits.{endpoints_of, address_at}, Theorems.{ZerosFrom, first_places}}
 use Rattle.profile.specs.{declared.Profile.{Profile}, Profile.{has}}
-use Rattle.camera.specs.{declared.{record.Camera.{Camera}, calls.Outcome.{Outcome}}, Record.{record_well_formed, record_well_formed_under}}
+use Rattle.camera.specs.declared.record.Camera.{Camera}
+use Rattle.camera.specs.Outcomes.{Outcome}
+use Rattle.camera.specs.Record.{record_well_formed, record_well_formed_under}
 use Rattle.camera.specs.{Requests.{table, camera_answer, refused}, Loading.{loaded, loaded_under}, Writing.{snapshot}}
 use Rattle.demands.specs.Calls.{request, outcome}
 use Rattle.demands.specs.Loading.{first_fault}
@@ -59,11 +59,11 @@ full_camera = record {
   profile = full_profile;
   streaming = true;
   settings = record {
-    ev = E.Held (record { flags = 0x10; value = pos 1 });
+    ev = E.Some (record { flags = 0x10; value = pos 1 });
     face = replicate places 0x02;
-    metadata = N.Held 1;
-    hdr = N.Held 1;
-    throttle = T.Held (record { mode = 1; percent = 50 });
+    metadata = E.Some 1;
+    hdr = E.Some 1;
+    throttle = E.Some (record { mode = 1; percent = 50 });
   };
 }
 

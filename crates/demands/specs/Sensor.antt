@@ -2,9 +2,10 @@
 use Rattle.std.specs.Prelude.{ℕ, ◌*◌, ◌/◌, ◌^◌, ◌<◌}
 use mathlib.Core.{Path.{◌≡◌}, List.{[], ◌∷◌, map}, Bool.{true}}
 use lib.{IntN.{ℤ, pos, negsuc, ◌*ℤ◌}, Signed.{◌≤ℤ◌}}
-use Rattle.flags.specs.{declared.Choice.TheVariants.{At}, Flags.{one_flag}}
+use Rattle.std.specs.declared.option.Option.TheVariants.{Some}
+use Rattle.flags.specs.Flags.{one_flag}
 use Rattle.controls.specs.declared.EvSetting.{EvSetting}
-use Rattle.exposure.specs.declared.HeldEv.TheVariants as E
+use Rattle.std.specs.declared.option.Option.TheVariants as E
 use Rattle.exposure.specs.Exposure.{divisor, units_per_stop}
 use Rattle.profile.specs.declared.Profile.{Profile}
 use Rattle.camera.specs.{declared.record.Camera.{Camera}, Record.{fresh}, Calls.{sensed}}
@@ -19,7 +20,7 @@ StepUnits = map (λ place. units_per_stop / divisor place) (0 ∷ 1 ∷ 2 ∷ 3 
 -- the value.
 pub record Unrounded (c : Camera) (s : EvSetting) : Type 0 where
   pub place : ℕ
-  pub offered : one_flag c.profile.ev.steps s.flags ≡ At place
+  pub offered : one_flag c.profile.ev.steps s.flags ≡ Some place
   pub flag : s.flags < 2 ^ 56 → (s.flags ≡ 2 ^ place) × (place < 5)
   pub value : (sensed c).value ≡ s.value *ℤ pos (units_per_stop / divisor place)
   pub whole : divisor place * (units_per_stop / divisor place) ≡ units_per_stop
@@ -28,8 +29,8 @@ pub record Unrounded (c : Camera) (s : EvSetting) : Type 0 where
 -- What the sensor is handed, exactly; 0 while no setting is held.
 pub record SensorExact (c : Camera) : Type 0 where
   pub code : (sensed c).code ≡ 0
-  pub held : (s : EvSetting) → c.settings.ev ≡ E.Held s → Unrounded c s
-  pub unset : c.settings.ev ≡ E.Unset → (sensed c).value ≡ pos 0
+  pub held : (s : EvSetting) → c.settings.ev ≡ E.Some s → Unrounded c s
+  pub unset : c.settings.ev ≡ E.None → (sensed c).value ≡ pos 0
 
 -- The range of the sensor's number: 128 stops down to 127 up.
 pub record SensorRange (number : ℤ) : Type 0 where

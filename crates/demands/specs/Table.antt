@@ -6,7 +6,7 @@ use lib.{ListN.{length, replicate}, IntN.{ℤ, pos, negsuc}}
 use Rattle.wire.specs.Selectors as selector
 use Rattle.wire.specs.Uvc.{set_cur}
 use Rattle.request.specs.Setup.{is_set_request, setup_selector, setup_unit, setup_interface, setup_w_length}
-use Rattle.frame.specs.{declared.items.Counted.{Counted}, Items.{block_count, block_payload}}
+use Rattle.frame.specs.Items.{Counted, block_count, block_payload}
 use Rattle.camera.specs.{Requests.{requested}, Writing.{snapshot}, Calls.{sensed}}
 use Rattle.batch.specs.Packing.{Request}
 use Rattle.demands.specs.Calls.{Call, request}

@@ -8,17 +8,14 @@ ghost use Rattle.settings.specs.Held.{ev_held};
 ghost use Rattle.demands.specs.{Cameras.{setting_flags}, Programs.{OfProgram}};
 
 use camera::Camera;
-use exposure::HeldEv;
+use controls::EvSetting;
 use wire::endpoints;
 
-fn ev_typed(held: HeldEv)
+fn ev_typed(held: Option<EvSetting>)
     ensures { (s : Setting) → ev_held held ≡ some s → setting_flags s < 2 ^ 8 }
 {
-    match held {
-        HeldEv::Unset => {}
-        HeldEv::Held(s) => {
-            let _flags = s.flags;
-        }
+    if let Some(s) = held {
+        let _flags = s.flags;
     }
 }
 
@@ -40,11 +37,8 @@ fn maximum_typed(n: u32)
 pub fn of_program(camera: Camera)
     ensures { OfProgram camera }
 {
-    let settings = camera.settings;
-    let ev = settings.ev;
-    let face = settings.face;
-    ev_typed(ev);
-    face_typed(&face);
-    places_typed(face);
+    ev_typed(camera.settings.ev);
+    face_typed(&camera.settings.face);
+    places_typed(camera.settings.face);
     maximum_typed(camera.profile.metadata.maximum);
 }

@@ -1,3 +1,2 @@
--- What document 01 says of the snapshot of settings; last, the steps of the code.
+-- What document 01 says of the snapshot of settings.
 pub mod Encoding
-pub mod Steps

@@ -6,9 +6,12 @@ use lib.Dec.{lit≤}
 use borrow.Author.Tests.{ne_eqb}
 use Rattle.wire.specs.Uvc.{invalid_value}
 use Rattle.wire.proofs.Laws.Numbers.{Bytes, below}
-use Rattle.flags.specs.{declared.{Choice.{Choice}, Choice.TheVariants.{At, Refused}}, Flags.{one_flag}, Theorems.{Chooses}}
+use Rattle.flags.specs.Flags.{Choice, one_flag}
+use Rattle.std.specs.declared.option.Option.TheVariants.{Some, None}
+use Rattle.flags.specs.Theorems.{Chooses}
 use Rattle.flags.proofs.{Laws.Bits.{chosen_power}, Theorems.{all_choose}}
-use Rattle.controls.specs.declared.{Item.TheVariants.{Given}, Setting.TheVariants.{Face}}
+use Rattle.controls.specs.Controls.{Given}
+use Rattle.controls.specs.declared.Setting.TheVariants.{Face}
 use Rattle.face.specs.{declared.limits.FaceLimits.{FaceLimits}, Limits.{offers_of}}
 use Rattle.entries.specs.Entries.{entry_address, entry_flags, is_choice, face_refusal, entry_refusal, face_item}
 use Rattle.entries.specs.Theorems.{NewEndpoint, EntryFlag, EntryNoFlag, EntryTaken, AllEntriesByFlags}
@@ -49,8 +52,8 @@ module _ (l : FaceLimits) (payload : List ℕ) (b : Bytes payload) (i : ℕ) whe
       (record { listed = t.known; unseen = t.new }, go choice refl t.sound)
     where
       go : (c : Choice) → choice ≡ c → cond (is_choice c) 0 invalid_value ≡ 0 → (k : ℕ) × EntryFlag l payload i k
-      go (At k) f z = (k, (choices.chosen k).0 f)
-      go Refused f z = absurd (omega arith)
+      go (Some k) f z = (k, (choices.chosen k).0 f)
+      go None f z = absurd (omega arith)
 
 pub entry_by_flags : AllEntriesByFlags
 entry_by_flags l payload b i = record {

@@ -1,13 +1,15 @@
 -- Document 01, "Face": SET's value tests entry by entry, and settings held.
-use Rattle.std.specs.Prelude.{ℕ, zero, suc, ◌+◌, ◌*◌, ◌-◌}
+use Rattle.std.specs.Prelude.{ℕ, zero, suc, ◌+◌, ◌*◌, ◌-◌, Result, Ok, Err}
 use mathlib.Core.{List.{List, [], ◌∷◌}, Bool.{Bool, true, false, cond, not, ◌&&◌, ◌||◌}}
 use lib.{Dec.{leb, eqb}, ListN.{get_or, set}}
-use Rattle.wire.specs.{Endpoints.{first_address, places}, Numbers.{le_at}, Rows.{◌⇒◌, first_of, all_below}, Uvc.{invalid_value, out_of_range}}
-use Rattle.flags.specs.{declared.{Choice.{Choice}, Choice.TheVariants.{At, Refused}}, Flags.{one_flag}}
-use Rattle.controls.specs.{declared.Item.{Item}, Controls.{item_of, first_refusal}}
+use Rattle.wire.specs.{Endpoints.{first_address, places}, Numbers.{le_at}, Rows.{◌⇒◌, first_of, all_below}}
+use Rattle.wire.specs.Uvc.{invalid_value, out_of_range}
+use Rattle.flags.specs.Flags.{Choice, one_flag}
+use Rattle.std.specs.declared.option.Option.TheVariants.{Some, None}
+use Rattle.wire.specs.{declared.refusal.Refusal.{Refusal}, Refusals.{code_of}}
+use Rattle.controls.specs.Controls.{Item, item_of, first_refusal}
 use Rattle.controls.specs.declared.Setting.TheVariants as S
 use Rattle.face.specs.{declared.limits.FaceLimits.{FaceLimits}, Limits.{offers_of}}
-use Rattle.entries.specs.declared.FacesTaken.{FacesTaken}
 
 -- entry i of a payload
 abbrev pub entry_address : List ℕ → ℕ → ℕ
@@ -32,8 +34,8 @@ face_set_length l (n ∷ rest) = cond (leb n l.count) (1 + 8 * n) 0
 
 -- exactly one flag, and that one offered
 unfoldable pub is_choice : Choice → Bool
-is_choice (At place) = true
-is_choice Refused = false
+is_choice (Some place) = true
+is_choice None = false
 
 -- a setting's own test, and the last of an entry's
 unfoldable pub face_refusal : ℕ → ℕ → ℕ
@@ -89,6 +91,16 @@ put_face held address flags = cond (leb first_address address) (set held (addres
 unfoldable pub entries_put : List ℕ → List ℕ → ℕ → List ℕ
 entries_put held payload zero = held
 entries_put held payload (suc n) = put_face (entries_put held payload n) (entry_address payload n) (entry_flags payload n)
+
+-- document 01's number, and the settings by place
+pub record FacesTaken : Type 0 where
+  pub code : ℕ
+  pub held : List ℕ
+
+-- what the code's result comes to, where `held` are the settings that came in
+abbrev pub taken : List ℕ → Result (List ℕ) Refusal → FacesTaken
+taken held (Ok next) = record { code = 0; held = next }
+taken held (Err e) = record { code = code_of e; held = held }
 
 -- what a SET's payload comes to: the first refusal of its entries, or 0 and the settings with all of them
 unfoldable pub faces_taken : FaceLimits → List ℕ → List ℕ → FacesTaken

@@ -4,7 +4,8 @@ use mathlib.Core.{Path.{◌≡◌}, List.{List}, Bool.{false}, Logic.{◌↔◌}
 use Rattle.wire.specs.Uvc.{invalid_value}
 use Rattle.wire.proofs.Laws.Numbers.{Bytes}
 use Rattle.flags.specs.Theorems.{OnlyFlag, NoFlag}
-use Rattle.controls.specs.declared.{Item.TheVariants.{Given}, Setting.TheVariants.{Face}}
+use Rattle.controls.specs.Controls.{Given}
+use Rattle.controls.specs.declared.Setting.TheVariants.{Face}
 use Rattle.face.specs.{declared.limits.FaceLimits.{FaceLimits}, Limits.{offers_of}}
 use Rattle.entries.specs.Entries.{entry_address, seen_before, entry_refusal, face_item}
 

@@ -5,9 +5,13 @@ use native.Mathlib.Omega.{arith}
 use lib.{Dec.{lit≤}, IntN.{ℤ}}
 use Rattle.wire.specs.Uvc.{invalid_value, out_of_range}
 use Rattle.wire.proofs.Laws.Numbers.{Bytes, below}
-use Rattle.flags.specs.{declared.Choice.TheVariants.{At}, Flags.{one_flag}, Theorems.{OnlyFlag, NoFlag}}
+use Rattle.std.specs.declared.option.Option.TheVariants.{Some}
+use Rattle.flags.specs.Flags.{one_flag}
+use Rattle.flags.specs.Theorems.{OnlyFlag, NoFlag}
 use Rattle.flags.proofs.{Laws.Bits.{chosen_power}, Theorems.{all_choose}}
-use Rattle.controls.specs.declared.{Item.{Item}, Item.TheVariants.{Refused, Given}, Setting.{Setting}, Setting.TheVariants.{Ev}}
+use Rattle.controls.specs.Controls.{Item, Refused, Given}
+use Rattle.controls.specs.declared.Setting.{Setting}
+use Rattle.controls.specs.declared.Setting.TheVariants.{Ev}
 use Rattle.controls.proofs.Laws.Controls.{item_given, item_refused}
 use Rattle.exposure.specs.{declared.EvLimits.{EvLimits}, Exposure.{divisor, in_range, ev_flags, ev_value, ev_item}}
 use Rattle.exposure.specs.Theorems.{AllEvByFlags}
@@ -31,7 +35,7 @@ module _ (l : EvLimits) (payload : List ℕ) (b : Bytes payload) where
   unfolding ev_item
   by_value k o = go (in_range l (divisor k) v) refl
     where
-      e : one_flag l.steps flags ≡ At k
+      e : one_flag l.steps flags ≡ Some k
       e = ((all_choose payload b 0 l.steps).chosen k).1 o
 
       go : (c : Bool) → in_range l (divisor k) v ≡ c → ev_item l payload ≡ at k c

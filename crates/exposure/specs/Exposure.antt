@@ -3,10 +3,11 @@ use Rattle.std.specs.Prelude.{ℕ, ◌/◌}
 use mathlib.Core.{List.{List, [], ◌∷◌, ◌++◌}, Bool.{Bool, cond, ◌&&◌}}
 use lib.{Dec.{leb, ltb, eqb}, ListN.{get_or}, IntN.{ℤ, pos, negsuc, ◌*ℤ◌}, Signed.{le_z}}
 use Rattle.wire.specs.{Numbers.{le_at, bytes_of, signed32, bits32}, Uvc.{get_cur, get_max, get_min, get_res, invalid_value, out_of_range}}
-use Rattle.flags.specs.{declared.{Choice.{Choice}, Choice.TheVariants.{At, Refused}}, Flags.{one_flag}}
-use Rattle.exposure.specs.declared.{EvLimits.{EvLimits}, HeldEv.{HeldEv}}
-use Rattle.controls.specs.{declared.{EvSetting.{EvSetting}, Item.{Item}}, Controls.{item_of}}
-use Rattle.exposure.specs.declared.HeldEv.TheVariants as E
+use Rattle.flags.specs.Flags.{Choice, one_flag}
+use Rattle.std.specs.declared.option.Option.TheVariants.{Some, None}
+use Rattle.exposure.specs.declared.EvLimits.{EvLimits}
+use Rattle.controls.specs.{declared.EvSetting.{EvSetting}, Controls.{HeldEv, Item, item_of}}
+use Rattle.std.specs.declared.option.Option.TheVariants as E
 use Rattle.controls.specs.declared.Setting.TheVariants as S
 use Rattle.request.specs.Answers.{answer_by}
 
@@ -26,8 +27,8 @@ in_range l d v = le_z (l.minimum *ℤ pos d) v && le_z v (l.maximum *ℤ pos d)
 
 -- SET's value tests: exactly one flag and that one offered, then the value at that flag's step
 unfoldable pub refusal_at : EvLimits → ℤ → Choice → ℕ
-refusal_at l v Refused = invalid_value
-refusal_at l v (At place) = cond (in_range l (divisor place) v) 0 out_of_range
+refusal_at l v None = invalid_value
+refusal_at l v (Some place) = cond (in_range l (divisor place) v) 0 out_of_range
 
 unfoldable pub ev_refusal : EvLimits → ℕ → ℤ → ℕ
 ev_refusal l flags v = refusal_at l v (one_flag l.steps flags)
@@ -53,8 +54,8 @@ abbrev pub ev_default : EvSetting
 ev_default = record { flags = 16; value = pos 0 }
 
 unfoldable pub ev_current : HeldEv → EvSetting
-ev_current E.Unset = ev_default
-ev_current (E.Held s) = s
+ev_current E.None = ev_default
+ev_current (E.Some s) = s
 
 -- the flags and the value of an answer: MIN, MAX, RES, CUR, else DEF
 unfoldable pub ev_attribute : EvLimits → HeldEv → ℕ → EvSetting
@@ -73,13 +74,13 @@ abbrev pub units_per_stop : ℕ
 units_per_stop = 120
 
 unfoldable pub scaled_at : EvLimits → ℤ → Choice → ℤ
-scaled_at l v Refused = pos 0
-scaled_at l v (At place) = cond (in_range l (divisor place) v) (v *ℤ pos (units_per_stop / divisor place)) (pos 0)
+scaled_at l v None = pos 0
+scaled_at l v (Some place) = cond (in_range l (divisor place) v) (v *ℤ pos (units_per_stop / divisor place)) (pos 0)
 
 unfoldable pub scaled : EvLimits → EvSetting → ℤ
 scaled l s = cond (ev_valid l) (scaled_at l s.value (one_flag l.steps s.flags)) (pos 0)
 
 -- what the sensor is handed; 0 where no setting is held, or none that SET accepts
 unfoldable pub sensor_value : EvLimits → HeldEv → ℤ
-sensor_value l E.Unset = pos 0
-sensor_value l (E.Held s) = scaled l s
+sensor_value l E.None = pos 0
+sensor_value l (E.Some s) = scaled l s

@@ -4,7 +4,8 @@ use mathlib.Core.{Path.{◌≡◌}, List.{List}, Bool.{cond}, Logic.{◌↔◌}}
 use Rattle.wire.specs.Uvc.{invalid_value, out_of_range}
 use Rattle.wire.proofs.Laws.Numbers.{Bytes}
 use Rattle.flags.specs.Theorems.{OnlyFlag, NoFlag}
-use Rattle.controls.specs.declared.{Item.TheVariants.{Refused, Given}, Setting.TheVariants.{Ev}}
+use Rattle.controls.specs.Controls.{Refused, Given}
+use Rattle.controls.specs.declared.Setting.TheVariants.{Ev}
 use Rattle.exposure.specs.{declared.EvLimits.{EvLimits}, Exposure.{divisor, in_range, ev_value, ev_item}}
 
 -- A SET is 0x08 exactly where its first seven bytes have no one flag that is offered. Where they have flag k, the value answers: it is in

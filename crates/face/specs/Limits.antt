@@ -1,5 +1,5 @@
 -- Document 01, "Face": the endpoints that a profile lists.
-use Rattle.std.specs.Prelude.{ℕ, zero, suc, ◌-◌, ◌/◌, min, Bool, cond, ◌&&◌, ◌||◌}
+use Rattle.std.specs.Prelude.{ℕ, zero, suc, ◌-◌, ◌/◌, min, Bool, cond, ◌&&◌, ◌||◌, Option, Some, None}
 use lib.{Dec.{leb, ltb, eqb}, ListN.{get_or, length}}
 use Rattle.wire.specs.{Rows.{all_below}, Endpoints.{first_address, last_address, endpoint_limit, count_valid_under}}
 use Rattle.face.specs.declared.limits.FaceLimits.{FaceLimits}
@@ -49,6 +49,11 @@ offers_of l address = offers_from l address (endpoints_of l) 0
 unfoldable pub place_from : FaceLimits → ℕ → ℕ → ℕ → ℕ
 place_from l address zero i = endpoint_limit
 place_from l address (suc n) i = cond (eqb (address_at l i) address) i (place_from l address n (suc i))
+
+-- the place that the code finds, endpoint_limit where it finds none
+abbrev pub place_or_limit : Option ℕ → ℕ
+place_or_limit None = endpoint_limit
+place_or_limit (Some i) = i
 
 unfoldable pub place_of : FaceLimits → ℕ → ℕ
 place_of l address = place_from l address (endpoints_of l) 0

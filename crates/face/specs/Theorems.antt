@@ -1,7 +1,8 @@
 -- What an endpoint offers, and its default, by the places of flags; and what the limit of endpoints changes. proofs/Theorems proves each.
 use Rattle.std.specs.Prelude.{ℕ, ◌+◌, ◌≤◌, ◌<◌}
 use mathlib.Core.{Path.{◌≡◌}, Bool.{true, false, not, cond}, Logic.{◌↔◌}}
-use Rattle.flags.specs.{declared.Choice.TheVariants.{At}, Flags.{is_set, one_flag}}
+use Rattle.std.specs.declared.option.Option.TheVariants.{Some}
+use Rattle.flags.specs.Flags.{is_set, one_flag}
 use Rattle.std.specs.Prelude.{take}
 use Rattle.wire.specs.Endpoints.{places}
 use Rattle.face.specs.{declared.limits.FaceLimits.{FaceLimits}, Limits.{address_at, offers_at, offers_valid, face_valid_under, offers_of}}
@@ -18,7 +19,7 @@ OffersByFlags = (offers : ℕ) → offers < 256 → (offers_valid offers ≡ tru
 -- The default is exactly one flag, and offered, by the function that judges a SET's: D0 if that is offered, else the one of D1 and D2 that
 -- is.
 abbrev pub DefaultChosen : ℕ → Type 0
-DefaultChosen offers = one_flag offers (default_of offers) ≡ At (cond (is_set offers 0) 0 (cond (is_set offers 1) 1 2))
+DefaultChosen offers = one_flag offers (default_of offers) ≡ Some (cond (is_set offers 0) 0 (cond (is_set offers 1) 1 2))
 
 abbrev pub DefaultsChosen : Type 0
 DefaultsChosen = (offers : ℕ) → offers_valid offers ≡ true → DefaultChosen offers

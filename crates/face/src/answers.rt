@@ -26,14 +26,8 @@ fn default_of(offers: u8) -> u8
 fn held_at(held: [u8; endpoints::PLACES], address: u8) -> u8
     ensures { result ≡ held_at held address }
 {
-    if address <= endpoints::FIRST {
-        return held[0];
-    }
-    let i = (address - endpoints::FIRST) as usize;
-    if i < endpoints::PLACES {
-        return held[i];
-    }
-    0
+    let place = address.saturating_sub(endpoints::FIRST);
+    wire::byte(&held, usize::from(place))
 }
 
 // The flags of place i in an answer that lists every endpoint.
@@ -43,17 +37,14 @@ fn flags_at(l: FaceLimits, held: [u8; endpoints::PLACES], code: u8, i: usize) ->
     ensures { result ≡ flags_at l held code i }
 {
     let offers = l.offers[i];
-    if code == uvc::GET_MAX {
-        return offers;
+    match code {
+        uvc::GET_MAX => offers,
+        uvc::GET_CUR => match held_at(held, l.addresses[i]) {
+            0 => default_of(offers),
+            flags => flags,
+        },
+        _ => default_of(offers),
     }
-    if code != uvc::GET_CUR {
-        return default_of(offers);
-    }
-    let flags = held_at(held, l.addresses[i]);
-    if flags == 0 {
-        return default_of(offers);
-    }
-    flags
 }
 
 // CUR, MIN, MAX, RES and DEF.
@@ -61,16 +52,14 @@ fn value(l: FaceLimits, held: [u8; endpoints::PLACES], code: u8) -> Answer
     ensures { result ≡ packed (face_value l held code) }
 {
     let mut bytes = [0u8; LONGEST_ANSWER];
-    if (code == uvc::GET_MIN) | (code == uvc::GET_RES) {
+    if code == uvc::GET_MIN || code == uvc::GET_RES {
         return Answer { bytes, len: 1 };
     }
     let n = endpoints_of(l);
     bytes[0] = n as u8;
-    let mut i = 0;
-    while i < n {
-        let e = entry_of(l.addresses[i], flags_at(l, held, code, i));
-        wire::copy(&mut bytes, 1 + 8 * i, &e);
-        i += 1;
+    for i in 0..n {
+        let entry = entry_of(l.addresses[i], flags_at(l, held, code, i));
+        wire::copy(&mut bytes, 1 + 8 * i, &entry);
     }
     Answer {
         bytes,
@@ -81,8 +70,6 @@ fn value(l: FaceLimits, held: [u8; endpoints::PLACES], code: u8) -> Answer
 pub fn answer(l: FaceLimits, held: [u8; endpoints::PLACES], code: u8) -> Answer
     ensures { result ≡ packed (face_answer l held code) }
 {
-    let v = value(l, held, code);
-    let n = v.len;
-    let b = v.bytes;
-    answer_by(code, 1 + 8 * endpoints_of(l), 0x03, &b[..n])
+    let value = value(l, held, code);
+    answer_by(code, 1 + 8 * endpoints_of(l), 0x03, value.as_slice())
 }

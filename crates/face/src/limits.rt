@@ -1,7 +1,7 @@
 // The endpoints that a profile lists, and the place of an address among them.
-ghost use Rattle.std.specs.Prelude.{◌≡◌, ◌<◌, ◌≤◌};
+ghost use Rattle.std.specs.Prelude.{◌≡◌, ◌<◌, ◌≤◌, IfSome};
 ghost use Rattle.wire.specs.Endpoints.{endpoint_limit};
-ghost use Rattle.face.specs.Limits.{endpoints_of, address_before, endpoint_valid, face_valid, place_of, offers_of};
+ghost use Rattle.face.specs.Limits.{endpoints_of, address_before, endpoint_valid, face_valid, place_of, place_or_limit, offers_of};
 
 use wire::endpoints;
 
@@ -19,7 +19,7 @@ pub struct FaceLimits {
 pub fn endpoints_of(l: FaceLimits) -> usize
     ensures { (result ≡ endpoints_of l) × (result ≤ endpoint_limit) }
 {
-    wire::min(l.count as usize, endpoints::LIMIT)
+    usize::from(l.count).min(endpoints::LIMIT)
 }
 
 // The address that place i's has to be above.
@@ -29,10 +29,10 @@ fn address_before(l: FaceLimits, i: usize) -> u8
     ensures { result ≡ address_before l i }
 {
     if i == 0 {
-        return endpoints::FIRST - 1;
+        endpoints::FIRST - 1
+    } else {
+        l.addresses[i - 1]
     }
-    let j = i - 1;
-    l.addresses[j]
 }
 
 #[tactic(auto, unfolding(crate::specs::Limits::endpoint_valid))]
@@ -42,42 +42,28 @@ fn endpoint_valid(l: FaceLimits, i: usize) -> bool
 {
     let address = l.addresses[i];
     let offers = l.offers[i];
-    if i < (l.count as usize) {
-        (address_before(l, i) < address)
-            & (address <= LAST)
-            & ((offers / 2 == 1) | (offers / 2 == 2))
+    if i < usize::from(l.count) {
+        address_before(l, i) < address && address <= LAST && matches!(offers / 2, 1 | 2)
     } else {
-        (address == 0) & (offers == 0)
+        address == 0 && offers == 0
     }
 }
 
-#[tactic(auto, unfolding(wire::specs::Rows::all_below, crate::specs::Limits::face_valid_under))]
+#[tactic(auto, unfolding(crate::specs::Limits::face_valid_under))]
 pub fn valid(l: FaceLimits) -> bool
     ensures { result ≡ face_valid l }
 {
-    let mut ok = true;
-    let mut i = 0;
-    while i < endpoints::LIMIT {
-        ok = ok & endpoint_valid(l, i);
-        i += 1;
-    }
-    endpoints::count_valid(l.count) & ok
+    endpoints::count_valid(l.count) && (0..endpoints::LIMIT).all(|i| endpoint_valid(l, i))
 }
 
-// The first place that lists an address, or LIMIT.
-#[tactic(auto, using(crate::proofs::Laws::Limits::look_up), unfolding(crate::specs::Limits::place_of, crate::specs::Limits::place_from))]
-pub fn place_of(l: FaceLimits, address: u8) -> usize
-    ensures { result ≡ place_of l address }
+// The first place that lists an address.
+pub fn place_of(l: FaceLimits, address: u8) -> Option<usize>
+    ensures value { place_or_limit result ≡ place_of l address }
+    ensures within { IfSome result (λ i. i < endpoint_limit) }
 {
-    let n = endpoints_of(l);
-    let mut i = 0;
-    while i < n {
-        if l.addresses[i] == address {
-            return i;
-        }
-        i += 1;
-    }
-    endpoints::LIMIT
+    l.addresses[..endpoints_of(l)]
+        .iter()
+        .position(|a| *a == address)
 }
 
 // The flags that the endpoint at an address offers; 0 where it isn't listed.
@@ -85,9 +71,8 @@ pub fn place_of(l: FaceLimits, address: u8) -> usize
 pub fn offers_of(l: FaceLimits, address: u8) -> u8
     ensures { result ≡ offers_of l address }
 {
-    let i = place_of(l, address);
-    if i < endpoints::LIMIT {
-        return l.offers[i];
+    match place_of(l, address) {
+        None => 0,
+        Some(i) => l.offers[i],
     }
-    0
 }

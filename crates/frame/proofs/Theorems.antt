@@ -3,7 +3,7 @@ use Prim.Native.Nat.{ℕ, ◌^◌, ◌≤◌, ◌<◌}
 use mathlib.Core.{Path.{◌≡◌, refl, sym, ap, ◌∙◌}, List.{List, [], ◌∷◌, ◌++◌}, Bool.{true}}
 use native.Mathlib.Omega.{arith}
 use lib.ListN.{length, take, length-append, get_or-append}
-use Rattle.frame.specs.{declared.{items.Found.{Found}, view.ItemView.{ItemView}}, Codes.{longest_block}, View.{Views}}
+use Rattle.frame.specs.{Items.{Found}, Codes.{longest_block}, View.{ItemView, Views}}
 use Rattle.frame.specs.{Ids.{is_known, is_newer}, Cut.{without_unknown, known_of, known_index}}
 use Rattle.frame.specs.Items.{MetadataItem, absent, BlockReading, refused, sound, block_items, nth_item, found_in, count_in}
 use Rattle.frame.specs.Items.{Readable, block_item, block_count, block_payload}

@@ -3,8 +3,7 @@
 use Rattle.std.specs.Prelude.{ℕ, zero, suc}
 use mathlib.Core.{List.{List, [], ◌∷◌, ◌++◌}, Bool.{cond}}
 use Rattle.std.specs.Prelude.{length, take, drop}
-use Rattle.frame.specs.declared.{items.Head.{Head}, items.Head.TheVariants.{Bad, Whole}}
-use Rattle.frame.specs.{Ids.{is_known}, Items.{MetadataItem, first_item}}
+use Rattle.frame.specs.{Ids.{is_known}, Items.{MetadataItem, Head, Bad, Whole, first_item}}
 
 -- what stays of the item of this id and size that bytes begin with: all its bytes if it is known, else none
 abbrev pub kept : List ℕ → (id size : ℕ) → List ℕ

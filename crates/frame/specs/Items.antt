@@ -4,9 +4,8 @@ use Rattle.std.specs.Prelude.{ℕ, zero, suc, ◌-◌, ◌+◌, ◌^◌, ◌<◌
 use mathlib.Core.{Path.{◌≡◌}, List.{List, [], ◌∷◌}, Bool.{Bool, true, false, not, cond}}
 use lib.{ListN.{length, take, drop}, Dec.{ltb, eqb}}
 use Rattle.wire.specs.{Numbers.{le_at}, Rows.{◌⇒◌, first_of}, Parts.{bytes_at, nowhere}}
-use Rattle.frame.specs.declared.{items.Head.{Head}, items.Head.TheVariants.{Bad, Whole}}
+use Rattle.wire.specs.declared.parts.Part.{Part}
 use Rattle.frame.specs.{Codes.{truncated, invalid_id, short_size, too_long, longest_block, no_item}, Ids.{is_known, is_readable}}
-use Rattle.frame.specs.declared.{items.Found.{Found}, items.Counted.{Counted}}
 
 -- an item: its id, and the bytes of its payload
 pub record MetadataItem : Type 0 where
@@ -48,7 +47,12 @@ item_refusal_under takes s =
     ∷ (ltb (length s) (item_size s) ⇒ truncated)
     ∷ [])
 
--- that item by itself: its refusal, or its id and size
+-- one item by itself: its refusal, or its id and its size
+pub data Head : Type 0 where
+  Bad : ℕ → Head
+  Whole : (id size : ℕ) → Head
+
+-- that item
 unfoldable pub first_item_under : (ℕ → Bool) → List ℕ → Head
 first_item_under takes s =
     cond (eqb (item_refusal_under takes s) 0) (Whole (item_id s) (item_size s)) (Bad (item_refusal_under takes s))
@@ -97,6 +101,18 @@ items_from = items_from_under is_readable
 
 abbrev pub block_items : List ℕ → BlockReading
 block_items = block_items_under is_readable
+
+-- an item's id, whether it is unknown, and the place of its payload, with code 0; or a refusal
+pub record Found : Type 0 where
+  pub code : ℕ
+  pub id : ℕ
+  pub unknown : Bool
+  pub payload : Part
+
+-- how many items a sound block has, with code 0; or a refusal, with none
+pub record Counted : Type 0 where
+  pub code : ℕ
+  pub items : ℕ
 
 -- a refusal: id 0, no mark and an empty part
 abbrev pub refused_item : ℕ → Found

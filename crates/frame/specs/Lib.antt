@@ -5,6 +5,7 @@ pub mod Items
 pub mod View
 pub mod Steps
 pub mod Writer
+pub mod Answers
 pub mod Cut
 pub mod Calls
 pub mod Theorems

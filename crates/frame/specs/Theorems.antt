@@ -4,11 +4,11 @@ use mathlib.Core.{Path.{◌≡◌}, List.{List, [], ◌∷◌, ◌++◌}, Bool.{
 use Rattle.std.specs.Prelude.{length, take, get_or}
 use Rattle.std.specs.Borrow.{Bor}
 use Rattle.wire.specs.Parts.{nowhere}
-use Rattle.frame.specs.{declared.{writer.Appended.{Appended}, view.ItemView.{ItemView}}, Codes.{invalid_id, no_item}}
+use Rattle.frame.specs.{View.{ItemView}, Codes.{invalid_id, no_item}}
 use Rattle.frame.specs.{Ids.{is_known, is_newer}, Cut.{without_unknown, known_of, known_index}}
 use Rattle.frame.specs.Items.{MetadataItem, absent, BlockReading, refused, sound, block_items_under, block_items, refused_item, found_in}
 use Rattle.frame.specs.Items.{Readable, count_in, block_item, block_count, block_payload}
-use Rattle.frame.specs.{Writer.{layout, Writable, appended_of, written_of}, Calls.{FrameCall, frame_lent, FrameOutcome}}
+use Rattle.frame.specs.{Writer.{layout, Writable, Appended, appended_of, written_of}, Calls.{FrameCall, frame_lent, FrameOutcome}}
 
 -- each of them is x
 abbrev pub All : {A : Type 0} → A → List A → Type 0

@@ -3,7 +3,7 @@ use Rattle.std.specs.Prelude.{ℕ, ◌+◌}
 use mathlib.Core.{List.{List, [], ◌∷◌, ◌++◌}, Bool.{not, cond}}
 use lib.{ListN.{length}, Dec.{ltb, eqb}}
 use Rattle.wire.specs.{Numbers.{bytes_of}, Writes.{overlay}, Uvc.{no_room}, Rows.{◌⇒◌, first_of}}
-use Rattle.frame.specs.{declared.writer.Appended.{Appended}, Codes.{invalid_id, too_long, longest_block}, Ids.{is_known}}
+use Rattle.frame.specs.{Codes.{invalid_id, too_long, longest_block}, Ids.{is_known}}
 use Rattle.frame.specs.Items.{MetadataItem, EachId}
 
 -- id, size of the whole item, payload
@@ -30,6 +30,11 @@ append_refusal room at id len =
     ∷ (ltb longest_block (end_of at len) ⇒ too_long)
     ∷ (ltb room (end_of at len) ⇒ no_room)
     ∷ [])
+
+-- the place behind the item, with code 0; or a refusal, with 0
+pub record Appended : Type 0 where
+  pub code : ℕ
+  pub end : ℕ
 
 -- the answer: the end of the item, or the refusal and 0
 unfoldable pub appended_of : (room at id len : ℕ) → Appended

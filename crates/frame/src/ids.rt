@@ -15,7 +15,7 @@ const FIRST_CUSTOM: u32 = 0x8000_0000;
 pub(crate) fn is_known(id: u32) -> bool
     ensures { result ≡ is_known id }
 {
-    ((1 <= id) & (id <= LAST_STANDARD)) | (FIRST_CUSTOM <= id)
+    matches!(id, 1..=LAST_STANDARD | FIRST_CUSTOM..)
 }
 
 // The ids that a reader takes: all but 0.

@@ -2,16 +2,18 @@
 // A block is read item by item, each item once in a call, and a payload is handed back as a part of the block, with no copy; an id that
 // 01 does not know is marked (#105 of document 02). The writer puts one item, of a known id, at a place of a lent buffer.
 // The rules for ids, the longest block and the refusals' numbers each stand in one place.
-// Every function takes any bytes: what is refused gets its number, with zeros, no mark and an empty part, and no byte is written.
+// Every function takes any bytes; where it refuses, no byte is written.
 #![tactic(auto)]
 
-mod codes;
+mod blocks;
 mod ids;
 mod items;
+mod refusals;
 mod view;
 mod writer;
 
-pub use codes::{ACCEPTED, INVALID_ID, NO_ITEM, SHORT_SIZE, TOO_LONG, TRUNCATED};
-pub use items::{Counted, Found, LONGEST_BLOCK, count, item};
+pub use blocks::{LONGEST_BLOCK, count, item};
+pub use items::Item;
+pub use refusals::Refusal;
 pub use view::{ItemView, item_view};
-pub use writer::{Appended, append};
+pub use writer::append;

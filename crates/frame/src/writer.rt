@@ -1,42 +1,29 @@
 // Writing one item at a place of a lent buffer. What stands before the place is not read.
 ghost use Rattle.std.specs.Prelude.{◌≡◌, ◌+◌, ◌≤◌, length};
 ghost use Rattle.wire.specs.Writes.{overlay};
-ghost use Rattle.frame.specs.Writer.{item_bytes, append_refusal, appended_of, written_of};
+ghost use Rattle.frame.specs.{Answers.{told_end}, Writer.{item_bytes, appended_of, written_of}};
 
-use crate::codes;
+use crate::blocks::LONGEST_BLOCK;
 use crate::ids::is_known;
-use crate::items::{ITEM_HEADER, LONGEST_BLOCK};
-use wire::uvc;
+use crate::items::ITEM_HEADER;
+use crate::refusals::Refusal;
 
-// The place behind the item, with code 0; or a refusal, with 0.
-#[derive(Clone, Copy)]
-pub struct Appended {
-    pub code: u8,
-    pub end: usize,
-}
-
-// The refusal of an item of `len` payload bytes at a place in `room` bytes, or 0. No sum can wrap.
-#[tactic(auto, unfolding(crate::specs::Writer::append_refusal))]
-fn append_refusal(room: usize, at: usize, id: u32, len: usize) -> u8
-    ensures { result ≡ append_refusal room at id len }
+// Where an item of `len` payload bytes at a place in `room` bytes ends, if it may be written. No sum can wrap.
+#[tactic(auto, unfolding(crate::specs::Writer::append_refusal, crate::specs::Writer::appended_of))]
+fn item_end(room: usize, at: usize, id: u32, len: usize) -> Result<usize, Refusal>
+    ensures { told_end result ≡ appended_of room at id len }
 {
     if !is_known(id) {
-        return codes::INVALID_ID;
+        return Err(Refusal::InvalidId);
     }
-    if LONGEST_BLOCK < at {
-        return codes::TOO_LONG;
-    }
-    if LONGEST_BLOCK < len {
-        return codes::TOO_LONG;
-    }
-    let end = at + ITEM_HEADER + len;
+    let end = at.saturating_add(ITEM_HEADER).saturating_add(len);
     if LONGEST_BLOCK < end {
-        return codes::TOO_LONG;
+        return Err(Refusal::TooLong);
     }
     if room < end {
-        return uvc::NO_ROOM;
+        return Err(Refusal::NoRoom);
     }
-    codes::ACCEPTED
+    Ok(end)
 }
 
 // Writes the item where there is room.
@@ -51,19 +38,13 @@ fn put_item(buf: &mut [u8], at: usize, id: u32, payload: &[u8])
     wire::copy(buf, at + ITEM_HEADER, payload);
 }
 
-// Puts the item with this id and payload at a place of the buffer. Only the item's bytes change.
+// Puts the item with this id and payload at a place of the buffer, and hands back the place behind it. Only the item's bytes change.
 #[tactic(auto, using(crate::proofs::Laws::Append::accepted), unfolding(crate::specs::Writer::appended_of, crate::specs::Writer::written_of))]
-pub fn append(buf: &mut [u8], at: usize, id: u32, payload: &[u8]) -> Appended
-    ensures { (result ≡ appended_of (length buf.old) at id (length payload.now))
+pub fn append(buf: &mut [u8], at: usize, id: u32, payload: &[u8]) -> Result<usize, Refusal>
+    ensures { (told_end result ≡ appended_of (length buf.old) at id (length payload.now))
         × (buf.new ≡ written_of buf.old at id payload.now) }
 {
-    let code = append_refusal(buf.len(), at, id, payload.len());
-    if code != codes::ACCEPTED {
-        return Appended { code, end: 0 };
-    }
+    let end = item_end(buf.len(), at, id, payload.len())?;
     put_item(buf, at, id, payload);
-    Appended {
-        code: codes::ACCEPTED,
-        end: at + ITEM_HEADER + payload.len(),
-    }
+    Ok(end)
 }

@@ -3,7 +3,7 @@ use Rattle.std.specs.Prelude.{ℕ}
 use mathlib.Core.{List.{List, [], ◌∷◌}, Bool.{cond, not, ◌&&◌}}
 use Rattle.std.specs.Prelude.{ltb, eqb}
 use Rattle.wire.specs.{Numbers.{le_at, bytes_of}, Rows.{◌⇒◌, first_of}, Uvc.{get_cur, get_max, invalid_value, out_of_range}}
-use Rattle.controls.specs.{declared.{HeldNumber.{HeldNumber}, Item.{Item}}, Controls.{item_of, number_or}}
+use Rattle.controls.specs.{Controls.{HeldNumber, Item, item_of, number_or}}
 use Rattle.hdr.specs.declared.HdrLimits.{HdrLimits}
 use Rattle.controls.specs.declared.Setting.TheVariants as S
 use Rattle.request.specs.Answers.{answer_by}

@@ -3,12 +3,14 @@
 #![tactic(auto)]
 
 ghost use Rattle.std.specs.Prelude.{◌≡◌};
+ghost use Rattle.wire.specs.Refusals.{verdict};
+ghost use Rattle.controls.specs.Controls.{item};
 ghost use Rattle.request.specs.Answers.{packed};
 ghost use Rattle.hdr.specs.Hdr.{hdr_refusal, hdr_item, hdr_attribute, hdr_answer};
 
-use controls::{HeldNumber, Item, Setting, item_of, number_or};
+use controls::{Setting, item_of};
 use request::{Answer, answer_by};
-use wire::uvc;
+use wire::{Refusal, uvc};
 
 // Whether Auto is offered.
 #[derive(Clone, Copy)]
@@ -18,51 +20,43 @@ pub struct HdrLimits {
 
 // SET's value tests, and those of a setting held.
 #[tactic(auto, unfolding(crate::specs::Hdr::hdr_refusal))]
-pub fn refusal(l: HdrLimits, n: u32) -> u8
-    ensures { result ≡ hdr_refusal l n }
+pub fn check(l: HdrLimits, n: u32) -> Result<(), Refusal>
+    ensures { verdict result ≡ hdr_refusal l n }
 {
-    if 2 < n {
-        return uvc::OUT_OF_RANGE;
+    match n {
+        0 | 1 => Ok(()),
+        2 if l.auto => Ok(()),
+        2 => Err(Refusal::InvalidValue),
+        _ => Err(Refusal::OutOfRange),
     }
-    if n != 2 {
-        return 0;
-    }
-    if l.auto {
-        return 0;
-    }
-    uvc::INVALID_VALUE
 }
 
 // What a SET's payload comes to.
 #[tactic(auto, unfolding(crate::specs::Hdr::hdr_item))]
-pub fn item(l: HdrLimits, payload: &[u8]) -> Item
-    ensures { result ≡ hdr_item l payload.now }
+pub fn item(l: HdrLimits, payload: &[u8]) -> Result<Setting, Refusal>
+    ensures { item result ≡ hdr_item l payload.now }
 {
     let n = wire::le32(payload, 0);
-    item_of(refusal(l, n), Setting::Hdr(n))
+    item_of(check(l, n), Setting::Hdr(n))
 }
 
 // The number that a GET asks for.
-#[tactic(auto, unfolding(crate::specs::Hdr::hdr_attribute))]
-fn attribute(l: HdrLimits, held: HeldNumber, code: u8) -> u32
+#[tactic(auto, using(controls::proofs::Laws::Controls::number_read), unfolding(crate::specs::Hdr::hdr_attribute))]
+fn attribute(l: HdrLimits, held: Option<u32>, code: u8) -> u32
     ensures { result ≡ hdr_attribute l held code }
 {
-    if code == uvc::GET_MAX {
-        if l.auto {
-            return 3;
-        }
-        return 1;
+    match code {
+        uvc::GET_MAX if l.auto => 3,
+        uvc::GET_MAX => 1,
+        uvc::GET_CUR => held.unwrap_or(0),
+        _ => 0,
     }
-    if code == uvc::GET_CUR {
-        return number_or(0, held);
-    }
-    0
 }
 
 #[tactic(auto, unfolding(crate::specs::Hdr::hdr_answer))]
-pub fn answer(l: HdrLimits, held: HeldNumber, code: u8) -> Answer
+pub fn answer(l: HdrLimits, held: Option<u32>, code: u8) -> Answer
     ensures { result ≡ packed (hdr_answer l held code) }
 {
-    let b = wire::bytes32(attribute(l, held, code));
+    let b = wire::bytes::<4>(u64::from(attribute(l, held, code)));
     answer_by(code, 4, 0x03, &b)
 }

@@ -2,27 +2,25 @@
 // Document 01, "Settings sheet", and demand 3's sentences on merging. Merging looks at form only, never at the values that records carry.
 #![tactic(auto)]
 
+ghost use Rattle.std.specs.Prelude.{ℕ, min};
 ghost use mathlib.Core.{Path.{◌≡◌}, Bool.{true}};
 ghost use lib.{ListN.{length}, Dec.{leb}};
-ghost use Rattle.wire.specs.Writes.{overlay};
-ghost use Rattle.snapshot.specs.Form.{well_formed};
+ghost use Rattle.wire.specs.{Refusals.{verdict, count_of}, Writes.{overlay}};
+ghost use Rattle.snapshot.specs.{Form.{well_formed}, Records.{some_key}};
 ghost use Rattle.merging.specs.Merging.{merged, merge_code, merge_len, merge_out};
 
-use snapshot::{LONGEST, key_at, record_length, well_formed};
-use wire::{Part, uvc};
+use snapshot::{LONGEST, key_at, record_length};
+use wire::{Part, Refusal};
 
-// The verdict, and how many bytes the merged snapshot has; 0 where it is refused.
-#[derive(Clone, Copy)]
-pub struct Merged {
-    pub code: u8,
-    pub len: usize,
-}
-
-// A refusal reports no bytes.
-fn refused(code: u8) -> Merged
-    ensures { (result.code ≡ code) × (result.len ≡ 0) }
+// The lesser of two keys, or the one that there is.
+fn lesser(x: Option<usize>, y: Option<usize>) -> Option<usize>
+    ensures { (i j : ℕ) → x ≡ some_key i → y ≡ some_key j → result ≡ some_key (min i j) }
 {
-    Merged { code, len: 0 }
+    match (x, y) {
+        (Some(k), Some(l)) => Some(k.min(l)),
+        (Some(_), None) => x,
+        (None, _) => y,
+    }
 }
 
 // Writes the merged snapshot over the start of out, as far as out reaches, and returns how long all of it is.
@@ -37,26 +35,23 @@ fn write_merged(first: &[u8], second: &[u8], out: &mut [u8]) -> usize
     let mut b = 0;
     let mut y = key_at(second, 0);
     let mut n = 0;
-    while wire::min(x, y) < snapshot::KEYS {
-        if x < y {
-            let size = record_length(x);
-            wire::copy(out, n, wire::part_at(first, Part { at: a, len: size }));
-            n += size;
-            a += size;
-            x = key_at(first, a);
-            continue;
-        }
-        // Of equal keys the first's record is passed over.
+    while let Some(key) = lesser(x, y) {
+        let len = record_length(key);
         if x == y {
-            a += record_length(x);
+            // Of equal keys the first's record is passed over.
+            a += len;
             x = key_at(first, a);
-            continue;
+        } else if x == Some(key) {
+            wire::copy(out, n, wire::part_at(first, Part { at: a, len }));
+            n += len;
+            a += len;
+            x = key_at(first, a);
+        } else {
+            wire::copy(out, n, wire::part_at(second, Part { at: b, len }));
+            n += len;
+            b += len;
+            y = key_at(second, b);
         }
-        let size = record_length(y);
-        wire::copy(out, n, wire::part_at(second, Part { at: b, len: size }));
-        n += size;
-        b += size;
-        y = key_at(second, b);
     }
     n
 }
@@ -75,22 +70,16 @@ fn has_room(first: &[u8], second: &[u8], room: usize) -> bool
     write_merged(first, second, &mut none) <= room
 }
 
-// Merges two snapshots into the start of out: a form fault of either is 0x22, then room short of the merged snapshot 0x20.
-#[tactic(auto, using(wire::proofs::Laws::Writes::fits_start), unfolding(crate::specs::Merging::merge_code, crate::specs::Merging::merge_len, crate::specs::Merging::merge_out))]
-pub fn merge(first: &[u8], second: &[u8], out: &mut [u8]) -> Merged
-    ensures code_value { result.code ≡ merge_code first.now second.now out.old }
-    ensures len_value { result.len ≡ merge_len first.now second.now out.old }
+// Merges two snapshots into the start of out, and says how many bytes that is: a form fault of either is refused, then room short of it.
+pub fn merge(first: &[u8], second: &[u8], out: &mut [u8]) -> Result<usize, Refusal>
+    ensures code_value { verdict result ≡ merge_code first.now second.now out.old }
+    ensures len_value { count_of result ≡ merge_len first.now second.now out.old }
     ensures out_after { out.new ≡ merge_out first.now second.now out.old }
 {
-    if !well_formed(first) {
-        return refused(uvc::MALFORMED_SNAPSHOT);
-    }
-    if !well_formed(second) {
-        return refused(uvc::MALFORMED_SNAPSHOT);
-    }
+    snapshot::check(first)?;
+    snapshot::check(second)?;
     if !has_room(first, second, out.len()) {
-        return refused(uvc::NO_ROOM);
+        return Err(Refusal::NoRoom);
     }
-    let n = write_merged(first, second, out);
-    Merged { code: 0, len: n }
+    Ok(write_merged(first, second, out))
 }

@@ -4,7 +4,7 @@ use mathlib.Core.{List.{List, [], ◌∷◌}, Bool.{Bool, cond, not, ◌||◌}}
 use Rattle.std.specs.Prelude.{leb, ltb, eqb}
 use Rattle.wire.specs.{Numbers.{le_at, bytes_of}, Rows.{◌⇒◌, first_of}, Uvc.{get_cur, get_max, get_res, invalid_value, out_of_range}}
 use Rattle.metadata.specs.declared.MetadataLimits.{MetadataLimits}
-use Rattle.controls.specs.{declared.{HeldNumber.{HeldNumber}, Item.{Item}}, Controls.{item_of, number_or}}
+use Rattle.controls.specs.{Controls.{HeldNumber, Item, item_of, number_or}}
 use Rattle.controls.specs.declared.Setting.TheVariants as S
 use Rattle.request.specs.Answers.{answer_by}
 

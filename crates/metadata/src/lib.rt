@@ -3,13 +3,15 @@
 #![tactic(auto)]
 
 ghost use Rattle.std.specs.Prelude.{◌≡◌};
+ghost use Rattle.wire.specs.Refusals.{verdict};
+ghost use Rattle.controls.specs.Controls.{item};
 ghost use Rattle.request.specs.Answers.{packed};
 ghost use Rattle.metadata.specs.Metadata.{metadata_valid, metadata_refusal, metadata_item, metadata_attribute, metadata_info};
 ghost use Rattle.metadata.specs.Metadata.{metadata_answer};
 
-use controls::{HeldNumber, Item, Setting, item_of, number_or};
+use controls::{Setting, item_of};
 use request::{Answer, answer_by};
-use wire::uvc;
+use wire::{Refusal, uvc};
 
 #[derive(Clone, Copy)]
 pub struct MetadataLimits {
@@ -25,48 +27,39 @@ pub fn valid(l: MetadataLimits) -> bool
 
 // SET's value tests, and those of a setting held.
 #[tactic(auto, unfolding(crate::specs::Metadata::metadata_refusal))]
-pub fn refusal(l: MetadataLimits, n: u32) -> u8
-    ensures { result ≡ metadata_refusal l n }
+pub fn check(l: MetadataLimits, n: u32) -> Result<(), Refusal>
+    ensures { verdict result ≡ metadata_refusal l n }
 {
     if l.maximum < n {
-        return uvc::OUT_OF_RANGE;
+        return Err(Refusal::OutOfRange);
     }
-    if n == 0 {
-        return 0;
+    if n != 0 && n != l.maximum {
+        return Err(Refusal::InvalidValue);
     }
-    if n == l.maximum {
-        return 0;
-    }
-    uvc::INVALID_VALUE
+    Ok(())
 }
 
 // What a SET's payload comes to.
 #[tactic(auto, unfolding(crate::specs::Metadata::metadata_item))]
-pub fn item(l: MetadataLimits, payload: &[u8]) -> Item
-    ensures { result ≡ metadata_item l payload.now }
+pub fn item(l: MetadataLimits, payload: &[u8]) -> Result<Setting, Refusal>
+    ensures { item result ≡ metadata_item l payload.now }
 {
     let n = wire::le32(payload, 0);
-    item_of(refusal(l, n), Setting::Metadata(n))
+    item_of(check(l, n), Setting::Metadata(n))
 }
 
 // The number that a GET asks for.
-#[tactic(auto, unfolding(crate::specs::Metadata::metadata_attribute))]
-fn attribute(l: MetadataLimits, held: HeldNumber, code: u8) -> u32
+#[tactic(auto, using(controls::proofs::Laws::Controls::number_read), unfolding(crate::specs::Metadata::metadata_attribute))]
+fn attribute(l: MetadataLimits, held: Option<u32>, code: u8) -> u32
     ensures { result ≡ metadata_attribute l held code }
 {
-    if !l.writable {
-        if code == uvc::GET_RES {
-            return 0;
-        }
-        return l.maximum;
+    match code {
+        uvc::GET_MAX => l.maximum,
+        uvc::GET_RES => if l.writable { l.maximum } else { 0 },
+        _ if !l.writable => l.maximum,
+        uvc::GET_CUR => held.unwrap_or(0),
+        _ => 0,
     }
-    if (code == uvc::GET_MAX) | (code == uvc::GET_RES) {
-        return l.maximum;
-    }
-    if code == uvc::GET_CUR {
-        return number_or(0, held);
-    }
-    0
 }
 
 // The information byte: read-only metadata can be asked for and not set.
@@ -78,9 +71,9 @@ fn info(l: MetadataLimits) -> u8
 }
 
 #[tactic(auto, unfolding(crate::specs::Metadata::metadata_answer))]
-pub fn answer(l: MetadataLimits, held: HeldNumber, code: u8) -> Answer
+pub fn answer(l: MetadataLimits, held: Option<u32>, code: u8) -> Answer
     ensures { result ≡ packed (metadata_answer l held code) }
 {
-    let b = wire::bytes32(attribute(l, held, code));
+    let b = wire::bytes::<4>(u64::from(attribute(l, held, code)));
     answer_by(code, 4, info(l), &b)
 }

@@ -4,7 +4,8 @@ use mathlib.Core.{List.{List, [], ◌∷◌}, Bool.{not}}
 use lib.{Dec.{ltb}, ListN.{length}}
 use Rattle.wire.specs.{Rows.{◌⇒◌, first_of}, Uvc.{malformed_record, out_of_range}}
 use Rattle.request.specs.Requests.{result_by}
-use Rattle.peripheral.specs.declared.{record.Peripheral.{Peripheral}, calls.Outcome.{Outcome}}
+use Rattle.peripheral.specs.declared.record.Peripheral.{Peripheral}
+use Rattle.peripheral.specs.Outcomes.{Outcome}
 use Rattle.peripheral.specs.{Record.{record_well_formed, most, with_count, with_reset}, Requests.{outcome_of, requested, requested_reply}}
 
 -- a refusal: its number, no count, and the record as it came in

@@ -2,7 +2,9 @@
 use Rattle.std.specs.Prelude.{ℕ, List}
 use Rattle.wire.specs.Numbers.{bytes_of}
 use Rattle.request.specs.{Setup.{setup_selector}, Table.{Table, has_control}, Requests.{replied, requested_by}}
-use Rattle.peripheral.specs.{declared.{record.Peripheral.{Peripheral}, calls.Outcome.{Outcome}}, Selectors.{presence}}
+use Rattle.peripheral.specs.declared.record.Peripheral.{Peripheral}
+use Rattle.peripheral.specs.Outcomes.{Outcome}
+use Rattle.peripheral.specs.Selectors.{presence}
 use Rattle.peripheral.specs.{Record.{record_well_formed}, Values.{payload_length, info_of, is_settable, state_refusal, set_refusal}}
 use Rattle.peripheral.specs.Values.{after_set, attribute}
 

@@ -3,10 +3,11 @@ use Rattle.std.specs.Prelude.{ℕ}
 use mathlib.Core.{List.{List}, Bool.{cond}}
 use Rattle.std.specs.Prelude.{eqb}
 use Rattle.wire.specs.Uvc.{get_info, get_len}
-use Rattle.request.specs.{declared.tests.Control.{Control}, Setup.{setup_w_length}, Reply.{sent_of}, Tests.{asked}, Requests.{result_by}}
-use Rattle.peripheral.specs.declared.{record.Peripheral.{Peripheral}, calls.Outcome.{Outcome}}
+use Rattle.request.specs.{declared.tests.Control.{Control}, Requests.{result_by}}
+use Rattle.peripheral.specs.declared.record.Peripheral.{Peripheral}
+use Rattle.peripheral.specs.Outcomes.{Outcome}
 use Rattle.peripheral.specs.Values.{payload_length, info_of, is_settable, set_refusal, after_set, attribute}
-use Rattle.peripheral.specs.Requests.{table, outcome_of}
+use Rattle.peripheral.specs.Requests.{outcome_of}
 
 -- what tests 5 and 6 ask of a control
 abbrev pub control_of : ℕ → Control
@@ -20,11 +21,7 @@ answer_number p selector code =
 abbrev pub answer_length : (selector code : ℕ) → ℕ
 answer_length selector code = cond (eqb code get_len) 2 (cond (eqb code get_info) 1 (payload_length selector))
 
--- past test 7: a SET of a selector, and a GET
+-- past test 7: a SET of a selector
 unfoldable pub set_done : Peripheral → ℕ → List ℕ → Outcome
 set_done p selector payload =
     result_by outcome_of (set_refusal p.mask selector payload) p (outcome_of 0 0 (after_set p selector payload))
-
-unfoldable pub get_done : Peripheral → List ℕ → ℕ → Outcome
-get_done p setup room =
-    let sent = sent_of (asked (table p) setup) (setup_w_length setup) room in outcome_of sent.code sent.count p

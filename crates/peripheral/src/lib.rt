@@ -10,5 +10,4 @@ mod requests;
 pub mod selectors;
 mod values;
 
-pub use calls::Outcome;
 pub use record::Peripheral;

@@ -1,6 +1,9 @@
 // The unit's record: its id and interface, the modes of frame strategy that it supports, and what is set, counted and asked for.
-ghost use Rattle.std.specs.Prelude.{◌≡◌};
-ghost use Rattle.peripheral.specs.Record.{fresh, mode_valid, record_well_formed, holding};
+ghost use Rattle.std.specs.Prelude.{◌≡◌, cond};
+ghost use Rattle.wire.specs.{Uvc.{malformed_record}, Refusals.{verdict}};
+ghost use Rattle.peripheral.specs.Record.{fresh, mode_valid, record_well_formed};
+
+use wire::Refusal;
 
 // `mask` has a bit for each mode that is supported, and `mode` is one of them or 0; `count` is the detector's last.
 #[derive(Clone, Copy)]
@@ -21,7 +24,7 @@ pub(crate) const MOST: u32 = 0xFF;
 pub(crate) fn mode_valid(mask: u64, mode: u64) -> bool
     ensures { result ≡ mode_valid mask mode }
 {
-    (mode == 0) | flags::is_one_of(mode, mask)
+    mode == 0 || flags::is_one_of(mode, mask)
 }
 
 impl Peripheral {
@@ -40,29 +43,25 @@ impl Peripheral {
         }
     }
 
-    // Whether calls can leave such a record; all others are 0x21.
+    // Whether calls can leave such a record.
     #[tactic(auto, unfolding(crate::specs::Record::record_well_formed))]
-    pub(crate) fn well_formed(self) -> bool
+    fn well_formed(self) -> bool
         ensures { result ≡ record_well_formed self }
     {
         mode_valid(self.mask, self.mode)
-            & (self.toggle <= 1)
-            & (self.count <= MOST)
-            & (self.reset <= 1)
+            && self.toggle <= 1
+            && self.count <= MOST
+            && self.reset <= 1
     }
 
-    // The same unit, with these.
-    pub(crate) fn holding(self, mode: u64, toggle: u8, count: u32, reset: u8) -> Peripheral
-        ensures { result ≡ holding self mode toggle count reset }
+    // The test that every call begins with.
+    pub(crate) fn check(self) -> Result<(), Refusal>
+        ensures { verdict result ≡ cond (record_well_formed self) 0 malformed_record }
     {
-        Peripheral {
-            unit: self.unit,
-            interface: self.interface,
-            mask: self.mask,
-            mode,
-            toggle,
-            count,
-            reset,
+        if self.well_formed() {
+            Ok(())
+        } else {
+            Err(Refusal::MalformedRecord)
         }
     }
 }

@@ -3,7 +3,7 @@ use Rattle.std.specs.Prelude.{ℕ}
 use mathlib.Core.{List.{List}, Bool.{cond}}
 use lib.{Dec.{eqb}, ListN.{get_or}}
 use Rattle.wire.specs.Selectors.{ev, face, metadata, hdr}
-use Rattle.controls.specs.{declared.Item.{Item}, Controls.{item_code, first_refusal}}
+use Rattle.controls.specs.Controls.{Item, item_code, first_refusal}
 use Rattle.exposure.specs.Exposure.{ev_item}
 use Rattle.entries.specs.Entries.{face_item}
 use Rattle.metadata.specs.Metadata.{metadata_item}

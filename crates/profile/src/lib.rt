@@ -6,19 +6,21 @@
 
 ghost use mathlib.Core.{Path.{◌≡◌}, Bool.{cond}};
 ghost use Rattle.std.specs.Prelude.{◌≤◌};
+ghost use Rattle.wire.specs.Refusals.{verdict};
+ghost use Rattle.controls.specs.Controls.{item};
 ghost use Rattle.request.specs.Table.{has_control};
 ghost use Rattle.profile.specs.Items.{profile_item};
 ghost use Rattle.profile.specs.Profile.{has, presence_valid, profile_valid, is_settable, profile_refusal, set_length, extension_unit};
 ghost use Rattle.profile.specs.Profile.{payload_length, profile_control};
 
-use controls::Item;
+use controls::Setting;
 use exposure::EvLimits;
 use face::FaceLimits;
 use hdr::HdrLimits;
 use metadata::MetadataLimits;
 use request::{Control, Unit};
 use throttle::ThrottleLimits;
-use wire::{selectors, uvc};
+use wire::{Refusal, selectors};
 
 // `controls` has bit s - 1 for the control of selector s, as bmControls has.
 #[derive(Clone, Copy)]
@@ -76,17 +78,17 @@ fn presence_valid(bits: u32) -> bool
 fn is_settable(p: Profile, selector: u8) -> bool
     ensures { result ≡ is_settable p selector }
 {
-    (selector != selectors::METADATA) | p.metadata.writable
+    selector != selectors::METADATA || p.metadata.writable
 }
 
 // The length that a SET of this payload must have.
 fn set_length(p: Profile, selector: u8, payload: &[u8]) -> usize
     ensures { result ≡ set_length p selector payload.now }
 {
-    if selector == selectors::FACE {
-        return entries::set_length(p.face, payload);
+    match selector {
+        selectors::FACE => entries::set_length(p.face, payload),
+        _ => p.payload_length(selector),
     }
-    p.payload_length(selector)
 }
 
 impl Profile {
@@ -96,10 +98,10 @@ impl Profile {
         ensures { result ≡ profile_valid self }
     {
         presence_valid(self.controls)
-            & (!has(self, selectors::EV) | exposure::valid(self.ev))
-            & (!has(self, selectors::FACE) | face::valid(self.face))
-            & (!has(self, selectors::METADATA) | metadata::valid(self.metadata))
-            & (!has(self, selectors::THROTTLE) | throttle::valid(self.throttle))
+            && (!has(self, selectors::EV) || exposure::valid(self.ev))
+            && (!has(self, selectors::FACE) || face::valid(self.face))
+            && (!has(self, selectors::METADATA) || metadata::valid(self.metadata))
+            && (!has(self, selectors::THROTTLE) || throttle::valid(self.throttle))
     }
 
     // What a request's tests 2 to 6 go by.
@@ -128,52 +130,39 @@ impl Profile {
     pub fn payload_length(self, selector: u8) -> usize
         ensures { result ≡ payload_length self selector }
     {
-        if selector == selectors::EV {
-            return 11;
+        match selector {
+            selectors::EV => 11,
+            selectors::FACE => 1 + 8 * face::endpoints_of(self.face),
+            selectors::METADATA | selectors::HDR => 4,
+            _ => 20,
         }
-        if selector == selectors::FACE {
-            return 1 + 8 * face::endpoints_of(self.face);
-        }
-        if selector == selectors::METADATA {
-            return 4;
-        }
-        if selector == selectors::HDR {
-            return 4;
-        }
-        20
     }
 
-    // The number of a SET that is refused whatever its payload: the control is absent, or read only; else 0.
+    // A SET that is refused whatever its payload: the control is absent, or read only.
     #[tactic(auto, unfolding(crate::specs::Profile::profile_refusal))]
-    pub fn refusal(self, selector: u8) -> u8
-        ensures { result ≡ profile_refusal self selector }
+    pub fn check(self, selector: u8) -> Result<(), Refusal>
+        ensures { verdict result ≡ profile_refusal self selector }
     {
         if !has(self, selector) {
-            return uvc::INVALID_CONTROL;
+            return Err(Refusal::InvalidControl);
         }
         if !is_settable(self, selector) {
-            return uvc::INVALID_REQUEST;
+            return Err(Refusal::InvalidRequest);
         }
-        0
+        Ok(())
     }
 
     // The first item of a SET's payload, and the only one but of face authentication.
     #[tactic(auto, unfolding(crate::specs::Items::profile_item))]
-    pub fn item(self, selector: u8, payload: &[u8]) -> Item
-        ensures { result ≡ profile_item self selector payload.now 0 }
+    pub fn item(self, selector: u8, payload: &[u8]) -> Result<Setting, Refusal>
+        ensures { item result ≡ profile_item self selector payload.now 0 }
     {
-        if selector == selectors::EV {
-            return exposure::item(self.ev, payload);
+        match selector {
+            selectors::EV => exposure::item(self.ev, payload),
+            selectors::FACE => entries::item(self.face, payload),
+            selectors::METADATA => metadata::item(self.metadata, payload),
+            selectors::HDR => hdr::item(self.hdr, payload),
+            _ => throttle::item(self.throttle, payload),
         }
-        if selector == selectors::FACE {
-            return entries::item(self.face, payload);
-        }
-        if selector == selectors::METADATA {
-            return metadata::item(self.metadata, payload);
-        }
-        if selector == selectors::HDR {
-            return hdr::item(self.hdr, payload);
-        }
-        throttle::item(self.throttle, payload)
     }
 }

@@ -1,7 +1,6 @@
 pub mod Answers
 pub mod Packed
 pub mod Tests
-pub mod Reply
 pub mod Requests
 pub mod Sets
 pub mod Rooms

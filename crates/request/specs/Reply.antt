@@ -1,9 +1,18 @@
 -- What a GET reports and leaves in the reply buffer, by its full answer: min(wLength, full length) bytes at the start, and nothing else.
-use Rattle.std.specs.Prelude.{ℕ, min}
+use Rattle.std.specs.Prelude.{ℕ, min, Result, Ok, Err}
 use mathlib.Core.{List.{List, ◌++◌}, Bool.{cond}}
 use lib.{Dec.{leb}, ListN.{length, take, drop}}
-use Rattle.wire.specs.Uvc.{no_room}
-use Rattle.request.specs.declared.reply.Sent.{Sent}
+use Rattle.wire.specs.{Uvc.{no_room}, declared.refusal.Refusal.{Refusal}, Refusals.{code_of}}
+
+-- what a GET reports: 01's number and how many bytes were written
+pub record Sent : Type 0 where
+  pub code : ℕ
+  pub count : ℕ
+
+-- what the code's result reports
+abbrev pub sent : Result ℕ Refusal → Sent
+sent (Ok n) = record { code = 0; count = n }
+sent (Err e) = record { code = code_of e; count = 0 }
 
 -- how many bytes are sent
 abbrev pub sent_length : List ℕ → ℕ → ℕ

@@ -1,5 +1,5 @@
 // A GET's full answer, before it is cut to wLength.
-ghost use Rattle.std.specs.Prelude.{◌≡◌};
+ghost use Rattle.std.specs.Prelude.{◌≡◌, take};
 ghost use Rattle.request.specs.Answers.{packed, answer_by};
 
 use wire::{endpoints, uvc};
@@ -14,13 +14,22 @@ pub struct Answer {
     pub len: usize,
 }
 
+impl Answer {
+    // The bytes that are the answer.
+    pub fn as_slice(&self) -> &[u8]
+        ensures { result.now ≡ take self.now.len self.now.bytes }
+    {
+        wire::head(&self.bytes, self.len)
+    }
+}
+
 #[tactic(auto, unfolding(crate::specs::Answers::packed))]
 pub(crate) fn pack(answer: &[u8]) -> Answer
     ensures { result ≡ packed answer.now }
 {
     let mut bytes = [0u8; LONGEST_ANSWER];
     wire::copy(&mut bytes, 0, answer);
-    let len = wire::min(answer.len(), LONGEST_ANSWER);
+    let len = answer.len().min(LONGEST_ANSWER);
     Answer { bytes, len }
 }
 
@@ -29,13 +38,9 @@ pub(crate) fn pack(answer: &[u8]) -> Answer
 pub fn answer_by(code: u8, len: usize, info: u8, value: &[u8]) -> Answer
     ensures { result ≡ packed (answer_by code len info value.now) }
 {
-    if code == uvc::GET_LEN {
-        let b = wire::bytes16(len);
-        return pack(&b);
+    match code {
+        uvc::GET_LEN => pack(&wire::bytes::<2>(len as u64)),
+        uvc::GET_INFO => pack(&[info]),
+        _ => pack(value),
     }
-    if code == uvc::GET_INFO {
-        let b = [info];
-        return pack(&b);
-    }
-    pack(value)
 }

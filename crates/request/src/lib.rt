@@ -10,6 +10,6 @@ mod setup;
 mod tests;
 
 pub use answers::{Answer, LONGEST_ANSWER, answer_by};
-pub use reply::{Sent, send};
+pub use reply::{Done, send};
 pub use setup::{code, is_set_request, selector, wlength};
-pub use tests::{Control, Unit, has_control, refusal};
+pub use tests::{Control, Unit, has_control};

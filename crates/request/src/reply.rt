@@ -1,29 +1,26 @@
-// A GET's answer goes to the start of the reply buffer, cut to wLength.
+// A GET's answer goes to the start of the reply buffer, cut to wLength; and what a request that a unit accepts hands back.
 ghost use Rattle.std.specs.Prelude.{◌≡◌, length};
-ghost use Rattle.request.specs.Reply.{sent_of, reply_of};
+ghost use Rattle.request.specs.Reply.{sent, sent_of, reply_of};
 
-use wire::uvc;
+use wire::Refusal;
 
-// What a GET reports: document 01's number and how many bytes were written.
+// How many bytes of reply were written, and the unit's record that follows.
 #[derive(Clone, Copy)]
-pub struct Sent {
-    pub code: u8,
+pub struct Done<R> {
     pub count: usize,
+    pub next: R,
 }
 
-// The first wLength bytes of the answer, or all of it, where the buffer has room; else test 9's 0x20.
-#[tactic(auto, using(crate::proofs::Laws::Reply::left, crate::proofs::Laws::Reply::laid), unfolding(crate::specs::Reply::sent_of))]
-pub fn send(answer: &[u8], wlength: usize, reply: &mut [u8]) -> Sent
-    ensures value { result ≡ sent_of answer.now wlength (length reply.old) }
+// The first wLength bytes of the answer, or all of it, where the buffer has room; else test 9 refuses. How many they are.
+#[tactic(auto, unfolding(crate::specs::Reply::sent_of, crate::specs::Reply::reply_of))]
+pub fn send(answer: &[u8], wlength: usize, reply: &mut [u8]) -> Result<usize, Refusal>
+    ensures value { sent result ≡ sent_of answer.now wlength (length reply.old) }
     ensures reply_after { reply.new ≡ reply_of answer.now wlength reply.old }
 {
-    let count = wire::min(wlength, answer.len());
+    let count = wlength.min(answer.len());
     if reply.len() < count {
-        return Sent {
-            code: uvc::NO_ROOM,
-            count: 0,
-        };
+        return Err(Refusal::NoRoom);
     }
-    wire::copy(reply, 0, wire::head(answer, count));
-    Sent { code: 0, count }
+    reply[..count].copy_from_slice(&answer[..count]);
+    Ok(count)
 }

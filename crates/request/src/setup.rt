@@ -27,13 +27,12 @@ pub fn wlength(setup: &[u8]) -> usize
 pub fn is_set_request(setup: &[u8]) -> bool
     ensures { result ≡ is_set_request setup.now }
 {
-    (wire::byte(setup, 0) == 0x21) & (wire::byte(setup, 1) == uvc::SET_CUR)
+    wire::byte(setup, 0) == 0x21 && code(setup) == uvc::SET_CUR
 }
 
 // Type 0xA1 with one of the seven GET codes.
 pub(crate) fn is_get_request(setup: &[u8]) -> bool
     ensures { result ≡ is_get_request setup.now }
 {
-    let code = wire::byte(setup, 1);
-    (wire::byte(setup, 0) == 0xA1) & (uvc::GET_CUR <= code) & (code <= uvc::GET_DEF)
+    wire::byte(setup, 0) == 0xA1 && matches!(code(setup), uvc::GET_CUR..=uvc::GET_DEF)
 }

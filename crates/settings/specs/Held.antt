@@ -4,27 +4,23 @@ use mathlib.Core.{Option.{Option, none, some}, Bool.{cond}}
 use lib.{Dec.{leb, eqb}, ListN.{get_or}}
 use Rattle.wire.specs.Endpoints.{first_address, places}
 use Rattle.snapshot.specs.Keys.{ev_key, metadata_key, hdr_key, throttle_key}
-use Rattle.exposure.specs.declared.HeldEv.{HeldEv}
-use Rattle.exposure.specs.declared.HeldEv.TheVariants as E
-use Rattle.throttle.specs.declared.HeldThrottle.{HeldThrottle}
-use Rattle.throttle.specs.declared.HeldThrottle.TheVariants as T
-use Rattle.controls.specs.declared.{HeldNumber.{HeldNumber}, HeldSetting.{HeldSetting}, Setting.{Setting}}
-use Rattle.controls.specs.declared.HeldNumber.TheVariants as N
-use Rattle.controls.specs.declared.HeldSetting.TheVariants as H
+use Rattle.std.specs.declared.option.Option.TheVariants.{Some, None}
+use Rattle.controls.specs.Controls.{HeldNumber, HeldEv, HeldThrottle, HeldSetting}
+use Rattle.controls.specs.declared.Setting.{Setting}
 use Rattle.controls.specs.declared.Setting.TheVariants as S
 use Rattle.settings.specs.declared.settings.Settings.{Settings}
 
 -- the setting held of each control
 abbrev pub ev_held : HeldEv → Option Setting
-ev_held E.Unset = none
-ev_held (E.Held s) = some (S.Ev s)
+ev_held None = none
+ev_held (Some s) = some (S.Ev s)
 
 abbrev pub face_held : ℕ → ℕ → Option Setting
 face_held address flags = cond (eqb flags 0) none (some (S.Face address flags))
 
 abbrev pub number_held : (ℕ → Setting) → HeldNumber → Option Setting
-number_held control N.Unset = none
-number_held control (N.Held n) = some (control n)
+number_held control None = none
+number_held control (Some n) = some (control n)
 
 abbrev pub metadata_held : HeldNumber → Option Setting
 metadata_held = number_held S.Metadata
@@ -33,8 +29,8 @@ abbrev pub hdr_held : HeldNumber → Option Setting
 hdr_held = number_held S.Hdr
 
 abbrev pub throttle_held : HeldThrottle → Option Setting
-throttle_held T.Unset = none
-throttle_held (T.Held s) = some (S.Throttle s)
+throttle_held None = none
+throttle_held (Some s) = some (S.Throttle s)
 
 -- the setting held of a key, or none
 unfoldable pub settings_held : Settings → ℕ → Option Setting
@@ -47,5 +43,5 @@ settings_held s k =
 
 -- the same as a `HeldSetting`
 abbrev pub held_setting : Option Setting → HeldSetting
-held_setting none = H.Unset
-held_setting (some s) = H.Held s
+held_setting none = None
+held_setting (some s) = Some s

@@ -3,16 +3,14 @@ use Rattle.std.specs.Prelude.{ℕ, replicate}
 use Rattle.wire.specs.Endpoints.{places}
 use Rattle.wire.specs.Selectors as selector
 use Rattle.snapshot.specs.Keys.{key_for}
-use Rattle.exposure.specs.declared.HeldEv.TheVariants as E
-use Rattle.throttle.specs.declared.HeldThrottle.TheVariants as T
-use Rattle.controls.specs.declared.HeldNumber.TheVariants as N
+use Rattle.std.specs.declared.option.Option.TheVariants.{Some, None}
 use Rattle.controls.specs.declared.Setting.{Setting}
 use Rattle.controls.specs.declared.Setting.TheVariants as S
 use Rattle.entries.specs.Entries.{put_face}
 use Rattle.settings.specs.declared.settings.Settings.{Settings}
 
 unfoldable pub no_settings : Settings
-no_settings = record { ev = E.Unset; face = replicate places 0; metadata = N.Unset; hdr = N.Unset; throttle = T.Unset }
+no_settings = record { ev = None; face = replicate places 0; metadata = None; hdr = None; throttle = None }
 
 abbrev pub setting_selector : Setting → ℕ
 setting_selector (S.Ev s) = selector.ev
@@ -32,9 +30,9 @@ setting_key (S.Throttle s) = key_for selector.throttle 0
 
 -- the settings with one more
 unfoldable pub put : Settings → Setting → Settings
-put h (S.Ev s) = record { ev = E.Held s; face = h.face; metadata = h.metadata; hdr = h.hdr; throttle = h.throttle }
+put h (S.Ev s) = record { ev = Some s; face = h.face; metadata = h.metadata; hdr = h.hdr; throttle = h.throttle }
 put h (S.Face address flags) =
     record { ev = h.ev; face = put_face h.face address flags; metadata = h.metadata; hdr = h.hdr; throttle = h.throttle }
-put h (S.Metadata n) = record { ev = h.ev; face = h.face; metadata = N.Held n; hdr = h.hdr; throttle = h.throttle }
-put h (S.Hdr n) = record { ev = h.ev; face = h.face; metadata = h.metadata; hdr = N.Held n; throttle = h.throttle }
-put h (S.Throttle s) = record { ev = h.ev; face = h.face; metadata = h.metadata; hdr = h.hdr; throttle = T.Held s }
+put h (S.Metadata n) = record { ev = h.ev; face = h.face; metadata = Some n; hdr = h.hdr; throttle = h.throttle }
+put h (S.Hdr n) = record { ev = h.ev; face = h.face; metadata = h.metadata; hdr = Some n; throttle = h.throttle }
+put h (S.Throttle s) = record { ev = h.ev; face = h.face; metadata = h.metadata; hdr = h.hdr; throttle = Some s }

@@ -8,5 +8,4 @@ mod items;
 mod kept;
 mod settings;
 
-pub use items::SetTaken;
 pub use settings::Settings;

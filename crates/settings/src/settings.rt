@@ -2,19 +2,17 @@
 ghost use Rattle.std.specs.Prelude.{◌≡◌};
 ghost use Rattle.settings.specs.Settings.{no_settings, put};
 
-use controls::{HeldNumber, Setting};
-use exposure::HeldEv;
-use throttle::HeldThrottle;
+use controls::{EvSetting, Setting, ThrottleSetting};
 use wire::endpoints;
 
 // Face settings stand by address, that of 0x81 first: the flag chosen, or 0 for none.
 #[derive(Clone, Copy)]
 pub struct Settings {
-    pub ev: HeldEv,
+    pub ev: Option<EvSetting>,
     pub face: [u8; endpoints::PLACES],
-    pub metadata: HeldNumber,
-    pub hdr: HeldNumber,
-    pub throttle: HeldThrottle,
+    pub metadata: Option<u32>,
+    pub hdr: Option<u32>,
+    pub throttle: Option<ThrottleSetting>,
 }
 
 impl Settings {
@@ -23,24 +21,12 @@ impl Settings {
         ensures { result ≡ no_settings }
     {
         Settings {
-            ev: HeldEv::Unset,
+            ev: None,
             face: [0; endpoints::PLACES],
-            metadata: HeldNumber::Unset,
-            hdr: HeldNumber::Unset,
-            throttle: HeldThrottle::Unset,
+            metadata: None,
+            hdr: None,
+            throttle: None,
         }
-    }
-
-    // The settings with one more of an endpoint.
-    #[tactic(auto, unfolding(crate::specs::Settings::put))]
-    fn put_face(self, address: u8, flags: u8) -> Settings
-        ensures { result ≡ put self (Setting.Face address flags) }
-    {
-        let held = self.face;
-        let face = entries::put(held, address, flags);
-        let mut next = self;
-        next.face = face;
-        next
     }
 
     // The settings with one more.
@@ -48,40 +34,26 @@ impl Settings {
     pub fn put(self, s: Setting) -> Settings
         ensures { result ≡ put self s }
     {
-        let ev = self.ev;
-        let face = self.face;
-        let metadata = self.metadata;
-        let hdr = self.hdr;
-        let throttle = self.throttle;
         match s {
             Setting::Ev(e) => Settings {
-                ev: HeldEv::Held(e),
-                face,
-                metadata,
-                hdr,
-                throttle,
+                ev: Some(e),
+                ..self
             },
-            Setting::Face { address, flags } => self.put_face(address, flags),
+            Setting::Face { address, flags } => Settings {
+                face: entries::put(self.face, address, flags),
+                ..self
+            },
             Setting::Metadata(n) => Settings {
-                ev,
-                face,
-                metadata: HeldNumber::Held(n),
-                hdr,
-                throttle,
+                metadata: Some(n),
+                ..self
             },
             Setting::Hdr(n) => Settings {
-                ev,
-                face,
-                metadata,
-                hdr: HeldNumber::Held(n),
-                throttle,
+                hdr: Some(n),
+                ..self
             },
             Setting::Throttle(t) => Settings {
-                ev,
-                face,
-                metadata,
-                hdr,
-                throttle: HeldThrottle::Held(t),
+                throttle: Some(t),
+                ..self
             },
         }
     }

@@ -6,6 +6,7 @@ pub mod Lengths
 pub mod Form
 pub mod Entries
 pub mod Given
+pub mod Handed
 pub mod Told
 pub mod Stay
 pub mod Cursor

@@ -1,8 +1,11 @@
 -- The records of a snapshot: the record of each key in given bytes, the bytes of given records, and the records in order.
 use Rattle.std.specs.Prelude.{ℕ, zero, suc, ◌-◌, ◌≤◌}
 use mathlib.Core.{Path.{◌≡◌}, Bool.{Bool, true, cond, ◌&&◌}, List.{List, [], ◌∷◌, ◌++◌}, Option.{Option, none, some}}
-use lib.{ListN.{length, take, drop}, Dec.{leb, eqb}}
-use Rattle.wire.specs.{declared.parts.Part.{Part}, Parts.{nowhere}}
+use lib.{ListN.{length, take, drop}, Dec.{leb, ltb, eqb}}
+use Rattle.std.specs.Borrow.{Bor}
+use Rattle.std.specs.declared.option.Option as Core
+use Rattle.std.specs.declared.option.Option.TheVariants as H
+use Rattle.wire.specs.{declared.parts.Part.{Part}, Parts.{nowhere, PartOf}}
 use Rattle.snapshot.specs.{Keys.{keys, record_length}, Form.{stated_length, sound_record, stated_key}}
 
 -- a sound record of key k stands at the start of s
@@ -12,6 +15,10 @@ stands k s = sound_record s && eqb (stated_key s) k
 -- the key of the sound record at the start of s; `keys`, which is no key, where none stands there
 unfoldable pub key_at : List ℕ → ℕ
 key_at s = cond (sound_record s) (stated_key s) keys
+
+-- that key as the code hands it on: none where there is none
+abbrev pub some_key : ℕ → Core.Option ℕ
+some_key k = cond (ltb k keys) (H.Some k) H.None
 
 -- how many bytes the record at the start of s has, if it has key k; else 0
 unfoldable pub passed : ℕ → List ℕ → ℕ
@@ -38,6 +45,11 @@ decode s k = record_at k (from s k)
 -- no key
 unfoldable pub record_place : List ℕ → ℕ → Part
 record_place s k = cond (leb keys k) nowhere (record { at = length s - length (from s k); len = passed k (from s k) })
+
+-- the record of key k as the code hands it on: none where s has none; else its bytes, which are that part of s itself
+abbrev pub RecordAt : Bor (List ℕ) → ℕ → Core.Option (Bor (List ℕ)) → Type 0
+RecordAt s k H.None = decode s.now k ≡ none
+RecordAt s k (H.Some r) = (decode s.now k ≡ some r.now) × PartOf s (record_place s.now k) r
 
 abbrev pub record_bytes : Option (List ℕ) → List ℕ
 record_bytes none = []

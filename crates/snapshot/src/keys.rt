@@ -1,8 +1,8 @@
 // The keys of a snapshot's records, numbered by kind, then address: exposure compensation, face authentication at each address, metadata,
 // HDR, throttle.
 ghost use mathlib.Core.{Path.{◌≡◌}, Bool.{cond}};
-ghost use Rattle.std.specs.Prelude.{eqb};
-ghost use Rattle.snapshot.specs.{Keys.{keys, record_length}, Steps.{key_by}};
+ghost use Rattle.std.specs.Prelude.{eqb, Some, None};
+ghost use Rattle.snapshot.specs.{Keys.{record_length}, Records.{some_key}, Steps.{key_by}};
 
 use wire::{endpoints, selectors};
 
@@ -14,7 +14,7 @@ pub const HDR_KEY: usize = endpoints::PLACES + 2;
 
 pub const THROTTLE_KEY: usize = endpoints::PLACES + 3;
 
-// How many keys there are; as a key, none.
+// How many keys there are.
 pub const KEYS: usize = endpoints::PLACES + 4;
 
 // The length of a record of each kind; a metadata or HDR setting is a number.
@@ -52,53 +52,33 @@ const LAST: usize = FIRST + endpoints::PLACES - 1;
 pub fn record_length(key: usize) -> usize
     ensures { result ≡ record_length key }
 {
-    if key == EV_KEY {
-        return EV_LENGTH;
+    match key {
+        EV_KEY => EV_LENGTH,
+        1..=endpoints::PLACES => FACE_LENGTH,
+        METADATA_KEY | HDR_KEY => NUMBER_LENGTH,
+        THROTTLE_KEY => THROTTLE_LENGTH,
+        _ => 0,
     }
-    if key <= endpoints::PLACES {
-        return FACE_LENGTH;
-    }
-    if key <= HDR_KEY {
-        return NUMBER_LENGTH;
-    }
-    if key == THROTTLE_KEY {
-        return THROTTLE_LENGTH;
-    }
-    0
 }
 
-// The key, if its records have this length; else KEYS.
-fn key_if(len: usize, key: usize) -> usize
-    ensures { result ≡ cond (eqb len (record_length key)) key keys }
+// The key, if its records have this length.
+fn key_if(len: usize, key: usize) -> Option<usize>
+    ensures { result ≡ cond (eqb len (record_length key)) (Some key) None }
 {
-    if len == record_length(key) {
-        return key;
-    }
-    KEYS
+    (len == record_length(key)).then_some(key)
 }
 
 // The key of a record that states this length and kind, its bytes 4 and 5 (of face authentication the number of entries and the address)
-// being these; KEYS where there is a fault in them. A throttle's tail is not among them.
-pub(crate) fn key_by(len: usize, kind: usize, entries: usize, address: usize) -> usize
-    ensures { result ≡ key_by len kind entries address }
+// being these; none where there is a fault in them. A throttle's tail is not among them.
+pub(crate) fn key_by(len: usize, kind: usize, entries: usize, address: usize) -> Option<usize>
+    ensures { result ≡ some_key (key_by len kind entries address) }
 {
-    if kind == FACE {
-        if (entries == 1) & (FIRST <= address) & (address <= LAST) {
-            return key_if(len, address - (FIRST - 1));
-        }
-        return KEYS;
+    match (kind, entries, address) {
+        (EV, ..) => key_if(len, EV_KEY),
+        (FACE, 1, FIRST..=LAST) => key_if(len, address - (FIRST - 1)),
+        (METADATA, ..) => key_if(len, METADATA_KEY),
+        (HDR, ..) => key_if(len, HDR_KEY),
+        (THROTTLE, ..) => key_if(len, THROTTLE_KEY),
+        _ => None,
     }
-    if kind == EV {
-        return key_if(len, EV_KEY);
-    }
-    if kind == METADATA {
-        return key_if(len, METADATA_KEY);
-    }
-    if kind == HDR {
-        return key_if(len, HDR_KEY);
-    }
-    if kind == THROTTLE {
-        return key_if(len, THROTTLE_KEY);
-    }
-    KEYS
 }

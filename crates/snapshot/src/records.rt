@@ -1,9 +1,8 @@
 // The records of a snapshot: the key of one, and going from one to the next.
 ghost use Rattle.std.specs.Prelude.{◌≡◌, drop};
-ghost use Rattle.wire.specs.Parts.{PartOf};
-ghost use Rattle.snapshot.specs.{Form.{throttle_tail, zeros}, Records.{key_at, decode, record_bytes, record_place}, Steps.{EndsBelow}};
+ghost use Rattle.snapshot.specs.{Form.{throttle_tail, zeros}, Records.{key_at, some_key, RecordAt}, Steps.{EndsBelow}};
 
-use crate::keys::{KEYS, THROTTLE_KEY, key_by, record_length};
+use crate::keys::{THROTTLE_KEY, key_by, record_length};
 use wire::Part;
 
 // No record has fewer bytes.
@@ -13,38 +12,37 @@ const SHORTEST: usize = 8;
 fn zero_tail(r: &[u8]) -> bool
     ensures { result ≡ zeros (throttle_tail r.now) }
 {
-    (wire::le32(r, 12) == 0) & (wire::le32(r, 16) == 0) & (wire::le32(r, 20) == 0)
+    wire::part_at(r, Part { at: 12, len: 12 })
+        .iter()
+        .all(|b| *b == 0)
 }
 
-// The key of the sound record at the start of r; KEYS where none stands there.
+// The key of the sound record at the start of r, if one stands there.
 #[tactic(auto, using(crate::proofs::Laws::Told::short_none, crate::proofs::Laws::Told::cut_none))]
-fn key_here(r: &[u8]) -> usize
-    ensures { result ≡ key_at r.now }
+fn key_here(r: &[u8]) -> Option<usize>
+    ensures { result ≡ some_key (key_at r.now) }
 {
     if r.len() < SHORTEST {
-        return KEYS;
+        return None;
     }
     let len = wire::le16(r, 0);
     if r.len() < len {
-        return KEYS;
+        return None;
     }
     let kind = wire::le16(r, 2);
-    let entries = wire::byte(r, 4) as usize;
-    let address = wire::byte(r, 5) as usize;
-    let key = key_by(len, kind, entries, address);
-    if key != THROTTLE_KEY {
-        return key;
+    let entries = usize::from(r[4]);
+    let address = usize::from(r[5]);
+    let key = key_by(len, kind, entries, address)?;
+    if key == THROTTLE_KEY && !zero_tail(r) {
+        return None;
     }
-    if zero_tail(r) {
-        return key;
-    }
-    KEYS
+    Some(key)
 }
 
-// The key of the sound record at `at`; KEYS where none stands there.
+// The key of the sound record at `at`, if one stands there.
 #[tactic(auto, using(wire::proofs::Laws::Parts::rest))]
-pub fn key_at(s: &[u8], at: usize) -> usize
-    ensures { result ≡ key_at (drop at s.now) }
+pub fn key_at(s: &[u8], at: usize) -> Option<usize>
+    ensures { result ≡ some_key (key_at (drop at s.now)) }
 {
     key_here(wire::tail(s, at))
 }
@@ -55,26 +53,24 @@ pub(crate) fn start_of(s: &[u8], key: usize) -> usize
 {
     let mut at = 0;
     let mut low = 0;
-    let mut k = key_at(s, 0);
-    while (low <= k) & (k < key) {
+    while let Some(k) = key_at(s, at)
+        && low <= k
+        && k < key
+    {
         at += record_length(k);
         low = k + 1;
-        k = key_at(s, at);
     }
     at
 }
 
-// The record of a key, whole, where it stands; empty where there is none.
-pub fn record_of(s: &[u8], key: usize) -> &[u8]
-    ensures { (result.now ≡ record_bytes (decode s.now key)) × PartOf s.entry (record_place s.now key) result }
+// The record of a key, whole, where it stands; none where there is none.
+pub fn record_of(s: &[u8], key: usize) -> Option<&[u8]>
+    ensures { RecordAt s.entry key result }
 {
-    if KEYS <= key {
-        return wire::part_at(s, Part { at: 0, len: 0 });
-    }
     let at = start_of(s, key);
-    if key_at(s, at) == key {
-        let n = record_length(key);
-        return wire::part_at(s, Part { at, len: n });
+    if key_at(s, at) != Some(key) {
+        return None;
     }
-    wire::part_at(s, Part { at, len: 0 })
+    let len = record_length(key);
+    Some(wire::part_at(s, Part { at, len }))
 }

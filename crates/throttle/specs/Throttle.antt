@@ -2,10 +2,11 @@
 use Rattle.std.specs.Prelude.{ℕ, ◌%◌}
 use mathlib.Core.{List.{List, [], ◌∷◌, ◌++◌}, Bool.{Bool, cond, not, ◌&&◌, ◌||◌}}
 use Rattle.std.specs.Prelude.{leb, ltb, eqb}
-use Rattle.wire.specs.{Numbers.{le_at, bytes_of}, Rows.{◌⇒◌, first_of}, Uvc.{get_cur, get_max, get_min, get_res, invalid_value, out_of_range}}
-use Rattle.throttle.specs.declared.{ThrottleLimits.{ThrottleLimits}, HeldThrottle.{HeldThrottle}}
-use Rattle.controls.specs.{declared.{ThrottleSetting.{ThrottleSetting}, Item.{Item}}, Controls.{item_of}}
-use Rattle.throttle.specs.declared.HeldThrottle.TheVariants as T
+use Rattle.wire.specs.{Numbers.{le_at, bytes_of}, Rows.{◌⇒◌, first_of}}
+use Rattle.wire.specs.Uvc.{get_cur, get_max, get_min, get_res, invalid_value, out_of_range}
+use Rattle.throttle.specs.declared.ThrottleLimits.{ThrottleLimits}
+use Rattle.controls.specs.{declared.ThrottleSetting.{ThrottleSetting}, Controls.{HeldThrottle, Item, item_of}}
+use Rattle.std.specs.declared.option.Option.TheVariants as T
 use Rattle.controls.specs.declared.Setting.TheVariants as S
 use Rattle.request.specs.Answers.{answer_by}
 
@@ -38,8 +39,8 @@ abbrev pub throttle_default : ThrottleLimits → ThrottleSetting
 throttle_default l = record { mode = 0; percent = l.maximum }
 
 unfoldable pub throttle_current : ThrottleLimits → HeldThrottle → ThrottleSetting
-throttle_current l T.Unset = throttle_default l
-throttle_current l (T.Held s) = s
+throttle_current l T.None = throttle_default l
+throttle_current l (T.Some s) = s
 
 -- MIN, MAX, RES, CUR, else DEF
 unfoldable pub throttle_attribute : ThrottleLimits → HeldThrottle → ℕ → ThrottleSetting

@@ -3,13 +3,15 @@
 #![tactic(auto)]
 
 ghost use Rattle.std.specs.Prelude.{◌≡◌};
+ghost use Rattle.wire.specs.Refusals.{verdict};
+ghost use Rattle.controls.specs.Controls.{item};
 ghost use Rattle.request.specs.Answers.{packed};
-ghost use Rattle.throttle.specs.Throttle.{divides, throttle_valid, throttle_refusal, throttle_item, throttle_attribute, throttle_bytes};
+ghost use Rattle.throttle.specs.Throttle.{throttle_valid, throttle_refusal, throttle_item, throttle_attribute, throttle_bytes};
 ghost use Rattle.throttle.specs.Throttle.{throttle_answer};
 
-use controls::{Item, Setting, ThrottleSetting, item_of};
+use controls::{Setting, ThrottleSetting, item_of};
 use request::{Answer, answer_by};
-use wire::uvc;
+use wire::{Refusal, uvc};
 
 #[derive(Clone, Copy)]
 pub struct ThrottleLimits {
@@ -18,101 +20,64 @@ pub struct ThrottleLimits {
     pub step: u32,
 }
 
-#[derive(Clone, Copy)]
-pub enum HeldThrottle {
-    Unset,
-    Held(ThrottleSetting),
-}
-
-// Whether n is a multiple of step; of 0 only 0 is.
-fn divides(step: u32, n: u32) -> bool
-    ensures { result ≡ divides step n }
-{
-    if step == 0 {
-        return n == 0;
-    }
-    n % step == 0
-}
-
 pub fn valid(l: ThrottleLimits) -> bool
     ensures { result ≡ throttle_valid l }
 {
-    (1 <= l.minimum)
-        & (l.minimum <= l.maximum)
-        & (l.maximum <= 100)
-        & (1 <= l.step)
-        & divides(l.step, l.minimum)
-        & divides(l.step, l.maximum)
+    1 <= l.minimum
+        && l.minimum <= l.maximum
+        && l.maximum <= 100
+        && 1 <= l.step
+        && l.minimum.is_multiple_of(l.step)
+        && l.maximum.is_multiple_of(l.step)
 }
 
 // SET's value tests, and those of a setting held.
 #[tactic(auto, unfolding(crate::specs::Throttle::throttle_refusal))]
-pub fn refusal(l: ThrottleLimits, mode: u32, percent: u32) -> u8
-    ensures { result ≡ throttle_refusal l mode percent }
+pub fn check(l: ThrottleLimits, s: ThrottleSetting) -> Result<(), Refusal>
+    ensures { verdict result ≡ throttle_refusal l s.mode s.percent }
 {
-    if percent < l.minimum {
-        return uvc::OUT_OF_RANGE;
+    if !(l.minimum..=l.maximum).contains(&s.percent) {
+        return Err(Refusal::OutOfRange);
     }
-    if l.maximum < percent {
-        return uvc::OUT_OF_RANGE;
+    if 1 < s.mode || !s.percent.is_multiple_of(l.step) {
+        return Err(Refusal::InvalidValue);
     }
-    if 1 < mode {
-        return uvc::INVALID_VALUE;
-    }
-    if divides(l.step, percent) {
-        return 0;
-    }
-    uvc::INVALID_VALUE
+    Ok(())
 }
 
 // What a SET's payload comes to.
 #[tactic(auto, unfolding(crate::specs::Throttle::throttle_item))]
-pub fn item(l: ThrottleLimits, payload: &[u8]) -> Item
-    ensures { result ≡ throttle_item l payload.now }
+pub fn item(l: ThrottleLimits, payload: &[u8]) -> Result<Setting, Refusal>
+    ensures { item result ≡ throttle_item l payload.now }
 {
-    let mode = wire::le32(payload, 0);
-    let percent = wire::le32(payload, 4);
-    item_of(
-        refusal(l, mode, percent),
-        Setting::Throttle(ThrottleSetting { mode, percent }),
-    )
+    let s = ThrottleSetting {
+        mode: wire::le32(payload, 0),
+        percent: wire::le32(payload, 4),
+    };
+    item_of(check(l, s), Setting::Throttle(s))
 }
 
 // The mode and the percent that a GET asks for.
 #[tactic(auto, unfolding(crate::specs::Throttle::throttle_attribute, crate::specs::Throttle::throttle_current))]
-fn attribute(l: ThrottleLimits, held: HeldThrottle, code: u8) -> ThrottleSetting
+fn attribute(l: ThrottleLimits, held: Option<ThrottleSetting>, code: u8) -> ThrottleSetting
     ensures { result ≡ throttle_attribute l held code }
 {
-    if code == uvc::GET_MIN {
-        return ThrottleSetting {
-            mode: 0,
-            percent: l.minimum,
-        };
-    }
-    if code == uvc::GET_MAX {
-        return ThrottleSetting {
-            mode: 1,
-            percent: l.maximum,
-        };
-    }
-    if code == uvc::GET_RES {
-        return ThrottleSetting {
-            mode: 0,
-            percent: l.step,
-        };
-    }
-    if code == uvc::GET_CUR {
-        return match held {
-            HeldThrottle::Unset => ThrottleSetting {
-                mode: 0,
-                percent: l.maximum,
-            },
-            HeldThrottle::Held(s) => s,
-        };
-    }
-    ThrottleSetting {
+    let default = ThrottleSetting {
         mode: 0,
         percent: l.maximum,
+    };
+    match code {
+        uvc::GET_MIN => ThrottleSetting {
+            percent: l.minimum,
+            ..default
+        },
+        uvc::GET_MAX => ThrottleSetting { mode: 1, ..default },
+        uvc::GET_RES => ThrottleSetting {
+            percent: l.step,
+            ..default
+        },
+        uvc::GET_CUR => held.unwrap_or(default),
+        _ => default,
     }
 }
 
@@ -131,7 +96,7 @@ fn bytes(s: ThrottleSetting, tail: ThrottleLimits) -> [u8; 20]
 }
 
 #[tactic(auto, unfolding(crate::specs::Throttle::throttle_answer))]
-pub fn answer(l: ThrottleLimits, held: HeldThrottle, code: u8) -> Answer
+pub fn answer(l: ThrottleLimits, held: Option<ThrottleSetting>, code: u8) -> Answer
     ensures { result ≡ packed (throttle_answer l held code) }
 {
     let b = bytes(attribute(l, held, code), l);

@@ -8,7 +8,8 @@ use Rattle.request.specs.{Setup.{setup_selector, setup_code}, Tests.{request_cod
 use Rattle.request.proofs.Laws.{Tests.{at_unformed, never_malformed}, Requests.{result_code, result_refused, done_code}}
 use Rattle.request.proofs.Theorems as requests
 use Rattle.peripheral.specs.Selectors as selector
-use Rattle.peripheral.specs.declared.{record.Peripheral.{Peripheral}, calls.Outcome.{Outcome}}
+use Rattle.peripheral.specs.declared.record.Peripheral.{Peripheral}
+use Rattle.peripheral.specs.Outcomes.{Outcome}
 use Rattle.peripheral.specs.Record.{mode_valid, is_switch, most, record_well_formed}
 use Rattle.peripheral.specs.Values.{payload_mode, payload_switch, state_refusal, set_refusal, after_set}
 use Rattle.peripheral.specs.{Requests.{table, outcome_of, requested}, Calls.{count_code, counted, restart_code, restarted}}

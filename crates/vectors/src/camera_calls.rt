@@ -1,26 +1,35 @@
 // Calls of the camera.
 use crate::buffers::{LENT, LENT_ANSWERS, LONGEST_BATCH, first};
-use crate::words::{called, decode, octet, place, word};
+use crate::words::{Bytes, octet, place, word};
 use crate::{print, record};
-use camera::{Camera, Outcome};
+use camera::Camera;
+use request::Done;
+use wire::{Numbered, Refusal};
 
 // Writes number and count, and hands the next record on.
-fn told(r: Outcome) -> Camera {
-    print::code(r.code);
-    print::count(r.count);
-    let camera = r.camera;
-    camera
+fn told<E: Numbered>(camera: Camera, done: Result<Done<Camera>, E>) -> Camera {
+    print::code(wire::status(done));
+    let Done { count, next } = done.unwrap_or(Done {
+        count: 0,
+        next: camera,
+    });
+    print::count(count);
+    next
+}
+
+// A call that writes nothing.
+fn changed(camera: Camera, next: Result<Camera, Refusal>) -> Camera {
+    told(camera, next.map(|next| Done { count: 0, next }))
 }
 
 // A request: room for the reply, setup, payload.
 fn request(camera: Camera, call: &[u8]) -> Camera {
-    let mut setup = [0u8; LENT];
-    let n = decode(word(call, 2), &mut setup);
-    let mut payload = [0u8; LENT];
-    let m = decode(word(call, 3), &mut payload);
+    let setup = Bytes::<LENT>::of(word(call, 2));
+    let payload = Bytes::<LENT>::of(word(call, 3));
     let mut room = [0xEEu8; LENT];
-    let reply = first(&mut room, octet(word(call, 1), 0) as usize);
-    let next = told(camera.request(wire::head(&setup, n), wire::head(&payload, m), reply));
+    let reply = first(&mut room, usize::from(octet(word(call, 1), 0)));
+    let done = camera.request(setup.as_slice(), payload.as_slice(), reply);
+    let next = told(camera, done);
     print::bytes(reply);
     next
 }
@@ -28,46 +37,38 @@ fn request(camera: Camera, call: &[u8]) -> Camera {
 // Writing a snapshot: room for it.
 fn write(camera: Camera, call: &[u8]) -> Camera {
     let mut room = [0xEEu8; LENT];
-    let out = first(&mut room, octet(word(call, 1), 0) as usize);
-    let next = told(camera.write(out));
+    let out = first(&mut room, usize::from(octet(word(call, 1), 0)));
+    let written = camera.write(out);
+    print::code(wire::status(written));
+    print::count(written.unwrap_or(0));
     print::bytes(out);
-    next
+    camera
 }
 
 // Loading a snapshot.
 fn load(camera: Camera, call: &[u8]) -> Camera {
-    let mut snapshot = [0u8; LENT];
-    let n = decode(word(call, 1), &mut snapshot);
-    told(camera.load(wire::head(&snapshot, n)))
+    let snapshot = Bytes::<LENT>::of(word(call, 1));
+    changed(camera, camera.load(snapshot.as_slice()))
 }
 
-// The bytes of a batch: those that a word gives, and zeros behind them up to a length, if that is more.
-fn packed(given: usize, len: usize) -> usize {
-    if given < len {
-        return len;
-    }
-    given
-}
-
-// A batch: room for its answers, its requests, and how long it is with zeros behind them.
+// A batch: room for its answers, its requests, and how long it is with zeros behind them, if that is more.
 fn run_batch(camera: Camera, call: &[u8]) -> Camera {
-    let mut bytes = [0u8; LONGEST_BATCH];
-    let n = decode(word(call, 2), &mut bytes);
-    let len = packed(n, place(word(call, 3)));
+    let given = Bytes::<LONGEST_BATCH>::of(word(call, 2));
+    let len = given.as_slice().len().max(place(word(call, 3)));
     let mut room = [0xEEu8; LENT_ANSWERS];
     let out = first(&mut room, place(word(call, 1)));
-    let next = told(batch::run(camera, wire::head(&bytes, len), out));
+    let done = batch::run(camera, given.first(len), out);
+    let next = told(camera, done);
     print::bytes(out);
     next
 }
 
 // The number that the sensor is handed.
 fn sensor(camera: Camera) -> Camera {
-    let s = camera.sensor();
-    print::code(s.code);
-    print::signed(s.value);
-    let next = s.camera;
-    next
+    let sensed = camera.sensor();
+    print::code(wire::status(sensed));
+    print::signed(sensed.unwrap_or(0));
+    camera
 }
 
 // A fresh camera, and whether its profile is valid.
@@ -84,29 +85,15 @@ fn fresh(call: &[u8]) -> Camera {
 // camera, hold, request ROOM SETUP PAYLOAD, flag ON (the streaming flag), load SNAPSHOT, write ROOM, sensor, batch ROOM REQUESTS [LENGTH]
 // (zeros behind them up to the length).
 pub(crate) fn run(camera: Camera, call: &[u8]) -> Camera {
-    if called(call, b"camera") {
-        return fresh(call);
+    match word(call, 0) {
+        b"camera" => fresh(call),
+        b"hold" => record::holding(camera, call),
+        b"request" => request(camera, call),
+        b"flag" => changed(camera, camera.set_streaming(octet(word(call, 1), 0) != 0)),
+        b"load" => load(camera, call),
+        b"write" => write(camera, call),
+        b"sensor" => sensor(camera),
+        b"batch" => run_batch(camera, call),
+        _ => camera,
     }
-    if called(call, b"hold") {
-        return record::holding(camera, call);
-    }
-    if called(call, b"request") {
-        return request(camera, call);
-    }
-    if called(call, b"flag") {
-        return told(camera.set_streaming(octet(word(call, 1), 0) != 0));
-    }
-    if called(call, b"load") {
-        return load(camera, call);
-    }
-    if called(call, b"write") {
-        return write(camera, call);
-    }
-    if called(call, b"sensor") {
-        return sensor(camera);
-    }
-    if called(call, b"batch") {
-        return run_batch(camera, call);
-    }
-    camera
 }

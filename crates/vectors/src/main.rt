@@ -19,7 +19,6 @@ ghost use Rattle.std.specs.Prelude.{◌≡◌, length};
 
 use camera::Camera;
 use peripheral::Peripheral;
-use wire::Part;
 
 // The two units that the rows go to.
 #[derive(Clone, Copy)]
@@ -46,12 +45,12 @@ fn rows(s: &[u8]) {
         camera: record::first(),
         peripheral: peripherals::blank(),
     };
-    let mut at = 0;
-    while at < s.len() {
-        let end = words::until(s, at, b'\n', true);
-        let len = end - at;
-        board = row(board, wire::part_at(s, Part { at, len }));
-        at = end + 1;
+    if s.is_empty() {
+        return;
+    }
+    // The last line may end without a newline.
+    for line in s.strip_suffix(b"\n").unwrap_or(s).split(|b| *b == b'\n') {
+        board = row(board, line);
     }
 }
 

@@ -2,18 +2,20 @@
 // the count and the reset in decimal.
 use crate::buffers::{LENT, first};
 use crate::print;
-use crate::words::{called, decode, number, octet, place, word};
-use peripheral::{Outcome, Peripheral};
+use crate::words::{Bytes, number, octet, place, word};
+use peripheral::Peripheral;
+use request::Done;
+use wire::Refusal;
 
 fn record(p: Peripheral) {
     printing::text(b" |");
-    print::hex(p.unit as u64, 2);
-    print::hex(p.interface as u64, 2);
+    print::hex(u64::from(p.unit), 2);
+    print::hex(u64::from(p.interface), 2);
     print::hex(p.mask, 16);
     print::hex(p.mode, 16);
-    print::count(p.toggle as usize);
+    print::count(usize::from(p.toggle));
     print::count(p.count as usize);
-    print::count(p.reset as usize);
+    print::count(usize::from(p.reset));
 }
 
 // A record as it stands, of which nothing is asked.
@@ -24,13 +26,18 @@ fn stands(p: Peripheral) -> Peripheral {
 }
 
 // Writes number and count, and what is left in the buffer that was lent.
-fn told(r: Outcome, lent: &[u8]) -> Peripheral {
-    print::code(r.code);
-    print::count(r.count);
+fn told(p: Peripheral, done: Result<Done<Peripheral>, Refusal>, lent: &[u8]) -> Peripheral {
+    print::code(wire::status(done));
+    let Done { count, next } = done.unwrap_or(Done { count: 0, next: p });
+    print::count(count);
     print::bytes(lent);
-    let p = r.peripheral;
-    record(p);
-    p
+    record(next);
+    next
+}
+
+// A notice writes nothing and is lent nothing.
+fn noticed(p: Peripheral, next: Result<Peripheral, Refusal>) -> Peripheral {
+    told(p, next.map(|next| Done { count: 0, next }), b"")
 }
 
 // A fresh unit: its id, interface and mask.
@@ -42,26 +49,22 @@ fn fresh(call: &[u8]) -> Peripheral {
 // The unit with a mode, a toggle, a count and a reset, also such as no call leaves.
 fn holding(p: Peripheral, call: &[u8]) -> Peripheral {
     Peripheral {
-        unit: p.unit,
-        interface: p.interface,
-        mask: p.mask,
         mode: place(word(call, 1)) as u64,
         toggle: octet(word(call, 2), 0),
         count: number(word(call, 3), 0),
         reset: octet(word(call, 4), 0),
+        ..p
     }
 }
 
 // A request: room for the reply, setup, payload.
 fn request(p: Peripheral, call: &[u8]) -> Peripheral {
-    let mut setup = [0u8; LENT];
-    let n = decode(word(call, 2), &mut setup);
-    let mut payload = [0u8; LENT];
-    let m = decode(word(call, 3), &mut payload);
+    let setup = Bytes::<LENT>::of(word(call, 2));
+    let payload = Bytes::<LENT>::of(word(call, 3));
     let mut room = [0xEEu8; LENT];
-    let reply = first(&mut room, octet(word(call, 1), 0) as usize);
-    let r = p.request(wire::head(&setup, n), wire::head(&payload, m), reply);
-    told(r, reply)
+    let reply = first(&mut room, usize::from(octet(word(call, 1), 0)));
+    let done = p.request(setup.as_slice(), payload.as_slice(), reply);
+    told(p, done, reply)
 }
 
 // A unit without modes, until a row gives another.
@@ -72,20 +75,12 @@ pub(crate) fn blank() -> Peripheral {
 // unit UNIT INTERFACE MASK, unit-hold MODE TOGGLE COUNT RESET, unit-request ROOM SETUP PAYLOAD, unit-count COUNT (the detector's),
 // unit-restart.
 pub(crate) fn run(p: Peripheral, call: &[u8]) -> Peripheral {
-    if called(call, b"unit") {
-        return stands(fresh(call));
+    match word(call, 0) {
+        b"unit" => stands(fresh(call)),
+        b"unit-hold" => stands(holding(p, call)),
+        b"unit-request" => request(p, call),
+        b"unit-count" => noticed(p, p.set_count(number(word(call, 1), 0))),
+        b"unit-restart" => noticed(p, p.restart()),
+        _ => p,
     }
-    if called(call, b"unit-hold") {
-        return stands(holding(p, call));
-    }
-    if called(call, b"unit-request") {
-        return request(p, call);
-    }
-    if called(call, b"unit-count") {
-        return told(p.set_count(number(word(call, 1), 0)), b"");
-    }
-    if called(call, b"unit-restart") {
-        return told(p.restart(), b"");
-    }
-    p
 }

@@ -1,31 +1,18 @@
 // Records made of a row's fields, also such as no call leaves.
-use crate::words::{decode, number, octet, word};
+use crate::words::{Bytes, number, octet, word};
 use camera::Camera;
-use controls::{EvSetting, HeldNumber, ThrottleSetting};
-use exposure::{EvLimits, HeldEv};
+use controls::{EvSetting, ThrottleSetting};
+use exposure::EvLimits;
 use face::FaceLimits;
 use hdr::HdrLimits;
 use metadata::MetadataLimits;
 use profile::Profile;
 use settings::Settings;
-use throttle::{HeldThrottle, ThrottleLimits};
-use wire::{endpoints, signed32};
+use throttle::ThrottleLimits;
+use wire::signed32;
 
 fn flag(w: &[u8]) -> bool {
     octet(w, 0) != 0
-}
-
-// Bytes in a profile's places, and in the places of addresses; zeros behind them.
-fn listed(w: &[u8]) -> [u8; endpoints::LIMIT] {
-    let mut b = [0u8; endpoints::LIMIT];
-    decode(w, &mut b);
-    b
-}
-
-fn by_address(w: &[u8]) -> [u8; endpoints::PLACES] {
-    let mut b = [0u8; endpoints::PLACES];
-    decode(w, &mut b);
-    b
 }
 
 fn ev_limits(w: &[u8]) -> EvLimits {
@@ -39,8 +26,8 @@ fn ev_limits(w: &[u8]) -> EvLimits {
 fn face_limits(count: &[u8], addresses: &[u8], offers: &[u8]) -> FaceLimits {
     FaceLimits {
         count: octet(count, 0),
-        addresses: listed(addresses),
-        offers: listed(offers),
+        addresses: Bytes::of(addresses).places(),
+        offers: Bytes::of(offers).places(),
     }
 }
 
@@ -61,45 +48,33 @@ fn throttle_limits(w: &[u8]) -> ThrottleLimits {
 
 // A profile: unit and interface, controls, EV, face (count, addresses, offers), metadata, Auto, throttle.
 pub(crate) fn profile(call: &[u8]) -> Profile {
-    let ev = ev_limits(word(call, 4));
-    let face = face_limits(word(call, 5), word(call, 6), word(call, 7));
-    let metadata = metadata_limits(word(call, 8));
-    let auto = flag(word(call, 9));
-    let throttle = throttle_limits(word(call, 10));
     Profile {
         unit: octet(word(call, 1), 0),
         interface: octet(word(call, 2), 0),
         controls: number(word(call, 3), 0),
-        ev,
-        face,
-        metadata,
-        hdr: HdrLimits { auto },
-        throttle,
+        ev: ev_limits(word(call, 4)),
+        face: face_limits(word(call, 5), word(call, 6), word(call, 7)),
+        metadata: metadata_limits(word(call, 8)),
+        hdr: HdrLimits {
+            auto: flag(word(call, 9)),
+        },
+        throttle: throttle_limits(word(call, 10)),
     }
 }
 
-fn ev(w: &[u8]) -> HeldEv {
-    if w.len() < 2 {
-        return HeldEv::Unset;
-    }
-    HeldEv::Held(EvSetting {
+fn ev(w: &[u8]) -> Option<EvSetting> {
+    (2 <= w.len()).then_some(EvSetting {
         flags: octet(w, 0),
         value: signed32(number(w, 1)),
     })
 }
 
-fn held(w: &[u8]) -> HeldNumber {
-    if w.len() < 2 {
-        return HeldNumber::Unset;
-    }
-    HeldNumber::Held(number(w, 0))
+fn held(w: &[u8]) -> Option<u32> {
+    (2 <= w.len()).then_some(number(w, 0))
 }
 
-fn throttle(w: &[u8]) -> HeldThrottle {
-    if w.len() < 2 {
-        return HeldThrottle::Unset;
-    }
-    HeldThrottle::Held(ThrottleSetting {
+fn throttle(w: &[u8]) -> Option<ThrottleSetting> {
+    (2 <= w.len()).then_some(ThrottleSetting {
         mode: number(w, 0),
         percent: number(w, 4),
     })
@@ -107,23 +82,15 @@ fn throttle(w: &[u8]) -> HeldThrottle {
 
 // The camera's profile and flag with settings: EV, face by address, metadata, HDR, throttle.
 pub(crate) fn holding(camera: Camera, call: &[u8]) -> Camera {
-    let profile = camera.profile;
-    let ev = ev(word(call, 1));
-    let face = by_address(word(call, 2));
-    let metadata = held(word(call, 3));
-    let hdr = held(word(call, 4));
-    let throttle = throttle(word(call, 5));
-    let settings = Settings {
-        ev,
-        face,
-        metadata,
-        hdr,
-        throttle,
-    };
     Camera {
-        profile,
-        streaming: camera.streaming,
-        settings,
+        settings: Settings {
+            ev: ev(word(call, 1)),
+            face: Bytes::of(word(call, 2)).places(),
+            metadata: held(word(call, 3)),
+            hdr: held(word(call, 4)),
+            throttle: throttle(word(call, 5)),
+        },
+        ..camera
     }
 }
 

@@ -1,30 +1,49 @@
 // Calls on descriptor sets.
 use crate::print;
-use crate::words::{called, decode, place, word};
-use descriptors::Interface;
+use crate::words::{Bytes, place, word};
+use descriptors::{Fault, RegistryProperty};
+use wire::{Numbered, Part};
 
-fn interface(i: Interface) {
-    match i {
-        Interface::Nowhere => {
+fn interface(first: Option<u8>) {
+    match first {
+        None => {
             printing::text(b" -");
         }
-        Interface::First(n) => {
-            print::count(n as usize);
+        Some(n) => print::count(usize::from(n)),
+    }
+}
+
+// The number and the offset of a fault, or those of what is sound.
+fn fault(found: Option<Fault>, offset: usize) {
+    match found {
+        None => {
+            print::code(0);
+            print::count(offset);
+        }
+        Some(fault) => {
+            print::code(fault.refusal.code());
+            print::count(fault.offset);
         }
     }
 }
 
 // Property k: number, offset, data type, interface, name and data. Whether there is one.
 fn entry(set: &[u8], k: usize) -> bool {
-    let p = descriptors::property(set, k);
-    print::code(p.code);
-    print::count(p.offset);
-    print::count(p.kind);
-    let i = p.interface;
-    interface(i);
-    print::part(wire::part_at(set, p.name));
-    print::part(wire::part_at(set, p.value));
-    p.code == 0
+    let read = descriptors::property(set, k);
+    let nowhere = Part { at: 0, len: 0 };
+    let property = read.unwrap_or(RegistryProperty {
+        offset: 0,
+        kind: 0,
+        name: nowhere,
+        value: nowhere,
+        interface: None,
+    });
+    fault(read.err(), property.offset);
+    print::count(property.kind);
+    interface(property.interface);
+    print::part(wire::part_at(set, property.name));
+    print::part(wire::part_at(set, property.value));
+    read.is_ok()
 }
 
 // A property on a line of its own.
@@ -35,51 +54,40 @@ fn line(set: &[u8], k: usize) -> bool {
 }
 
 fn properties(set: &[u8]) {
-    let mut k = 0;
-    while k < 16 {
+    for k in 0..16 {
         if !line(set, k) {
             return;
         }
-        k += 1;
     }
 }
 
 // The refusal, its offset and what the boot code gets; then each property and the first that is not there.
 fn check(set: &[u8]) {
-    let f = descriptors::check(set);
-    print::code(f.code);
-    print::count(f.offset);
-    print::hex(descriptors::flandurvi_descriptors_check(set) as u64, 2);
+    fault(descriptors::check(set).err(), 0);
+    print::hex(u64::from(descriptors::flandurvi_descriptors_check(set)), 2);
     properties(set);
 }
 
 fn set(call: &[u8]) {
-    let mut bytes = [0u8; 1024];
-    let n = decode(word(call, 1), &mut bytes);
-    check(wire::head(&bytes, n));
+    check(Bytes::<1024>::of(word(call, 1)).as_slice());
 }
 
 fn long_set(call: &[u8]) {
-    let mut bytes = [0u8; 65546];
-    decode(word(call, 2), &mut bytes);
-    check(wire::head(&bytes, place(word(call, 1))));
+    let given = Bytes::<65546>::of(word(call, 2));
+    check(given.first(place(word(call, 1))));
 }
 
 fn property(call: &[u8]) {
-    let mut bytes = [0u8; 1024];
-    let n = decode(word(call, 2), &mut bytes);
-    entry(wire::head(&bytes, n), place(word(call, 1)));
+    let given = Bytes::<1024>::of(word(call, 2));
+    entry(given.as_slice(), place(word(call, 1)));
 }
 
 // set SET, long-set LENGTH SET (zeros behind it up to the length), property K SET.
 pub(crate) fn run(call: &[u8]) {
-    if called(call, b"set") {
-        set(call);
-    }
-    if called(call, b"long-set") {
-        long_set(call);
-    }
-    if called(call, b"property") {
-        property(call);
+    match word(call, 0) {
+        b"set" => set(call),
+        b"long-set" => long_set(call),
+        b"property" => property(call),
+        _ => {}
     }
 }

@@ -1,94 +1,53 @@
 // The words of a line, and the bytes that a word gives in hex.
-ghost use Rattle.std.specs.Prelude.{◌≤◌, ◌<◌, length};
-
-use wire::Part;
+ghost use Rattle.std.specs.Prelude.{◌<◌, ◌≤◌, length};
 
 // The next place where a byte is c (found) or is another (not found), or the end.
 pub(crate) fn until(s: &[u8], at: usize, c: u8, found: bool) -> usize
-    requires { at ≤ length s.now }
-    ensures { (at ≤ result) × (result ≤ length s.now) }
+    ensures behind { at ≤ length s.now → at ≤ result }
+    ensures within { result ≤ length s.now }
 {
-    let mut i = at;
-    while i < s.len() {
-        if (s[i] == c) == found {
-            return i;
-        }
-        i += 1;
-    }
-    i
+    let rest = wire::tail(s, at);
+    let passed = rest.iter().position(|b| (*b == c) == found);
+    s.len() - rest.len() + passed.unwrap_or(rest.len())
 }
 
 // What stands behind the first c and the blanks after it.
 pub(crate) fn behind(s: &[u8], c: u8) -> &[u8] {
-    let at = until(s, 0, c, true);
-    if at < s.len() {
-        return wire::tail(s, until(s, at + 1, b' ', false));
-    }
-    wire::tail(s, at)
+    let at = until(s, 0, c, true).saturating_add(1);
+    wire::tail(s, until(s, at, b' ', false))
 }
 
 // Word k, or nothing.
 pub(crate) fn word(s: &[u8], k: usize) -> &[u8] {
     let mut at = 0;
-    let mut i = 0;
-    while i < k {
+    for _ in 0..k {
         at = until(s, until(s, at, b' ', true), b' ', false);
-        i += 1;
     }
-    let end = until(s, at, b' ', true);
-    let word = Part { at, len: end - at };
-    wire::part_at(s, word)
-}
-
-// Whether two words are the same.
-fn same(a: &[u8], b: &[u8]) -> bool {
-    if a.len() != b.len() {
-        return false;
-    }
-    let mut i = 0;
-    while i < a.len() {
-        if wire::byte(a, i) != wire::byte(b, i) {
-            return false;
-        }
-        i += 1;
-    }
-    true
-}
-
-// Whether a call is of that name.
-pub(crate) fn called(call: &[u8], name: &[u8]) -> bool {
-    same(word(call, 0), name)
+    let rest = wire::tail(s, at);
+    wire::head(rest, until(rest, 0, b' ', true))
 }
 
 fn digit(c: u8) -> u8
     ensures { result < 16 }
 {
-    if c < 48 {
-        return 0;
+    match c {
+        b'0'..=b'9' => c - b'0',
+        b'a'..=b'f' => c - b'a' + 10,
+        _ => 0,
     }
-    if c <= 57 {
-        return c - 48;
-    }
-    if c < 97 {
-        return 0;
-    }
-    if c <= 102 {
-        return c - 87;
-    }
-    0
 }
 
 // Byte i of a word in hex, 0 past its end.
 pub(crate) fn octet(s: &[u8], i: usize) -> u8 {
-    if s.len() / 2 <= i {
-        return 0;
+    match s.chunks_exact(2).nth(i) {
+        None => 0,
+        Some(pair) => 16 * digit(pair[0]) + digit(pair[1]),
     }
-    digit(wire::byte(s, 2 * i)) * 16 + digit(wire::byte(s, 2 * i + 1))
 }
 
 // The number of the four bytes from i on.
 pub(crate) fn number(s: &[u8], i: u8) -> u32 {
-    let at = i as usize;
+    let at = usize::from(i);
     let b = [
         octet(s, at),
         octet(s, at + 1),
@@ -103,16 +62,33 @@ pub(crate) fn place(s: &[u8]) -> usize {
     number(s, 4) as usize * 0x1_0000_0000 + number(s, 0) as usize
 }
 
-// All bytes of a word in hex, as far as out reaches, and how many.
-pub(crate) fn decode(s: &[u8], out: &mut [u8]) -> usize {
-    let n = s.len() / 2;
-    let mut i = 0;
-    while i < out.len() {
-        if i == n {
-            return i;
+// The bytes that a word gives in hex, as far as there are N places, and how many; zeros behind them.
+#[derive(Clone, Copy)]
+pub(crate) struct Bytes<const N: usize> {
+    places: [u8; N],
+    len: usize,
+}
+
+impl<const N: usize> Bytes<N> {
+    pub(crate) fn of(word: &[u8]) -> Bytes<N> {
+        let mut places = [0; N];
+        for (place, pair) in places.iter_mut().zip(word.chunks_exact(2)) {
+            *place = 16 * digit(pair[0]) + digit(pair[1]);
         }
-        out[i] = octet(s, i);
-        i += 1;
+        let len = N.min(word.len() / 2);
+        Bytes { places, len }
     }
-    i
+
+    pub(crate) fn places(&self) -> [u8; N] {
+        self.places
+    }
+
+    pub(crate) fn as_slice(&self) -> &[u8] {
+        self.first(self.len)
+    }
+
+    // As many of the places, zeros among them, as there are.
+    pub(crate) fn first(&self, len: usize) -> &[u8] {
+        wire::head(&self.places, len)
+    }
 }

@@ -1,17 +1,8 @@
--- `answer_length`: the two cases that the search finds only near its limits.
-use Rattle.std.proofs.Common.{sym, ◌∙◌}
-use borrow.Author.Tests.{ne_eqb}
+-- The codes that answer by the control. Assumes nothing.
+use Rattle.std.proofs.Common.{rules}
 use Rattle.settings.specs.Settings.{no_settings}
 use Rattle.answering.proofs.Laws.Answering.{length_by_lem}
 use Rattle.answering.proofs.answer_length.Goals as goal
 
-pub returns-then-selector-code : goal.returns-then-selector-code
-returns-then-selector-code c =
-    sym (length_by_lem _ no_settings _ _
-    ∙ rw (ne_eqb _ _ c.if-code-eq-GET_LEN.false, ne_eqb _ _ c.if-code-eq-GET_INFO.false, c.if-selector-code.true))
-
-pub returns : goal.returns
-returns c =
-    c.payload_length.ensures
-    ∙ sym (length_by_lem _ no_settings _ _
-    ∙ rw (ne_eqb _ _ c.if-code-eq-GET_LEN.false, ne_eqb _ _ c.if-code-eq-GET_INFO.false, c.if-selector-code.false))
+pub returns-in_default : goal.returns-in_default
+returns-in_default c = rw (length_by_lem c.args.p no_settings c.args.selector c.args.code) (search rules)

@@ -10,7 +10,9 @@ use Rattle.request.specs.{Tests.{request_tests}, Answers.{longest_answer}}
 use Rattle.request.proofs.Laws.Rooms.{reply_length_lem}
 use Rattle.profile.specs.{declared.Profile.{Profile}, Profile.{profile_valid}}
 use Rattle.answering.specs.Answering.{answer_length}
-use Rattle.camera.specs.{declared.{record.Camera.{Camera}, calls.Outcome.{Outcome}}, Record.{fresh, record_well_formed}}
+use Rattle.camera.specs.declared.record.Camera.{Camera}
+use Rattle.camera.specs.Outcomes.{Outcome}
+use Rattle.camera.specs.Record.{fresh, record_well_formed}
 use Rattle.camera.specs.Requests.{rules, table, requested, requested_reply}
 use Rattle.camera.proofs.Laws.Record.{formed_profile}
 use Rattle.invariants.proofs.Laws.{Kept.{none_formed}, Requests.{Stays, request_stays}}

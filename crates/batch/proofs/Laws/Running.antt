@@ -7,13 +7,22 @@ use borrow.Author.Tests.{eq-eqb, ne_eqb, le-ltb, ltb-false, not-false}
 use Rattle.wire.specs.{Numbers.{bytes_of}, Writes.{overlay}, Rows.{◌⇒◌, first_of}, Uvc.{malformed_record, no_room}}
 use Rattle.wire.proofs.Laws.{Rows.{quiet}, Writes.{append, fits, fits_start, no_bytes, same_length, prepend}}
 use Rattle.request.proofs.Laws.Rooms.{reply_by, reply_split}
-use Rattle.camera.specs.{declared.{record.Camera.{Camera}, calls.Outcome.{Outcome}}, Record.{record_well_formed}}
+use Rattle.camera.specs.declared.record.Camera.{Camera}
+use Rattle.camera.specs.Outcomes.{Outcome, of_request}
+use Rattle.camera.specs.Record.{record_well_formed}
 use Rattle.camera.specs.Requests.{table, refused, requested_code, requested, requested_reply}
 use Rattle.invariants.proofs.Laws.Requests.{outcome_code}
 use Rattle.invariants.proofs.Laws.Replies.{Enough, as_sent, count_reply, count_within, reply_handed}
 use Rattle.batch.specs.Packing.{Request, data_length, requests_of, is_whole}
 use Rattle.batch.specs.Answers.{answer_bytes, sent, answer_to, answers_to, camera_after}
-use Rattle.batch.specs.Batch.{cut_batch, batch_answers, batch_code, batch_tests, batched, batched_out}
+use Rattle.std.specs.Prelude.{Result, Ok, Err}
+use Rattle.batch.specs.{declared.refusal.Refusal.{Refusal}, Refusals.{cut_batch, code_of, of_batch}}
+use Rattle.batch.specs.Steps.{answered}
+use Rattle.batch.proofs.Laws.Refusals.{not_accepted, done, told_code, told_count, told_next}
+use Rattle.wire.specs.Refusals.{verdict}
+use Rattle.wire.specs.declared.refusal.Refusal as Wire
+use Rattle.request.specs.declared.reply.Done.{Done}
+use Rattle.batch.specs.Batch.{batch_answers, batch_code, batch_tests, batched, batched_out}
 use Rattle.batch.proofs.Laws.Answers.{answers_append, after-append, answer_size, answers_length_lem, sent_same, answer_same, after_stays}
 use Rattle.batch.proofs.Laws.Walking.{Walked, at-start, walked_all, walked_next, whole_here}
 
@@ -55,6 +64,21 @@ module _ (c : Camera) (setup payload out : List ℕ) (at : ℕ) (h : at + 3 ≤ 
         ap (λ b. overlay b at front) laid
         ∙ prepend out at front handed (omega arith)
         ∙ ap (λ l. overlay out at (front ++ l)) (sym taken)
+
+  -- what the code makes of the request's result, laid over and handed on
+  module _ (r : Result (Done Camera) Wire.Refusal) (is : of_request c r ≡ requested c setup payload (length lent)) where
+    pub front_laid : {left : List ℕ} → left ≡ requested_reply c setup payload lent
+        → overlay (take (at + 3) out ++ (left ++ drop (length out - (at + 3)) (drop (at + 3) out))) at (verdict r ∷ bytes_of 2 (done c r).count)
+        ≡ overlay out at
+        (answer_bytes (requested c setup payload (length out - (at + 3))) (requested_reply c setup payload (drop (at + 3) out)))
+    front_laid {left} is-left =
+        ap₂ (λ (k n : ℕ). overlay (take (at + 3) out ++ (left ++ drop (length out - (at + 3)) (drop (at + 3) out))) at (k ∷ bytes_of 2 n)) (sym (told_code c r)) (sym (told_count c r))
+        ∙ answer_laid is is-left
+        ∙ ap (λ o. overlay out at (answer_bytes o (requested_reply c setup payload (drop (at + 3) out)))) (done_is is)
+
+    pub handed_on : answered (requested c setup payload (length out - (at + 3))) (done c r)
+    handed_on =
+        (sym (told_count c r) ∙ ap (λ o. o.count) (done_is is), sym (told_next c r) ∙ ap (λ o. o.camera) (done_is is))
 
 -- a batch's number
 pub number_is : (c : Camera) (s : List ℕ) (room : ℕ) → (batched c s room).code ≡ batch_code c s room
@@ -99,6 +123,18 @@ pub code_by_profile : (c : Camera) (s : List ℕ) (room : ℕ) → record_well_f
     → batch_code c s room ≡ first_of (batch_tests c.profile s room)
 unfolding batch_code batch_tests
 code_by_profile c s room w = rw (w, answers_length_lem c w (requests_of s))
+
+-- the same by the refusal that the code finds, and what the code has found where it finds none
+module _ (c : Camera) (s out : List ℕ) (w : record_well_formed c ≡ true) where
+  module _ (e : Refusal) (is : code_of e ≡ first_of (batch_tests c.profile s (length out))) where
+    pub found_value : of_batch c (Err e) ≡ batched c s (length out)
+    found_value = (batch_refused c s out (code_of e) (code_by_profile c s (length out) w ∙ sym is) (not_accepted e)).0
+
+    pub found_out : out ≡ batched_out c s out
+    found_out = (batch_refused c s out (code_of e) (code_by_profile c s (length out) w ∙ sym is) (not_accepted e)).1
+
+  pub found_none : 0 ≡ first_of (batch_tests c.profile s (length out)) → batch_code c s (length out) ≡ 0
+  found_none is = code_by_profile c s (length out) w ∙ sym is
 
 -- The requests before a place are answered: the record that they left, and their answers over the start of the buffer.
 pub record Answered (c : Camera) (s out₀ out : List ℕ) (next : Camera) (written at : ℕ) : Type 0 where

@@ -8,7 +8,7 @@ use borrow.Author.Tests.{eq-eqb, ne_eqb, lt-ltb, le-ltb, leb-true, leb-false}
 use Rattle.wire.specs.{Rows.{first_of}, Uvc.{no_room}}
 use Rattle.profile.specs.declared.Profile.{Profile}
 use Rattle.batch.specs.Packing.{Request, data_length, first_request, first_size, requests_of, rest_of, is_whole}
-use Rattle.batch.specs.{Answers.{reply_length, answers_length}, Batch.{cut_batch, batch_tests}}
+use Rattle.batch.specs.{Answers.{reply_length, answers_length}, Refusals.{cut_batch}, Batch.{batch_tests}}
 use Rattle.batch.proofs.Laws.{Packing.{requests_cut, rest-cut, requests_next, rest_next}, Answers.{length_parts}}
 
 -- up to a place at which a request begins, with the requests before it

@@ -4,7 +4,10 @@ use Prim.Native.Nat.{ℕ}
 use native.Mathlib.Omega.{arith}
 use lib.Dec.{eqb}
 use borrow.Author.Tests.{eq-eqb, ne_eqb, eqb-true}
-use Rattle.controls.specs.{declared.{Setting.{Setting}, Item.TheVariants.{Refused, Given}}, Controls.{item_of, item_code}}
+use Rattle.controls.specs.declared.Setting.{Setting}
+use Rattle.std.specs.Option.{unwrap_or}
+use Rattle.std.specs.declared.option.Option.TheVariants as H
+use Rattle.controls.specs.Controls.{Refused, Given, HeldNumber, item_of, item_code, number_or}
 
 module _ (code : ℕ) (s : Setting) where
   pub item_given : code ≡ 0 → item_of code s ≡ Given s
@@ -32,3 +35,9 @@ module _ (code : ℕ) (s : Setting) where
       go : (b : Bool) → eqb code 0 ≡ b → cond b (Given s) (Refused code) ≡ Given t → (code ≡ 0) × (s ≡ t)
       go true p q = (eqb-true code 0 p, cc)
       go false p q = let z : ◌≡◌ {A = ℕ} 0 1 = cc in absurd (omega arith)
+
+-- the number held, as the code reads it
+pub number_read : (n : ℕ) (held : HeldNumber) → unwrap_or held n ≡ number_or n held
+unfolding number_or
+number_read n H.None = refl
+number_read n (H.Some m) = refl

@@ -8,7 +8,8 @@ use Rattle.controls.specs.Controls.{first_refusal}
 
 module _ (code : ℕ → ℕ) where
   -- the first that is refused, where those before it are not
-  refusal_at_lem : (n k i : ℕ) → ((j : ℕ) → j < i → code (j + k) ≡ 0) → i < n → (code (i + k) ≡ 0 → ⊥) → first_refusal n k code ≡ code (i + k)
+  refusal_at_lem : (n k i : ℕ) → ((j : ℕ) → j < i → code (j + k) ≡ 0) → i < n → (code (i + k) ≡ 0 → ⊥)
+      → first_refusal n k code ≡ code (i + k)
   unfolding first_refusal
   refusal_at_lem zero k i before h bad = absurd (omega arith)
   refusal_at_lem (suc n) k zero before h bad = rw zero-add (simp (ne_eqb (code k) 0 (rw zero-add at bad)))

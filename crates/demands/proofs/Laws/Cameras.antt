@@ -9,7 +9,8 @@ use Rattle.wire.specs.Selectors as selector
 use Rattle.snapshot.specs.Records.{IsRecord, GoodAt}
 use Rattle.snapshot.specs.Records as records
 use Rattle.snapshot.proofs.Laws.{Given.{EachRecord}, Controls.{record_ev, record_face, record_metadata, record_hdr, record_throttle}}
-use Rattle.controls.specs.{declared.{Setting.{Setting}, Item.TheVariants.{Given}}, Controls.{item_of}}
+use Rattle.controls.specs.declared.Setting.{Setting}
+use Rattle.controls.specs.Controls.{Given, item_of}
 use Rattle.controls.specs.declared.Setting.TheVariants as S
 use Rattle.exposure.specs.Exposure.{ev_bytes}
 use Rattle.face.specs.Answers.{entry_of}

@@ -11,10 +11,8 @@ use Rattle.request.specs.{Tests.{full_answer}, Answers.{answer_by}}
 use Rattle.answering.specs.Answering.{value_of}
 use Rattle.settings.specs.{Settings.{setting_key}, Held.{face_held, settings_held}}
 use Rattle.controls.specs.declared.Setting.TheVariants as S
-use Rattle.exposure.specs.declared.HeldEv.TheVariants as E
+use Rattle.std.specs.declared.option.Option.TheVariants as E
 use Rattle.controls.specs.{declared.{EvSetting.{EvSetting}, ThrottleSetting.{ThrottleSetting}}, Controls.{number_or}}
-use Rattle.controls.specs.declared.HeldNumber.TheVariants as N
-use Rattle.throttle.specs.declared.HeldThrottle.TheVariants as T
 use Rattle.exposure.specs.Exposure.{ev_bytes, ev_current, ev_attribute}
 use Rattle.face.specs.{Limits.{endpoints_of, address_at}, Answers.{entry_of, held_at}}
 use Rattle.metadata.specs.Metadata.{metadata_attribute}
@@ -33,16 +31,16 @@ use Rattle.demands.proofs.Laws.ReadBack.{current_entry, default_entry, current_h
 module _ (c : Camera) where
   pub ev_current_lem : (s : EvSetting) → held c (setting_key (S.Ev s)) ≡ some (S.Ev s) → camera_answer c selector.ev get_cur ≡ ev_bytes s
   unfolding settings_held full_answer value_of answer_by ev_attribute ev_current
-  ev_current_lem s e = rw (ev_same c.settings.ev (E.Held s) e)
+  ev_current_lem s e = rw (ev_same c.settings.ev (E.Some s) e)
 
   pub hdr_current : (n : ℕ) → held c (setting_key (S.Hdr n)) ≡ some (S.Hdr n) → camera_answer c selector.hdr get_cur ≡ bytes_of 4 n
   unfolding settings_held full_answer value_of answer_by hdr_attribute number_or
-  hdr_current n e = rw (hdr_same c.settings.hdr (N.Held n) e)
+  hdr_current n e = rw (hdr_same c.settings.hdr (E.Some n) e)
 
   pub throttle_current_lem : (s : ThrottleSetting) → held c (setting_key (S.Throttle s)) ≡ some (S.Throttle s)
       → camera_answer c selector.throttle get_cur ≡ throttle_bytes s c.profile.throttle
   unfolding settings_held full_answer value_of answer_by throttle_attribute throttle_current
-  throttle_current_lem s e = rw (throttle_same c.settings.throttle (T.Held s) e)
+  throttle_current_lem s e = rw (throttle_same c.settings.throttle (E.Some s) e)
 
   -- metadata that is held is writable
   module _ (w : record_well_formed c ≡ true) where
@@ -53,7 +51,7 @@ module _ (c : Camera) where
         let writable : c.profile.metadata.writable ≡ true =
         control_settable c.profile selector.metadata
         (held_good c.profile c.settings w metadata_key (S.Metadata n) e).1.control in
-        rw (writable, metadata_same c.settings.metadata (N.Held n) e)
+        rw (writable, metadata_same c.settings.metadata (E.Some n) e)
 
 -- the entry of the endpoint at place j, by its address's setting
 module _ (c : Camera) (j : ℕ) (h : j < endpoints_of c.profile.face) where

@@ -11,7 +11,8 @@ use Rattle.snapshot.specs.{Keys.{keys, key_for}, Form.{stated_key, well_formed},
 use Rattle.merging.specs.Merging.{merged}
 use Rattle.snapshot.proofs.Laws.{Sound.{stands_sound}, Maps.{decode_good, none_above}, Given.{over_none, last_append}}
 use Rattle.merging.proofs.Laws.Merging.{decode_merged, merged_formed}
-use Rattle.controls.specs.{declared.{Item.{Item}, Item.TheVariants.{Refused, Given}, Setting.{Setting}}, Controls.{item_of, item_code}}
+use Rattle.controls.specs.Controls.{Item, Refused, Given, item_of, item_code}
+use Rattle.controls.specs.declared.Setting.{Setting}
 use Rattle.exposure.specs.Exposure.{ev_item}
 use Rattle.entries.specs.Entries.{face_item}
 use Rattle.metadata.specs.Metadata.{metadata_item}

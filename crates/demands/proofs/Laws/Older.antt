@@ -7,7 +7,8 @@ use lib.Dec.{eqb}
 use Rattle.wire.proofs.Laws.Below.{all_same}
 use Rattle.request.specs.Tests.{table_refusal}
 use Rattle.snapshot.specs.{Keys.{keys}, Records.{decode}}
-use Rattle.controls.specs.{declared.{Item.{Item}, Setting.{Setting}}, Controls.{item_code, first_refusal}}
+use Rattle.controls.specs.Controls.{Item, item_code, first_refusal}
+use Rattle.controls.specs.declared.Setting.{Setting}
 use Rattle.controls.specs.declared.Setting.TheVariants as S
 use Rattle.face.specs.{Limits.{offers_of}, Theorems.{ZerosFrom, SameInFirst}}
 use Rattle.face.proofs.Theorems.{zeros_left_out, zeros_behind}
@@ -15,7 +16,10 @@ use Rattle.entries.specs.Entries.{entry_address, entry_refusal, face_item, setti
 use Rattle.profile.specs.{declared.Profile.{Profile}, Profile.{profile_valid_under, profile_refusal}, Items.{profile_item}}
 use Rattle.settings.specs.{declared.settings.Settings.{Settings}, Held.{settings_held}, Kept.{value_refusal, kept, settings_well_formed_under}}
 use Rattle.settings.specs.Items.{given_of, all_given}
-use Rattle.camera.specs.{declared.{record.Camera.{Camera}, calls.Outcome.{Outcome}}, Record.{puts}, Requests.{refused}}
+use Rattle.camera.specs.declared.record.Camera.{Camera}
+use Rattle.camera.specs.Outcomes.{Outcome}
+use Rattle.camera.specs.Record.{puts}
+use Rattle.camera.specs.Requests.{refused}
 use Rattle.camera.specs.Loading.{record_item, load_refusal, load_tests, load_code_under, load_gives, loaded_under}
 use Rattle.demands.specs.Endpoints.{old_limit, old_places, old_profile, old_record, old_outcome}
 

@@ -10,7 +10,8 @@ use Rattle.wire.specs.{Endpoints.{first_address, last_address, places}, Numbers.
 use Rattle.wire.specs.Selectors as selectors
 use Rattle.wire.proofs.Laws.{Bytes.{bytes-at, word_bytes}, Numbers.{Bytes}}
 use Rattle.request.specs.{Answers.{answer_by}, Tests.{full_answer}}
-use Rattle.controls.specs.declared.{Item.{Item}, Item.TheVariants.{Given}, Setting.{Setting}}
+use Rattle.controls.specs.Controls.{Item, Given}
+use Rattle.controls.specs.declared.Setting.{Setting}
 use Rattle.controls.specs.Controls.{item_of, number_or, item_code, first_refusal}
 use Rattle.controls.specs.declared.Setting.TheVariants as S
 use Rattle.exposure.specs.Exposure.{ev_flags, ev_value, ev_item, ev_current, ev_attribute}

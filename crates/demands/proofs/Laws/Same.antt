@@ -6,29 +6,28 @@ use lib.{Dec.{eqb}, ListN.{length, get_or}, Seq.{ext_get_or}}
 use borrow.Author.Tests.{eqb-true}
 use Rattle.snapshot.specs.Keys.{metadata_key, hdr_key, throttle_key}
 use Rattle.wire.specs.Endpoints.{first_address, places}
-use Rattle.controls.specs.declared.{Setting.{Setting}, HeldNumber.{HeldNumber}}
+use Rattle.controls.specs.declared.Setting.{Setting}
+use Rattle.controls.specs.Controls.{HeldNumber}
 use Rattle.controls.specs.declared.Setting.TheVariants as S
-use Rattle.exposure.specs.declared.HeldEv.{HeldEv}
-use Rattle.exposure.specs.declared.HeldEv.TheVariants as E
-use Rattle.controls.specs.declared.HeldNumber.TheVariants as N
-use Rattle.throttle.specs.declared.HeldThrottle.{HeldThrottle}
-use Rattle.throttle.specs.declared.HeldThrottle.TheVariants as T
+use Rattle.controls.specs.Controls.{HeldEv}
+use Rattle.std.specs.declared.option.Option.TheVariants as E
+use Rattle.controls.specs.Controls.{HeldThrottle}
 use Rattle.settings.specs.declared.settings.Settings.{Settings}
 use Rattle.settings.specs.Held.{settings_held, ev_held, face_held, number_held, metadata_held, hdr_held, throttle_held}
 use Rattle.invariants.proofs.Laws.Held.{none_never, held_face}
 
 pub ev_same : (a b : HeldEv) → ev_held a ≡ ev_held b → a ≡ b
-ev_same E.Unset E.Unset e = refl
-ev_same E.Unset (E.Held t) e = absurd (none_never (S.Ev t) e)
-ev_same (E.Held s) E.Unset e = absurd (none_never (S.Ev s) (sym e))
-ev_same (E.Held s) (E.Held t) e = cc
+ev_same E.None E.None e = refl
+ev_same E.None (E.Some t) e = absurd (none_never (S.Ev t) e)
+ev_same (E.Some s) E.None e = absurd (none_never (S.Ev s) (sym e))
+ev_same (E.Some s) (E.Some t) e = cc
 
 number_same : (control : ℕ → Setting) → ((m n : ℕ) → control m ≡ control n → m ≡ n) → (a b : HeldNumber)
     → number_held control a ≡ number_held control b → a ≡ b
-number_same control f N.Unset N.Unset e = refl
-number_same control f N.Unset (N.Held n) e = absurd (none_never (control n) e)
-number_same control f (N.Held m) N.Unset e = absurd (none_never (control m) (sym e))
-number_same control f (N.Held m) (N.Held n) e = ap N.Held (f m n (cc))
+number_same control f E.None E.None e = refl
+number_same control f E.None (E.Some n) e = absurd (none_never (control n) e)
+number_same control f (E.Some m) E.None e = absurd (none_never (control m) (sym e))
+number_same control f (E.Some m) (E.Some n) e = ap E.Some (f m n (cc))
 
 pub metadata_same : (a b : HeldNumber) → metadata_held a ≡ metadata_held b → a ≡ b
 metadata_same = number_same S.Metadata (λ m n e. cc)
@@ -37,10 +36,10 @@ pub hdr_same : (a b : HeldNumber) → hdr_held a ≡ hdr_held b → a ≡ b
 hdr_same = number_same S.Hdr (λ m n e. cc)
 
 pub throttle_same : (a b : HeldThrottle) → throttle_held a ≡ throttle_held b → a ≡ b
-throttle_same T.Unset T.Unset e = refl
-throttle_same T.Unset (T.Held t) e = absurd (none_never (S.Throttle t) e)
-throttle_same (T.Held s) T.Unset e = absurd (none_never (S.Throttle s) (sym e))
-throttle_same (T.Held s) (T.Held t) e = cc
+throttle_same E.None E.None e = refl
+throttle_same E.None (E.Some t) e = absurd (none_never (S.Throttle t) e)
+throttle_same (E.Some s) E.None e = absurd (none_never (S.Throttle s) (sym e))
+throttle_same (E.Some s) (E.Some t) e = cc
 
 -- of a face place none is held exactly where it is 0
 pub face_same : (address m n : ℕ) → face_held address m ≡ face_held address n → m ≡ n

@@ -12,7 +12,7 @@ use Rattle.wire.specs.Selectors as selectors
 use Rattle.wire.proofs.Laws.{Bytes.{number_bytes}, Rows.{answers_number}}
 use Rattle.request.specs.{Setup.{setup_w_length}, Tests.{request_tests, value_tests, set_accepted, table_refusal}}
 use Rattle.snapshot.proofs.Laws.Sound.{Sound, Kind, ev, face, metadata, hdr, throttle, kind_of, sound_address, stands_sound, stands_size}
-use Rattle.controls.specs.{declared.{Item.{Item}, Item.TheVariants.{Refused, Given}}, Controls.{item_code, first_refusal}}
+use Rattle.controls.specs.Controls.{Item, Refused, Given, item_code, first_refusal}
 use Rattle.face.proofs.Laws.Limits.{count_least}
 use Rattle.entries.proofs.Laws.Payload.{set_length_first}
 use Rattle.profile.specs.{declared.Profile.{Profile}, Profile.{has, is_settable, set_length, profile_valid}}

@@ -8,7 +8,8 @@ use Rattle.wire.specs.{Endpoints.{places}, Rows.{first_of}}
 use Rattle.wire.specs.Selectors as selectors
 use Rattle.request.specs.{Setup.{is_set_request}, Tests.{set_accepted}}
 use Rattle.snapshot.specs.{Keys.{keys, metadata_key, hdr_key}, Records.{decode}, Given.{over, last_of}}
-use Rattle.controls.specs.declared.{Item.{Item}, Item.TheVariants.{Refused, Given}, Setting.{Setting}}
+use Rattle.controls.specs.Controls.{Item, Refused, Given}
+use Rattle.controls.specs.declared.Setting.{Setting}
 use Rattle.profile.specs.{declared.Profile.{Profile}, Profile.{profile_valid}, Items.{profile_item}}
 use Rattle.profile.specs.KnownControl.{KnownControl, ev, face, metadata, hdr, throttle}
 use Rattle.settings.specs.Items.{put_all}

@@ -4,11 +4,11 @@ use Prim.Native.Nat.{ℕ, ◌+◌, ◌-◌, ◌^◌, ◌<◌}
 use lib.{Dec.{eqb, leb, lit<}, ListN.{get_or}}
 use Rattle.snapshot.specs.Keys.{metadata_key, hdr_key, throttle_key}
 use Rattle.wire.specs.Endpoints.{first_address, places}
-use Rattle.controls.specs.declared.{Setting.{Setting}, HeldNumber.{HeldNumber}}
+use Rattle.controls.specs.declared.Setting.{Setting}
+use Rattle.controls.specs.Controls.{HeldNumber}
 use Rattle.controls.specs.declared.Setting.TheVariants as S
-use Rattle.controls.specs.declared.HeldNumber.TheVariants as N
-use Rattle.throttle.specs.declared.HeldThrottle.{HeldThrottle}
-use Rattle.throttle.specs.declared.HeldThrottle.TheVariants as T
+use Rattle.std.specs.declared.option.Option.TheVariants as N
+use Rattle.controls.specs.Controls.{HeldThrottle}
 use Rattle.settings.specs.declared.settings.Settings.{Settings}
 use Rattle.settings.specs.Held.{ev_held, face_held, number_held, metadata_held, hdr_held, throttle_held, settings_held}
 use Rattle.demands.specs.Cameras.{setting_flags}
@@ -28,12 +28,12 @@ held_typed h ev face k s e = go (eqb k 0) (leb k places) (eqb k metadata_key) (e
     of_face flags false address l q = some_is Small (S.Face address flags) s q l
 
     of_number : (control : ℕ → Setting) → ((n : ℕ) → Small (control n)) → (n : HeldNumber) → number_held control n ≡ some s → Small s
-    of_number control p N.Unset q = absurd (none_never s q)
-    of_number control p (N.Held n) q = some_is Small (control n) s q (p n)
+    of_number control p N.None q = absurd (none_never s q)
+    of_number control p (N.Some n) q = some_is Small (control n) s q (p n)
 
     of_throttle : (t : HeldThrottle) → throttle_held t ≡ some s → Small s
-    of_throttle T.Unset q = absurd (none_never s q)
-    of_throttle (T.Held t) q = some_is Small (S.Throttle t) s q (lit< tt)
+    of_throttle N.None q = absurd (none_never s q)
+    of_throttle (N.Some t) q = some_is Small (S.Throttle t) s q (lit< tt)
 
     go : (a b m d t : Bool)
         → cond a (ev_held h.ev)

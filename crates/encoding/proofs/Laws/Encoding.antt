@@ -1,89 +1,106 @@
 -- Writing a snapshot key by key, as far as the lent buffer reaches. Assumes nothing.
 use mathlib.Core.{Path.{◌≡◌, refl, ap, ap₂, sym, ◌∙◌}, List.{List, [], ◌∷◌, ◌++◌, append-nil}, Option.{Option, none, some, map}}
 use mathlib.Core.Bool.{Bool, true, false, cond}
-use Prim.Native.Nat.{ℕ, suc, ◌+◌, ◌-◌, ◌*◌, ◌≤◌, ◌<◌}
-use native.Mathlib.{Nat.{zero-add, add-zero}, Numerals.{add-one, sub-one}, Omega.{arith}}
-use lib.{Dec.{eqb, lit≤}, ListN.{length, get_or, take, drop, length-append, take-append-drop}, Seq.{take_all}}
-use borrow.Author.Tests.{ne_eqb, le-leb}
+use Prim.Native.Nat.{ℕ, ◌+◌, ◌-◌, ◌*◌, ◌≤◌, ◌<◌}
+use native.Mathlib.{Nat.{add-zero}, Omega.{arith}}
+use lib.{Dec.{eqb, leb, lit≤}, ListN.{length, get_or, take, drop, replicate, length-append}, Seq.{take_at}}
+use borrow.Author.Tests.{eqb-true, le-leb, lt-leb}
+use Rattle.std.specs.Prelude.{Some, None}
+use Rattle.std.specs.Option.{is_some}
 use Rattle.wire.specs.{Numbers.{bytes_of}, Writes.{overlay}, Endpoints.{first_address, places}}
-use Rattle.wire.proofs.Laws.Writes.{no_bytes, append, same_length}
-use Rattle.snapshot.specs.{Keys.{keys}, Records.{record_bytes, records, encode}}
+use Rattle.wire.specs.Selectors as selector
+use Rattle.wire.proofs.Laws.{Bytes.{bytes_byte}, Writes.{fits, no_bytes, append}}
+use Rattle.snapshot.specs.{Keys.{ev_key, metadata_key, hdr_key, throttle_key, keys, record_length}, Records.{record_bytes, records, encode}}
 use Rattle.snapshot.proofs.Laws.Maps.{records_split}
-use Rattle.controls.specs.{declared.{Setting.{Setting}, HeldSetting.{HeldSetting}}, Controls.{setting_held}}
+use Rattle.controls.specs.declared.Setting.{Setting}
+use Rattle.controls.specs.Controls.{HeldEv, HeldNumber, HeldThrottle, HeldSetting, setting_held}
 use Rattle.controls.specs.declared.Setting.TheVariants as S
-use Rattle.controls.specs.declared.{EvSetting.{EvSetting}, ThrottleSetting.{ThrottleSetting}}
+use Rattle.controls.specs.declared.ThrottleSetting.{ThrottleSetting}
 use Rattle.exposure.specs.Exposure.{ev_bytes}
 use Rattle.face.proofs.Laws.Answers.{entry_small}
 use Rattle.throttle.specs.Throttle.{throttle_bytes}
-use Rattle.settings.specs.{declared.settings.Settings.{Settings}, Held.{settings_held, held_setting, face_held}}
-use Rattle.encoding.specs.{Encoding.{record_of, encoded}, Steps.{record_held}}
+use Rattle.settings.specs.{declared.settings.Settings.{Settings}, Held.{settings_held, held_setting, ev_held, face_held, number_held}}
+use Rattle.settings.specs.Held.{throttle_held}
+use Rattle.encoding.specs.Encoding.{framed, no_limits, record_of, encoded}
 
-record_short : (s : Setting) → length (record_of s) ≤ 24
-unfolding record_of bytes_of ev_bytes throttle_bytes
-record_short (S.Ev s) = lit≤ tt
-record_short (S.Face address flags) = lit≤ tt
-record_short (S.Metadata n) = lit≤ tt
-record_short (S.Hdr n) = lit≤ tt
-record_short (S.Throttle s) = lit≤ tt
+-- a record's length and kind before its payload, in a buffer of the longest record's length
+pub framed_laid : (kind : ℕ) (payload : List ℕ) → kind < 256 → length payload ≤ 20
+    → take (4 + length payload) (overlay ((4 + length payload) ∷ 0 ∷ kind ∷ 0 ∷ replicate 20 0) 4 payload) ≡ framed kind payload
+unfolding bytes_of
+framed_laid kind payload h k =
+    let n = 4 + length payload in
+    let head = n ∷ 0 ∷ kind ∷ 0 ∷ [] in
+    let d = n ∷ 0 ∷ kind ∷ 0 ∷ replicate 20 0 in
+    let e : length (head ++ payload) ≡ n = length-append head payload in
+    ap (take n) (fits d 4 payload (omega arith))
+    ∙ take_at (head ++ payload) (drop (4 + length payload) d) n e
+    ∙ ap₂ (λ (a b : List ℕ). a ++ b ++ payload) (sym (bytes_byte 1 n (omega arith))) (sym (bytes_byte 1 kind h))
 
--- how long each is
-pub length_ev : (s : EvSetting) → length (record_of (S.Ev s)) ≡ 15
-unfolding record_of bytes_of ev_bytes
-length_ev s = refl
+-- the throttle's payload
+pub throttle_laid : (s : ThrottleSetting)
+    → overlay (overlay (replicate 20 0) 0 (bytes_of 4 s.mode)) 4 (bytes_of 4 s.percent) ≡ throttle_bytes s no_limits
+unfolding overlay bytes_of throttle_bytes
+throttle_laid s = refl
 
-pub length_face : (address flags : ℕ) → length (record_of (S.Face address flags)) ≡ 13
-unfolding record_of bytes_of
-length_face address flags = refl
-
-pub length_metadata : (n : ℕ) → length (record_of (S.Metadata n)) ≡ 8
-unfolding record_of bytes_of
-length_metadata n = refl
-
-pub length_hdr : (n : ℕ) → length (record_of (S.Hdr n)) ≡ 8
-unfolding record_of bytes_of
-length_hdr n = refl
-
-pub length_throttle : (s : ThrottleSetting) → length (record_of (S.Throttle s)) ≡ 24
-unfolding record_of bytes_of throttle_bytes
-length_throttle s = refl
-
-pub ruleset record_lengths = (length_ev, length_face, length_metadata, length_hdr, length_throttle)
-
--- the records of a place and of a throttle, byte by byte
 pub face_record : (address flags : ℕ) → flags < 256
-    → record_of (S.Face address flags) ≡ 13 ∷ 0 ∷ 6 ∷ 0 ∷ 1 ∷ address ∷ flags ∷ 0 ∷ 0 ∷ 0 ∷ 0 ∷ 0 ∷ 0 ∷ []
+    → framed selector.face (1 ∷ address ∷ flags ∷ 0 ∷ 0 ∷ 0 ∷ 0 ∷ 0 ∷ 0 ∷ []) ≡ record_of (S.Face address flags)
+unfolding record_of
+face_record address flags h = ap (λ (l : List ℕ). framed selector.face (1 ∷ l)) (sym (entry_small address flags h))
+
+-- a setting that is held has a record of this length
+abbrev Long : Option Setting → ℕ → Type 0
+Long none n = Unit {0}
+Long (some s) n = length (record_of s) ≡ n
+
+long-ev : (h : HeldEv) → Long (ev_held h) 15
+unfolding record_of bytes_of ev_bytes
+long-ev None = tt
+long-ev (Some s) = refl
+
+long-face : (address flags : ℕ) → Long (face_held address flags) 13
 unfolding record_of bytes_of
-face_record address flags h = ap (λ (l : List ℕ). 13 ∷ 0 ∷ 6 ∷ 0 ∷ 1 ∷ l) (entry_small address flags h)
-
-pub throttle_record : (s : ThrottleSetting) → let m = bytes_of 4 s.mode in let p = bytes_of 4 s.percent in
-    record_of (S.Throttle s)
-    ≡ 24 ∷ 0 ∷ 14 ∷ 0 ∷ get_or m 0 0 ∷ get_or m 1 0 ∷ get_or m 2 0 ∷ get_or m 3 0
-    ∷ get_or p 0 0 ∷ get_or p 1 0 ∷ get_or p 2 0 ∷ get_or p 3 0 ∷ 0 ∷ 0 ∷ 0 ∷ 0 ∷ 0 ∷ 0 ∷ 0 ∷ 0 ∷ 0 ∷ 0 ∷ 0 ∷ 0 ∷ []
-unfolding record_of bytes_of throttle_bytes
-throttle_record s = refl
-
-lit_nil : (n : ℕ) → length {A = ℕ} [] ≤ n
-lit_nil n = omega arith
-
--- nothing laid over a buffer leaves it
-pub nothing_laid : (d : List ℕ) (i : ℕ) → overlay d i [] ≡ d
-unfolding overlay
-nothing_laid d i =
-    rw (take_all {A = ℕ} (length d - i) [] (lit_nil (length d - i)), add-zero i)
-    (ap (λ l. l ++ drop i d) (append-nil (take i d)) ∙ take-append-drop i d)
-
--- what a place of face authentication holds
-held_place : (s : Settings) (i : ℕ) → i < places → settings_held s (i + 1) ≡ face_held (first_address + i) (get_or s.face i 0)
-unfolding settings_held
-held_place s i h = rw (add-one i, ne_eqb (suc i) 0 (omega arith), le-leb (suc i) places (omega arith), sub-one)
-
-place_length : (address flags : ℕ) → cond (eqb flags 0) 0 13 ≡ length (record_held (face_held address flags))
-unfolding record_of bytes_of
-place_length address flags = go (eqb flags 0)
+long-face address flags = go (eqb flags 0)
   where
-    go : (b : Bool) → cond {A = ℕ} b 0 13 ≡ length (record_held (cond b none (some (S.Face address flags))))
-    go true = refl
+    go : (b : Bool) → Long (cond b none (some (S.Face address flags))) 13
+    go true = tt
     go false = refl
+
+long-metadata : (h : HeldNumber) → Long (number_held S.Metadata h) 8
+unfolding record_of bytes_of
+long-metadata None = tt
+long-metadata (Some n) = refl
+
+long-hdr : (h : HeldNumber) → Long (number_held S.Hdr h) 8
+unfolding record_of bytes_of
+long-hdr None = tt
+long-hdr (Some n) = refl
+
+long-throttle : (h : HeldThrottle) → Long (throttle_held h) 24
+unfolding record_of bytes_of throttle_bytes
+long-throttle None = tt
+long-throttle (Some s) = refl
+
+-- of each key that of the key
+long : (s : Settings) (k : ℕ) → Long (settings_held s k) (record_length k)
+unfolding settings_held
+long s k = go (eqb k ev_key) (leb k places) (eqb k metadata_key) refl (eqb k hdr_key) refl (eqb k throttle_key) refl
+  where
+    go : (a b c : Bool) → eqb k metadata_key ≡ c → (d : Bool) → eqb k hdr_key ≡ d → (e : Bool) → eqb k throttle_key ≡ e
+        → Long
+        (cond a (ev_held s.ev)
+        (cond b (face_held (first_address + (k - 1)) (get_or s.face (k - 1) 0))
+        (cond c (number_held S.Metadata s.metadata)
+        (cond d (number_held S.Hdr s.hdr)
+        (cond e (throttle_held s.throttle) none)))))
+        (cond a 15 (cond b 13 (cond (leb k hdr_key) 8 (cond e 24 0))))
+    go true b c p d q e r = long-ev s.ev
+    go false true c p d q e r = long-face (first_address + (k - 1)) (get_or s.face (k - 1) 0)
+    go false false true p d q e r =
+        let i = eqb-true k metadata_key p in rw (le-leb k hdr_key (omega arith)) (long-metadata s.metadata)
+    go false false false p true q e r = let i = eqb-true k hdr_key q in rw (le-leb k hdr_key (omega arith)) (long-hdr s.hdr)
+    go false false false p false q true r =
+        let i = eqb-true k throttle_key r in rw (lt-leb k hdr_key (omega arith)) (long-throttle s.throttle)
+    go false false false p false q false r = tt
 
 -- the records of settings by their keys
 abbrev records_held : Settings → ℕ → Option (List ℕ)
@@ -96,7 +113,7 @@ below s k = records k 0 (records_held s)
 piece : Settings → ℕ → List ℕ
 piece s k = record_bytes (records_held s k)
 
-pub below_all : (s : Settings) → below s keys ≡ encoded s
+below_all : (s : Settings) → below s keys ≡ encoded s
 unfolding encode
 below_all s = refl
 
@@ -105,25 +122,16 @@ unfolding records piece
 below_next s k =
     records_split (records_held s) k 1 0 ∙ ap (λ l. below s k ++ l) (append-nil _ ∙ ap (λ j. record_bytes (records_held s j)) (add-zero k))
 
-piece_short : (s : Settings) (k : ℕ) → length (piece s k) ≤ 24
-unfolding piece
-piece_short s k = go (settings_held s k)
+-- no record is longer than the throttle's
+length_short : (k : ℕ) → record_length k ≤ 24
+length_short k = go (eqb k ev_key) (leb k places) (leb k hdr_key) (eqb k throttle_key)
   where
-    go : (o : Option Setting) → length (record_bytes (map record_of o)) ≤ 24
-    go none = lit≤ tt
-    go (some t) = record_short t
-
-piece_held : (s : Settings) (k : ℕ) → record_held (settings_held s k) ≡ piece s k
-unfolding piece
-piece_held s k = go (settings_held s k)
-  where
-    go : (o : Option Setting) → record_held o ≡ record_bytes (map record_of o)
-    go none = refl
-    go (some t) = refl
-
-setting_held_lem : (o : Option Setting) → setting_held (held_setting o) ≡ o
-setting_held_lem none = refl
-setting_held_lem (some s) = refl
+    go : (a b c d : Bool) → cond a 15 (cond b 13 (cond c 8 (cond d 24 0))) ≤ 24
+    go true b c d = lit≤ tt
+    go false true c d = lit≤ tt
+    go false false true d = lit≤ tt
+    go false false false true = lit≤ tt
+    go false false false false = lit≤ tt
 
 -- what stands before key k: how long the records of the keys below it are, and in a buffer, that they are written
 pub record Measured (s : Settings) (n k : ℕ) : Type 0 where
@@ -134,82 +142,80 @@ pub record Progress (s : Settings) (old out : List ℕ) (n k : ℕ) : Type 0 whe
   pub measured : Measured s n k
   pub is : out ≡ overlay old 0 (below s k)
 
--- a turn, by what the calls ensure
-module _ (s : Settings) {n k len : ℕ} (w : Measured s n k) (is-len : len ≡ length (piece s k)) where
-  measure_next : Measured s (n + len) (k + 1)
-  measure_next = record {
-    short = omega (arith, is-len, piece_short s k, w.short);
-    long = omega (arith, is-len, w.long, ap length (below_next s k), length-append (below s k) (piece s k));
+-- whether a setting is held
+some_of : (h : HeldSetting) → is_some h ≡ true → (t : Setting) × (h ≡ Some t)
+some_of None e = let z : ◌≡◌ {A = ℕ} 0 1 = cc in absurd (omega arith)
+some_of (Some t) e = (t, refl)
+
+none_of : (h : HeldSetting) → is_some h ≡ false → h ≡ None
+none_of None e = refl
+none_of (Some t) e = let z : ◌≡◌ {A = ℕ} 0 1 = cc in absurd (omega arith)
+
+-- a turn, by what key k holds
+module _ (s : Settings) (k : ℕ) (h : HeldSetting) (is_held_lem : h ≡ held_setting (settings_held s k)) where
+  holds : settings_held s k ≡ setting_held h
+  holds = go (settings_held s k) is_held_lem
+    where
+      go : (o : Option Setting) → h ≡ held_setting o → o ≡ setting_held h
+      go none e = rw e
+      go (some t) e = rw e
+
+  piece_none : h ≡ None → below s (k + 1) ≡ below s k
+  unfolding piece
+  piece_none e = below_next s k ∙ rw (holds, e) (append-nil (below s k))
+
+  module _ (t : Setting) (e : h ≡ Some t) where
+    piece_some : below s (k + 1) ≡ below s k ++ record_of t
+    unfolding piece
+    piece_some = below_next s k ∙ rw (holds, e)
+
+    piece_long : length (record_of t) ≡ record_length k
+    piece_long = rw (holds, e) at (long s k)
+
+    measured_some : {n : ℕ} → Measured s n k → Measured s (n + record_length k) (k + 1)
+    measured_some w = record {
+      short = omega (arith, w.short, length_short k);
+      long = omega (arith, w.long, piece_long, ap length piece_some, length-append (below s k) (record_of t));
+    }
+
+    pub progress_some : {old out after : List ℕ} {n : ℕ} → Progress s old out n k → after ≡ overlay out n (record_of t)
+        → Progress s old after (n + record_length k) (k + 1)
+    progress_some {old} {out} {after} {n} w is-written = record {
+      measured = measured_some w.measured;
+      is =
+          is-written
+          ∙ ap₂ (λ o m. overlay o m (record_of t)) w.is w.measured.long
+          ∙ append old (below s k) (record_of t)
+          ∙ ap (overlay old 0) (sym piece_some);
+    }
+
+  measured_none : h ≡ None → {n : ℕ} → Measured s n k → Measured s n (k + 1)
+  measured_none e w = record { short = omega (arith, w.short); long = w.long ∙ ap length (sym (piece_none e)) }
+
+  pub progress_none : h ≡ None → {old out : List ℕ} {n : ℕ} → Progress s old out n k → Progress s old out n (k + 1)
+  progress_none e {old} w = record {
+    measured = measured_none e w.measured;
+    is = w.is ∙ ap (overlay old 0) (sym (piece_none e));
   }
 
-module _ (s : Settings) (old : List ℕ) {out after l : List ℕ} {n k : ℕ} (w : Progress s old out n k) (is_row : l ≡ piece s k)
-    (is_written : after ≡ overlay out n l) where
-  write_turn : after ≡ overlay old 0 (below s (k + 1))
-  write_turn =
-      is_written
-      ∙ ap (overlay out n) is_row
-      ∙ ap₂ (λ o m. overlay o m (piece s k)) w.is w.measured.long
-      ∙ append old (below s k) (piece s k)
-      ∙ ap (overlay old 0) (sym (below_next s k))
+  -- as `measure` tells it
+  pub measured_held : is_some h ≡ true → {n : ℕ} → Measured s n k → Measured s (n + record_length k) (k + 1)
+  measured_held e w = let t = some_of h e in measured_some t.0 t.1 w
 
-  write_next : {len : ℕ} → len ≡ length (piece s k) → Progress s old after (n + len) (k + 1)
-  write_next e = record { measured = measure_next s w.measured e; is = write_turn }
+  pub measured_not : is_some h ≡ false → {n : ℕ} → Measured s n k → Measured s n (k + 1)
+  measured_not e w = measured_none (none_of h e) w
 
--- a key's own record: by what it holds, or of a place by its address and flags
-module _ (s : Settings) (k : ℕ) {h : HeldSetting} (is_held_lem : h ≡ held_setting (settings_held s k)) where
-  held_record : record_held (setting_held h) ≡ piece s k
-  held_record = ap (λ j. record_held (setting_held j)) is_held_lem ∙ ap record_held (setting_held_lem (settings_held s k)) ∙ piece_held s k
-
-  module _ {n len : ℕ} (is-len : len ≡ length (record_held (setting_held h))) where
-    pub held_measured : Measured s n k → Measured s (n + len) (k + 1)
-    held_measured w = measure_next s w (is-len ∙ ap length held_record)
-
-    pub held_written : {old out after : List ℕ} → Progress s old out n k → after ≡ overlay out n (record_held (setting_held h))
-        → Progress s old after (n + len) (k + 1)
-    held_written w e = write_next s _ w held_record e (is-len ∙ ap length held_record)
-
-  pub held_last : {n : ℕ} {old out after : List ℕ} → Progress s old out n k → after ≡ overlay out n (record_held (setting_held h))
-      → after ≡ overlay old 0 (below s (k + 1))
-  held_last w e = write_turn s _ w held_record e
-
-module _ (s : Settings) (i : ℕ) (h : i < places) {face : List ℕ} (is-face : face ≡ s.face) {len : ℕ}
-    (is-len : len ≡ cond (eqb (get_or face i 0) 0) 0 13) where
-  place_record : record_held (face_held (first_address + i) (get_or face i 0)) ≡ piece s (i + 1)
-  place_record =
-      ap (λ (l : List ℕ). record_held (face_held (first_address + i) (get_or l i 0))) is-face
-      ∙ ap record_held (sym (held_place s i h))
-      ∙ piece_held s (i + 1)
-
-  place_length_is : len ≡ length (piece s (i + 1))
-  place_length_is = is-len ∙ place_length (first_address + i) (get_or face i 0) ∙ ap length place_record
-
-  pub place_measured : {n : ℕ} → Measured s n (i + 1) → Measured s (n + len) (i + 1 + 1)
-  place_measured w = measure_next s w place_length_is
-
-  pub place_written : {n : ℕ} {old out after : List ℕ} → Progress s old out n (i + 1)
-      → after ≡ overlay out n (record_held (face_held (first_address + i) (get_or face i 0))) → Progress s old after (n + len) (i + 1 + 1)
-  place_written w e = write_next s _ w place_record e place_length_is
-
-none_measured : (s : Settings) → Measured s 0 0
+pub measured_first : (s : Settings) → Measured s 0 0
 unfolding records
-none_measured s = record { short = omega arith; long = refl }
+measured_first s = record { short = omega arith; long = refl }
 
-none_written : (s : Settings) (old : List ℕ) → Progress s old old 0 0
+pub progress_first : (s : Settings) (old : List ℕ) → Progress s old old 0 0
 unfolding records
-none_written s old = record { measured = none_measured s; is = sym (no_bytes old) }
+progress_first s old = record { measured = measured_first s; is = sym (no_bytes old) }
 
--- the first key's
-module _ (s : Settings) {h : HeldSetting} (is_held_lem : h ≡ held_setting (settings_held s 0)) {len : ℕ}
-    (is-len : len ≡ length (record_held (setting_held h))) where
-  pub first_measured : Measured s len 1
-  first_measured = rw zero-add at (held_measured s 0 is_held_lem {n = 0} is-len (none_measured s))
+-- and once all keys are passed
+pub measured_all : (s : Settings) {n k : ℕ} → k ≡ keys → Measured s n k → n ≡ length (encoded s)
+measured_all s e w = w.long ∙ ap (λ j. length (below s j)) e ∙ ap length (below_all s)
 
-  pub first_written : {old after : List ℕ} → after ≡ overlay old 0 (record_held (setting_held h)) → Progress s old after len 1
-  first_written {old} e = rw zero-add at (held_written s 0 is_held_lem {n = 0} is-len (none_written s old) e)
-
--- and the last
-pub all_measured : (s : Settings) {n : ℕ} → Measured s n keys → n ≡ length (encoded s)
-all_measured s w = w.long ∙ ap length (below_all s)
-
-pub write_length : {s : Settings} {old out : List ℕ} {n k : ℕ} → Progress s old out n k → length out ≡ length old
-write_length {s} {old} {k = k} w = ap length w.is ∙ same_length old 0 (below s k)
+pub progress_all : (s : Settings) {old out : List ℕ} {n k : ℕ} → k ≡ keys → Progress s old out n k → out ≡ overlay old 0 (encoded s)
+progress_all s {old} e w = w.is ∙ ap (λ j. overlay old 0 (below s j)) e ∙ ap (overlay old 0) (below_all s)

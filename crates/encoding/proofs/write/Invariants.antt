@@ -1,11 +1,11 @@
--- The records of EV and of i places are written.
-use Rattle.std.proofs.Common.{◌≤◌, ◌+◌, ◌-◌}
-use Rattle.wire.specs.Endpoints.{places}
+-- The records of the keys below `key` are written.
+use Rattle.std.proofs.Common.{◌≤◌, ◌-◌}
+use Rattle.snapshot.specs.Keys.{keys}
 use Rattle.encoding.proofs.Laws.Encoding.{Progress}
 use Rattle.encoding.proofs.write.Given as goal
 
-abbrev pub invariant-loop-i : goal.invariant-loop-i
-invariant-loop-i l = (l.i ≤ places) × Progress l.s l.fn.out l.out l.n (l.i + 1)
+abbrev pub invariant-loop-key : goal.invariant-loop-key
+invariant-loop-key l = (l.key ≤ keys) × Progress l.s l.fn.out l.out l.at l.key
 
-abbrev pub decreases-loop-i : goal.decreases-loop-i
-decreases-loop-i l = places - l.i
+abbrev pub decreases-loop-key : goal.decreases-loop-key
+decreases-loop-key l = keys - l.key

@@ -1,19 +1,20 @@
 -- Entries of a SET, one by one and one after the other. Assumes nothing.
 use mathlib.Core.{Path.{◌≡◌, refl, ap, ap₂, sym, ◌∙◌}, List.{List}, Bool.{Bool, true, false, ◌||◌, or-true, or-false}}
-use Prim.Native.Nat.{ℕ, zero, suc, ◌+◌, ◌*◌, ◌≤◌, ◌<◌}
+use Prim.Native.Nat.{ℕ, zero, suc, ◌+◌, ◌*◌, ◌<◌}
 use native.Mathlib.{Numerals.{add-one}, Omega.{arith}}
 use lib.{Dec.{eqb}, ListN.{length, get_or, set, replicate, get_or-replicate}, Seq.{get_or-set_same, get_or-set_other}}
 use borrow.Author.Tests.{ne_eqb, eqb-true, eqb-false}
+use Rattle.std.specs.Prelude.{Option, Some, None}
 use Rattle.wire.specs.{Endpoints.{endpoint_limit}, Numbers.{le_at}, Uvc.{out_of_range}}
-use Rattle.controls.specs.{declared.Item.TheVariants.{Refused, Given}, Controls.{item_code, first_refusal}}
+use Rattle.controls.specs.Controls.{Refused, Given, item_code, first_refusal}
 use Rattle.controls.specs.declared.Setting.TheVariants as S
 use Rattle.controls.proofs.Laws.Controls as controls
 use Rattle.controls.proofs.Laws.Items.{none_refused, stops, passes}
-use Rattle.face.specs.{declared.limits.FaceLimits.{FaceLimits}, Limits.{address_at, offers_at, offers_of, place_of}}
-use Rattle.entries.specs.declared.FacesTaken.{FacesTaken}
+use Rattle.face.specs.{declared.limits.FaceLimits.{FaceLimits}, Limits.{address_at, offers_at, offers_of, place_of, place_or_limit}}
+use Rattle.entries.specs.Entries.{FacesTaken}
 use Rattle.entries.specs.Entries.{entry_address, entry_flags, seen_in, seen_before, entry_tests, entry_refusal, face_item, put_face}
 use Rattle.entries.specs.Entries.{entries_put, faces_taken}
-use Rattle.face.proofs.Laws.Limits.{offers_none, offers_placed, address_placed}
+use Rattle.face.proofs.Laws.Limits.{found_at, offers_none, offers_placed, address_placed, address_at_place}
 
 -- entry i by the number that its tests give
 module _ (l : FaceLimits) (s : List ℕ) (i : ℕ) where
@@ -75,24 +76,27 @@ walked_none l held s places = record {
   laid = refl;
 }
 
--- entry i, at place p of those listed; the numbers are what the code reads
-module _ (l : FaceLimits) (held s : List ℕ) (i : ℕ) (seen : List Bool) (next : List ℕ) (w : Walked l held s i seen next) (address p : ℕ)
-    (ha : address ≡ entry_address s i) (hp : p ≡ place_of l address) where
-  pub entry_unlisted : endpoint_limit ≤ p → out_of_range ≡ entry_refusal l s i
+-- entry i; the numbers are what the code reads, and r is the place that it finds
+module _ (l : FaceLimits) (held s : List ℕ) (i : ℕ) (seen : List Bool) (next : List ℕ) (w : Walked l held s i seen next) (address : ℕ)
+    (r : Option ℕ) (ha : address ≡ entry_address s i) (hp : place_or_limit r ≡ place_of l address) where
+  pub entry_unlisted : r ≡ None → out_of_range ≡ entry_refusal l s i
   unfolding entry_refusal
-  entry_unlisted h = rw (← ha, offers_none l address p hp w.places h)
+  entry_unlisted h = rw (← ha, offers_none l address r hp w.places h)
 
-  module _ (h : p < endpoint_limit) (flags code : ℕ) (hf : flags ≡ le_at 7 s (1 + 8 * i + 1))
+  module _ (p : ℕ) (is : r ≡ Some p) (h : p < endpoint_limit) (flags code : ℕ) (hf : flags ≡ le_at 7 s (1 + 8 * i + 1))
       (hc : code ≡ entry_tests (offers_at l p) (get_or seen p false) flags) where
+    abbrev found : place_of l address ≡ p
+    found = found_at l address r hp p is h
+
     abbrev flags_are : flags ≡ entry_flags s i
     flags_are = let e : 1 + 8 * i + 1 ≡ 2 + 8 * i = omega arith in hf ∙ ap (le_at 7 s) e
 
     mark_is : get_or seen p false ≡ seen_before s i
-    mark_is = rw hp (w.marks address (rw (← hp) h)) ∙ ap (λ (a : ℕ). named s a i) ha ∙ sym (seen_named s i i)
+    mark_is = rw (← found) (w.marks address (rw found h)) ∙ ap (λ (a : ℕ). named s a i) ha ∙ sym (seen_named s i i)
 
     pub entry_listed : code ≡ entry_refusal l s i
     unfolding entry_refusal
-    entry_listed = rw (← ha, offers_placed l address p hp h w.places, ← mark_is, ← flags_are) hc
+    entry_listed = rw (← ha, offers_placed l address r hp p is h w.places, ← mark_is, ← flags_are) hc
 
     marks_next : length seen ≡ endpoint_limit → (a : ℕ) → place_of l a < endpoint_limit
         → get_or (set seen p true) (place_of l a) false ≡ named s a (suc i)
@@ -101,12 +105,12 @@ module _ (l : FaceLimits) (held s : List ℕ) (i : ℕ) (seen : List Bool) (next
       where
         go : (b : Bool) → eqb (entry_address s i) a ≡ b → get_or (set seen p true) (place_of l a) false ≡ named s a i || b
         go true e =
-            let same : place_of l a ≡ p = ap (place_of l) (sym (ha ∙ eqb-true (entry_address s i) a e)) ∙ sym hp in
+            let same : place_of l a ≡ p = ap (place_of l) (sym (ha ∙ eqb-true (entry_address s i) a e)) ∙ found in
             rw (same, or-true) (get_or-set_same seen p true false (omega arith))
         go false e =
             let other : place_of l a ≡ p → ⊥ =
             λ q. eqb-false (entry_address s i) a e
-            (sym ha ∙ sym (address_placed l address p hp h) ∙ ap (address_at l) (sym q) ∙ address_placed l a (place_of l a) refl g) in
+            (sym ha ∙ sym (address_placed l address r hp p is h) ∙ ap (address_at l) (sym q) ∙ address_at_place l a g) in
             rw or-false (get_or-set_other seen p (place_of l a) true false other ∙ w.marks a g)
 
     pub walked_next : length seen ≡ endpoint_limit → code ≡ 0 → Walked l held s (i + 1) (set seen p true) (put_face next address flags)

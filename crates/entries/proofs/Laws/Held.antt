@@ -1,12 +1,14 @@
 -- Settings held: with one more, and which keep their rules. Assumes nothing.
-use mathlib.Core.{Path.{◌≡◌, refl, ap, ◌∙◌}, List.{List}, Bool.{Bool, true, false, cond}}
+use mathlib.Core.{Path.{◌≡◌, refl, ap, ◌∙◌}, List.{List, [], ◌∷◌}, Bool.{Bool, true, false, cond, ◌&&◌}}
 use Prim.Native.Nat.{ℕ, suc, ◌+◌, ◌-◌, ◌≤◌, ◌<◌}
 use native.Mathlib.Omega.{arith}
 use lib.{Dec.{leb, eqb}, ListN.{length, get_or, set, length-set}, Seq.{set_out, get_or-set_same, get_or-set_other}}
 use borrow.Author.Tests.{eqb-true, eqb-false, le-leb, leb-true}
-use Rattle.wire.specs.Endpoints.{first_address}
+use Rattle.std.specs.List.{list_all, zip}
+use Rattle.wire.specs.{Endpoints.{first_address, places}, Rows.{all_below}}
+use Rattle.wire.proofs.Laws.Below.{all_same, below_front}
 use Rattle.face.specs.{declared.limits.FaceLimits.{FaceLimits}, Limits.{address_at, offers_at, offers_from, offers_of}}
-use Rattle.entries.specs.Entries.{flags_kept, setting_refusal, face_kept, put_face}
+use Rattle.entries.specs.Entries.{flags_kept, setting_refusal, face_kept, faces_kept, put_face}
 
 -- settings with one more
 pub length-put : (held : List ℕ) (address flags : ℕ) → length (put_face held address flags) ≡ length held
@@ -61,8 +63,27 @@ table_next l n i t k h g r e =
     ∙ ap (cond (eqb (address_at l (i - 1)) (first_address + k)) (offers_at l (i - 1))) o)
 
 -- a setting held, by what the table has at its place
-pub kept_place : (present : Bool) (l : FaceLimits) (held : List ℕ) (i offers : ℕ) → offers ≡ cond present (offers_of l (first_address + i)) 0
+kept_place : (present : Bool) (l : FaceLimits) (held : List ℕ) (i offers : ℕ) → offers ≡ cond present (offers_of l (first_address + i)) 0
     → flags_kept offers (get_or held i 0) ≡ face_kept present l held i
 unfolding face_kept setting_refusal
 kept_place true l held i offers e = rw e
 kept_place false l held i offers e = rw e
+
+-- offers and settings side by side, place by place
+zip_below : (xs ys : List ℕ) → length xs ≡ length ys
+    → list_all (λ p. flags_kept p.0 p.1) (zip xs ys) ≡ all_below (length xs) (λ i. flags_kept (get_or xs i 0) (get_or ys i 0))
+unfolding all_below
+zip_below [] ys h = refl
+zip_below (x ∷ xs) [] h = absurd (omega arith)
+zip_below (x ∷ xs) (y ∷ ys) h =
+    rw (below_front (length xs) (λ i. flags_kept (get_or (x ∷ xs) i 0) (get_or (y ∷ ys) i 0)))
+    (ap (λ b. flags_kept x y && b) (zip_below xs ys (omega arith)))
+
+pub kept_zip : (present : Bool) (l : FaceLimits) (held offers : List ℕ) → length offers ≡ places → length held ≡ places
+    → ((i : ℕ) → i < places → get_or offers i 0 ≡ cond present (offers_of l (first_address + i)) 0)
+    → list_all (λ p. flags_kept p.0 p.1) (zip offers held) ≡ faces_kept present l held
+unfolding faces_kept
+kept_zip present l held offers a b h =
+    zip_below offers held (omega arith)
+    ∙ ap (λ (n : ℕ). all_below n (λ i. flags_kept (get_or offers i 0) (get_or held i 0))) a
+    ∙ all_same places _ _ (λ i g. kept_place present l held i _ (h i g))

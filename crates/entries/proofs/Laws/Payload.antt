@@ -6,9 +6,10 @@ use lib.{Dec.{leb, eqb}, ListN.{length, get_or}}
 use borrow.Author.Tests.{eqb-false, le-leb, leb-true}
 use Rattle.wire.specs.{Numbers.{le_at, bytes_of}, Rows.{◌⇒◌, first_of}, Uvc.{invalid_value, out_of_range}}
 use Rattle.wire.proofs.Laws.Bytes.{number_bytes}
-use Rattle.flags.specs.{declared.Choice.TheVariants.{At}, Flags.{one_flag}}
+use Rattle.std.specs.declared.option.Option.TheVariants.{Some}
+use Rattle.flags.specs.Flags.{one_flag}
 use Rattle.flags.proofs.Laws.Bits.{chosen_below}
-use Rattle.controls.specs.{declared.Item.TheVariants.{Given}, Controls.{item_of}}
+use Rattle.controls.specs.Controls.{Given, item_of}
 use Rattle.controls.specs.declared.Setting.TheVariants as S
 use Rattle.controls.proofs.Laws.Controls.{given_is}
 use Rattle.face.specs.{declared.limits.FaceLimits.{FaceLimits}, Limits.{endpoints_of, face_valid, offers_of}, Answers.{entry_of}}
@@ -17,7 +18,7 @@ use Rattle.entries.specs.Entries.{face_set_length, entry_address, entry_flags, s
 use Rattle.entries.specs.Entries.{face_item}
 
 -- the one flag that a byte of offers offers fits a byte
-pub chosen_byte : (offers flags place : ℕ) → one_flag offers flags ≡ At place → offers < 256 → flags < 2 ^ 56 → flags < 256
+pub chosen_byte : (offers flags place : ℕ) → one_flag offers flags ≡ Some place → offers < 256 → flags < 2 ^ 56 → flags < 256
 chosen_byte offers flags place e = chosen_below offers flags place e 8
 
 -- the length that a payload must have, by its first byte

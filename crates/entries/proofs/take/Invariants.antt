@@ -6,7 +6,7 @@ use Rattle.entries.proofs.take.Given as goal
 
 abbrev pub invariant-loop-i : goal.invariant-loop-i
 invariant-loop-i l =
-    (l.i ≤ l.n) × (length l.seen ≡ endpoint_limit) × (length l.next ≡ places) × Walked l.l l.held l.payload l.i l.seen l.next
+    (l.i ≤ l.i-end) × (length l.seen ≡ endpoint_limit) × (length l.next ≡ places) × Walked l.l l.fn.held l.payload l.i l.seen l.next
 
 abbrev pub decreases-loop-i : goal.decreases-loop-i
-decreases-loop-i l = l.n - l.i
+decreases-loop-i l = l.i-end - l.i

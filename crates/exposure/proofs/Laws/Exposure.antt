@@ -1,26 +1,26 @@
 -- Laws of exposure compensation. Assumes nothing.
-use mathlib.Core.{Path.{◌≡◌, refl, ap, ap₂, sym, ◌∙◌}, Bool.{Bool, true, false, cond, ◌&&◌, and-eq-true_iff}, List.{List, [], ◌∷◌, ◌++◌}}
-use Prim.Native.Nat.{ℕ, zero, suc, ◌<◌, ◌^◌, ◌/◌}
+use mathlib.Core.{Path.{◌≡◌, refl, ap, ap₂, sym, ◌∙◌}, Bool.{Bool, true, false, cond, and-eq-true_iff}, List.{List, [], ◌∷◌, ◌++◌}}
+use Prim.Native.Nat.{ℕ, zero, suc, ◌<◌, ◌/◌}
 use native.Mathlib.{Nat.{lt_of_le_of_lt}, Omega.{arith}}
 use lib.{Dec.{lit<, lit≤}, ListN.{length, take, drop, get_or, length-drop, take-append-drop}, Seq.{take_all}, IntN.{ℤ, pos, negsuc, ◌*ℤ◌}}
 use lib.Signed.{mag, le_z, quot_z}
-use mir.Syntax.{w8, w32, w64}
-use mir.Val.{Fits, SFits, to_z, of_z}
+use mir.Syntax.{w32}
+use mir.Val.{SFits, to_z, of_z}
 use mir.Facts.{to_z-of_z, to_z_pos}
 use borrow.Author.Tests.{ltb-true}
 use Rattle.wire.specs.{Uvc.{invalid_value, out_of_range}, Numbers.{le_at, bytes_of, signed32, bits32}}
-use Rattle.flags.specs.{declared.{Choice.{Choice}, Choice.TheVariants.{At}}, Flags.{one_flag}}
-use Rattle.flags.specs.declared.Choice.TheVariants as C
-use Rattle.flags.proofs.Laws.Bits.{chosen_below}
+use Rattle.flags.specs.Flags.{Choice, one_flag}
+use Rattle.std.specs.declared.option.Option.TheVariants.{Some}
+use Rattle.std.specs.declared.option.Option.TheVariants as C
 use Rattle.wire.proofs.Laws.{Numbers.{Bytes, below}, Signed.{bits_below, signed_bits, bits_signed}}
 use Rattle.wire.proofs.Laws.Bytes.{number_bytes, bytes_byte, bytes-at, first_part, second_part}
 use Rattle.exposure.specs.declared.EvLimits.{EvLimits}
-use Rattle.exposure.specs.Exposure.{ev_valid, divisor, in_range, refusal_at, ev_refusal, ev_flags, ev_value, ev_item, ev_bytes, units_per_stop}
-use Rattle.exposure.specs.Exposure.{scaled_at, scaled}
-use Rattle.controls.specs.{declared.{EvSetting.{EvSetting}, Item.TheVariants.{Refused, Given}}, Controls.{item_of}}
+use Rattle.exposure.specs.Exposure.{ev_valid, divisor, in_range, refusal_at, ev_refusal, ev_flags, ev_value, ev_item, ev_bytes}
+use Rattle.exposure.specs.Exposure.{units_per_stop, scaled_at, scaled}
+use Rattle.controls.specs.declared.EvSetting.{EvSetting}
+use Rattle.controls.specs.Controls.{item_of}
 use Rattle.controls.specs.declared.Setting.TheVariants as S
-use Rattle.controls.proofs.Laws.Controls.{item_given, item_refused}
-use Rattle.exposure.proofs.Laws.Bounds.{mag_mul, between, widened_is, limit_is, small_fits, small_held, quotient_small, small_product}
+use Rattle.exposure.proofs.Laws.Bounds.{mag_mul, between, small_fits, small_held, quotient_small, small_product}
 
 -- between 1 and 6 steps make a stop
 pub divisor_pos : (place : ℕ) → 0 < divisor place
@@ -39,11 +39,11 @@ divisor_small (suc (suc (suc (suc n)))) = lit< tt
 
 -- SET's value tests, by the first that fails
 module _ (l : EvLimits) (flags : ℕ) (v : ℤ) where
-  pub refused_flags : one_flag l.steps flags ≡ C.Refused → ev_refusal l flags v ≡ invalid_value
+  pub refused_flags : one_flag l.steps flags ≡ C.None → ev_refusal l flags v ≡ invalid_value
   unfolding ev_refusal refusal_at
   refused_flags e = rw e
 
-  module _ (place : ℕ) (e : one_flag l.steps flags ≡ At place) where
+  module _ (place : ℕ) (e : one_flag l.steps flags ≡ Some place) where
     pub refused_value : in_range l (divisor place) v ≡ false → ev_refusal l flags v ≡ out_of_range
     unfolding ev_refusal refusal_at
     refused_value r = rw (e, r)
@@ -52,10 +52,10 @@ module _ (l : EvLimits) (flags : ℕ) (v : ℤ) where
     unfolding ev_refusal refusal_at
     accepted r = rw (e, r)
 
-  taken : (x : Choice) → refusal_at l v x ≡ 0 → (place : ℕ) × ((x ≡ At place) × (in_range l (divisor place) v ≡ true))
+  taken : (x : Choice) → refusal_at l v x ≡ 0 → (place : ℕ) × ((x ≡ Some place) × (in_range l (divisor place) v ≡ true))
   unfolding refusal_at
-  taken C.Refused e = absurd (omega arith)
-  taken (At place) e = (place, (refl, go (in_range l (divisor place) v) e))
+  taken C.None e = absurd (omega arith)
+  taken (Some place) e = (place, (refl, go (in_range l (divisor place) v) e))
     where
       go : (b : Bool) → ◌≡◌ {A = ℕ} (cond b 0 out_of_range) 0 → b ≡ true
       go true f = refl
@@ -63,26 +63,15 @@ module _ (l : EvLimits) (flags : ℕ) (v : ℤ) where
 
   -- what is accepted is one flag, of the low byte, and a value in range at its step
   module _ (h : ev_refusal l flags v ≡ 0) where
-    pub accepts : (place : ℕ) × ((one_flag l.steps flags ≡ At place) × (in_range l (divisor place) v ≡ true))
+    pub accepts : (place : ℕ) × ((one_flag l.steps flags ≡ Some place) × (in_range l (divisor place) v ≡ true))
     unfolding ev_refusal
     accepts = taken (one_flag l.steps flags) h
-
-    pub accepted_below : l.steps < 256 → flags < 2 ^ 56 → flags < 256
-    accepted_below s g = chosen_below l.steps flags accepts.0 accepts.1.0 8 s g
 
 -- a value in range lies between the limits, each times d
 pub range_between : (l : EvLimits) (d : ℕ) (v : ℤ) → in_range l d v ≡ true
     → (le_z (l.minimum *ℤ pos d) v ≡ true) × (le_z v (l.maximum *ℤ pos d) ≡ true)
 unfolding in_range
 range_between l d v r = (and-eq-true_iff (le_z (l.minimum *ℤ pos d) v) (le_z v (l.maximum *ℤ pos d))).0 r
-
--- as the code tells it: in the wider type
-pub range_is : (l : EvLimits) (d : ℕ) (v : ℤ) → SFits w32 l.minimum → SFits w32 l.maximum → SFits w32 v → Fits w8 d
-    → let wide = λ (z : ℤ). to_z w64 (of_z w64 (to_z w32 (of_z w32 z))) in
-    let limit = λ (z : ℤ). to_z w64 (of_z w64 (wide z *ℤ to_z w64 d)) in
-    (le_z (limit l.minimum) (wide v) && le_z (wide v) (limit l.maximum)) ≡ in_range l d v
-unfolding in_range
-range_is l d v f g h k = rw (limit_is l.minimum f d k, limit_is l.maximum g d k, widened_is v h)
 
 -- valid limits: stops from -128..0 to 0..127, and no step beyond D4; a value in their range is small
 module _ (l : EvLimits) (h : ev_valid l ≡ true) where
@@ -112,43 +101,27 @@ module _ (l : EvLimits) (h : ev_valid l ≡ true) where
       (lt_of_le_of_lt (mag_mul l.minimum (pos d) 128 7 minimum_small (divisor_small place)) (lit< tt))
       (lt_of_le_of_lt (mag_mul l.maximum (pos d) 128 7 maximum_small (divisor_small place)) (lit< tt))
 
--- the sensor's number
-module _ (l : EvLimits) (s : EvSetting) where
-  pub scaled_invalid : ev_valid l ≡ false → scaled l s ≡ pos 0
-  unfolding scaled
-  scaled_invalid h = rw h
+-- the sensor's number, at a value in range
+module _ (l : EvLimits) (s : EvSetting) (h : ev_valid l ≡ true) (place : ℕ) (e : one_flag l.steps s.flags ≡ Some place) where
+  pub scaled_is : in_range l (divisor place) s.value ≡ true → scaled l s ≡ s.value *ℤ pos (units_per_stop / divisor place)
+  unfolding scaled scaled_at
+  scaled_is r = rw (h, e, r)
 
-  module _ (h : ev_valid l ≡ true) where
-    pub scaled_flags : one_flag l.steps s.flags ≡ C.Refused → scaled l s ≡ pos 0
-    unfolding scaled scaled_at
-    scaled_flags e = rw (h, e)
-
-    module _ (place : ℕ) (e : one_flag l.steps s.flags ≡ At place) where
-      pub scaled_value : in_range l (divisor place) s.value ≡ false → scaled l s ≡ pos 0
-      unfolding scaled scaled_at
-      scaled_value r = rw (h, e, r)
-
-      pub scaled_is : in_range l (divisor place) s.value ≡ true → scaled l s ≡ s.value *ℤ pos (units_per_stop / divisor place)
-      unfolding scaled scaled_at
-      scaled_is r = rw (h, e, r)
-
--- as the code works it out: the units of a step in a register, and the value times them
-module _ (l : EvLimits) (s : EvSetting) (h : ev_valid l ≡ true) (place : ℕ) (e : one_flag l.steps s.flags ≡ At place) where
-  module _ (r : in_range l (divisor place) s.value ≡ true) (d : ℕ) (g : d ≡ divisor place) where
+  -- as the code works it out: the units of a step in a register, and the value times them
+  module _ (r : in_range l (divisor place) s.value ≡ true) (y : ℤ) (k : y ≡ pos (divisor place)) where
     abbrev factor : ℤ
-    factor = quot_z (pos units_per_stop) (to_z w32 d)
+    factor = quot_z (pos units_per_stop) (to_z w32 (of_z w32 y))
 
     small : mag s.value < 1024
     small = range_small l h place s.value r
 
-    d_below : d < 7
-    d_below = rw g (divisor_small place)
-
     factor_small : mag factor < 1024
-    factor_small = quotient_small (pos units_per_stop) (lit< tt) d d_below
+    factor_small = quotient_small (pos units_per_stop) (lit< tt) (divisor place) y k (divisor_small place)
 
     factor_is : factor ≡ pos (units_per_stop / divisor place)
-    factor_is = ap (quot_z (pos units_per_stop)) (to_z_pos w32 (omega (arith, d_below)) ∙ ap pos g)
+    factor_is =
+        ap (λ (z : ℤ). quot_z (pos units_per_stop) (to_z w32 (of_z w32 z))) k
+        ∙ ap (quot_z (pos units_per_stop)) (to_z_pos w32 (omega (arith, divisor_small place)))
 
     scaled_fits : SFits w32 (to_z w32 (of_z w32 s.value) *ℤ to_z w32 (of_z w32 factor))
     scaled_fits =
@@ -158,17 +131,7 @@ module _ (l : EvLimits) (s : EvSetting) (h : ev_valid l ≡ true) (place : ℕ) 
     scaled_held =
         to_z-of_z scaled_fits
         ∙ ap₂ ◌*ℤ◌ (to_z-of_z (small_fits s.value small)) (to_z-of_z (small_fits factor factor_small) ∙ factor_is)
-        ∙ sym (scaled_is l s h place e r)
-
--- what an item comes to, by the number that its tests give
-module _ (l : EvLimits) (payload : List ℕ) (code : ℕ) (e : code ≡ ev_refusal l (ev_flags payload) (ev_value payload)) where
-  pub ev_item_refused : (code ≡ 0 → ⊥) → Refused code ≡ ev_item l payload
-  unfolding ev_item
-  ev_item_refused n = ap Refused e ∙ sym (item_refused _ _ (λ z. n (e ∙ z)))
-
-  pub ev_item_given : code ≡ 0 → Given (S.Ev (record { flags = ev_flags payload; value = ev_value payload })) ≡ ev_item l payload
-  unfolding ev_item
-  ev_item_given z = sym (item_given _ _ (sym e ∙ z))
+        ∙ sym (scaled_is r)
 
 -- a setting's payload byte by byte, with the value's four bytes in n
 pub ev_bytes_are : (s : EvSetting) (n : List ℕ) → s.flags < 256 → n ≡ bytes_of 4 (bits32 s.value)

@@ -1,8 +1,9 @@
 -- Answers of face authentication: their entries, their length, and what they are while no setting is held. Assumes nothing.
-use mathlib.Core.{Path.{◌≡◌, refl, ap}, List.{List, [], ◌∷◌}, Bool.{Bool, true, false, cond, ◌||◌}}
+use mathlib.Core.{Path.{◌≡◌, refl, ap}, List.{List, [], ◌∷◌}, Bool.{Bool, true, false, cond, ◌||◌}, Logic.{◌⊎◌, inl, inr}}
 use Prim.Native.Nat.{ℕ, zero, suc, ◌+◌, ◌*◌, ◌≤◌, ◌<◌}
 use native.Mathlib.{Numerals.{add-one}, Omega.{arith}}
 use lib.{Dec.{eqb, lit≤}, ListN.{length, length-append}}
+use borrow.Author.Tests.{ne_eqb}
 use Rattle.wire.specs.{Endpoints.{endpoint_limit}, Numbers.{bytes_of}, Writes.{overlay}, Uvc.{get_cur, get_def, get_min, get_res}}
 use Rattle.wire.proofs.Laws.{Bytes.{bytes_byte}, Writes.{append}}
 use Rattle.request.specs.Answers.{answer_by, longest_answer}
@@ -29,6 +30,17 @@ module _ (l : FaceLimits) (held : List ℕ) (code : ℕ) where
       let s = m ∷ entries_of l held code i in
       let n : 1 + 8 * i ≡ length s = omega (arith, length_entries i) in
       rw (e, n, add-one i) (append blank s (entry_of (address_at l i) (flags_at l held code i)))
+
+  -- MIN and RES are one byte, every other value a list
+  pub value_byte : (code ≡ get_min) ⊎ ((code ≡ get_min → ⊥) × (code ≡ get_res)) → face_value l held code ≡ 0 ∷ []
+  unfolding face_value
+  value_byte (inl e) = rw e
+  value_byte (inr e) = rw e.1
+
+  pub value_list : (code ≡ get_min → ⊥) → (code ≡ get_res → ⊥)
+      → face_value l held code ≡ endpoints_of l ∷ entries_of l held code (endpoints_of l)
+  unfolding face_value
+  value_list m r = rw (ne_eqb code get_min m, ne_eqb code get_res r)
 
   pub value_length_lem : length (face_value l held code) ≡ cond (eqb code get_min || eqb code get_res) 1 (1 + 8 * endpoints_of l)
   unfolding face_value

@@ -1,14 +1,19 @@
 -- The endpoints that a profile lists: what a valid one says of each, and where an address stands among them. Assumes nothing.
-use mathlib.Core.{Path.{◌≡◌, refl, ◌∙◌}, Bool.{Bool, true, false, cond, ◌&&◌, ◌||◌, and-true, and-false, and-eq-true_iff}}
+use mathlib.Core.{Path.{◌≡◌, refl, ap, sym, ◌∙◌}, List.{List, [], ◌∷◌}}
+use mathlib.Core.Bool.{Bool, true, false, cond, ◌&&◌, ◌||◌, and-true, and-false, and-eq-true_iff}
 use Prim.Native.Nat.{ℕ, zero, suc, ◌+◌, ◌-◌, ◌/◌, ◌≤◌, ◌<◌}
-use native.Mathlib.{Numerals.{add-one, sub-one}, Omega.{arith}}
-use lib.{Dec.{leb, ltb, eqb}, ListN.{length, get_or-eq_default}}
-use borrow.Author.Tests.{eq-eqb, ne_eqb, eqb-true, lt-ltb, le-ltb, le-leb, lt-leb, ltb-true, ltb-false, leb-true}
-use Rattle.wire.proofs.Laws.Below.{all-at}
-use Rattle.wire.specs.{Endpoints.{first_address, last_address, places, endpoint_limit}, Rows.{all_below}}
+use native.Mathlib.{Nat.{zero-add, add-zero}, Numerals.{add-one, sub-one}, Omega.{arith}}
+use lib.{Dec.{leb, ltb, eqb}, ListN.{length, get_or, take, length-take, get_or-eq_default}, Seq.{get_or-take}}
+use borrow.Author.Tests.{ne_eqb, eqb-true, lt-ltb, le-leb, lt-leb, ltb-true, ltb-false, leb-true}
+use Rattle.std.specs.Prelude.{Option}
+use Rattle.std.specs.List.{position, position_from, list_all, range_with_len}
+use Rattle.std.specs.declared.option.Option.TheVariants.{Some, None}
+use Rattle.std.proofs.lemmas.Iterator.Adapters.{position_from-zero}
+use Rattle.wire.proofs.Laws.Below.{all-at, all_same, below_front}
+use Rattle.wire.specs.{Endpoints.{first_address, last_address, places, endpoint_limit, count_valid}, Rows.{all_below}}
 use Rattle.face.specs.declared.limits.FaceLimits.{FaceLimits}
-use Rattle.face.specs.Limits.{endpoints_of, address_at, offers_at, offers_valid, address_before, endpoint_valid, face_valid_under, offers_from}
-use Rattle.face.specs.Limits.{offers_of, place_from, place_of}
+use Rattle.face.specs.Limits.{endpoints_of, address_at, offers_at, offers_valid, address_before, endpoint_valid, face_valid_under}
+use Rattle.face.specs.Limits.{face_valid, offers_from, offers_of, place_from, place_of, place_or_limit}
 
 -- a place behind the first comes after the one before it
 pub before_next : (l : FaceLimits) (i : ℕ) → (i ≡ 0 → ⊥) → address_at l (i - 1) ≡ address_before l i
@@ -112,21 +117,48 @@ offers_unlisted l address zero i h = refl
 offers_unlisted l address (suc n) i h =
     rw (ne_eqb (address_at l i) address (h i (omega arith))) (offers_unlisted l address n (suc i) (λ j g. h j (omega arith)))
 
--- looking an address up: at its place, and past another's
-module _ (l : FaceLimits) (address n i : ℕ) (h : i < n) where
-  abbrev left : n - i ≡ suc (n - (i + 1))
-  left = omega arith
+-- looking an address up in the places from i on, which stand in a list
+place_in : (l : FaceLimits) (address : ℕ) (ys : List ℕ) (i : ℕ) → ((k : ℕ) → k < length ys → get_or ys k 0 ≡ address_at l (i + k))
+    → place_or_limit (position_from (λ a. eqb a address) i ys) ≡ place_from l address (length ys) i
+unfolding place_from
+place_in l address [] i h = refl
+place_in l address (y ∷ ys) i h =
+    rw (h 0 (omega arith), add-zero)
+    (go (eqb (address_at l i) address)
+    (place_in l address ys (i + 1) (λ k g. h (suc k) (omega arith) ∙ ap (address_at l) (omega arith))))
+  where
+    behind : Option ℕ
+    behind = position_from (λ a. eqb a address) (i + 1) ys
 
-  pub place_here : address_at l i ≡ address → place_from l address (n - i) i ≡ i
-  unfolding place_from
-  place_here e = rw (left, eq-eqb (address_at l i) address e)
+    go : (b : Bool) → place_or_limit behind ≡ place_from l address (length ys) (i + 1)
+        → place_or_limit (cond b (Some i) behind) ≡ cond b i (place_from l address (length ys) (suc i))
+    go true e = refl
+    go false e = rw (← add-one i) e
 
-  pub place_next : (address_at l i ≡ address → ⊥) → place_from l address (n - i) i ≡ place_from l address (n - (i + 1)) (i + 1)
-  unfolding place_from
-  place_next p = rw (left, ne_eqb (address_at l i) address p, add-one i)
+pub place_found : (l : FaceLimits) (address n : ℕ) → n ≡ endpoints_of l
+    → place_or_limit (position (λ a. eqb a address) (take n l.addresses)) ≡ place_of l address
+unfolding place_of
+place_found l address n h =
+    let e : length (take n l.addresses) ≡ n = omega (arith, length-take n l.addresses) in
+    ap place_or_limit (position_from-zero (λ a. eqb a address) (take n l.addresses))
+    ∙ place_in l address (take n l.addresses) 0 (λ k h. rw zero-add (get_or-take n l.addresses k 0 (omega arith)))
+    ∙ ap (λ (m : ℕ). place_from l address m 0) (e ∙ h)
 
--- one step of the look-up, either way
-pub ruleset look_up = (place_here, place_next)
+-- a test of every place, in the order of a range
+range_below : (f : ℕ → Bool) (n a : ℕ) → list_all f (range_with_len a n) ≡ all_below n (λ i. f (a + i))
+unfolding all_below
+range_below f zero a = refl
+range_below f (suc n) a =
+    rw (below_front n (λ i. f (a + i)), add-zero)
+    (ap (λ b. f a && b) (range_below f n (a + 1) ∙ all_same n _ _ (λ i h. ap f (omega arith))))
+
+pub range_valid : (l : FaceLimits) → count_valid l.count ≡ true
+    → list_all (endpoint_valid l) (range_with_len 0 endpoint_limit) ≡ face_valid l
+unfolding face_valid_under
+range_valid l e =
+    range_below (endpoint_valid l) endpoint_limit 0
+    ∙ all_same endpoint_limit _ (endpoint_valid l) (λ i h. ap (endpoint_valid l) (zero-add i))
+    ∙ ap (λ b. b && all_below endpoint_limit (endpoint_valid l)) (sym e)
 
 -- what stands at its place
 module _ (l : FaceLimits) (address : ℕ) where
@@ -158,15 +190,21 @@ module _ (l : FaceLimits) (address : ℕ) where
   unfolding offers_of place_of
   offers_place places = offers_from_lem (endpoints_of l) 0 (omega arith)
 
-  -- p is the place that the code found
-  module _ (p : ℕ) (e : p ≡ place_of l address) where
-    pub offers_none : length l.addresses ≡ endpoint_limit → endpoint_limit ≤ p → offers_of l address ≡ 0
-    offers_none places h = offers_place places ∙ rw (← e, le-ltb p endpoint_limit h)
+  pub address_at_place : place_of l address < endpoint_limit → address_at l (place_of l address) ≡ address
+  unfolding place_of
+  address_at_place h = address_from (endpoints_of l) 0 h
 
-    module _ (h : p < endpoint_limit) where
+  -- r is what the code found
+  module _ (r : Option ℕ) (e : place_or_limit r ≡ place_of l address) where
+    pub offers_none : length l.addresses ≡ endpoint_limit → r ≡ None → offers_of l address ≡ 0
+    offers_none places h = offers_place places ∙ rw (← e, h)
+
+    module _ (p : ℕ) (is : r ≡ Some p) (h : p < endpoint_limit) where
+      pub found_at : place_of l address ≡ p
+      found_at = sym e ∙ ap place_or_limit is
+
       pub offers_placed : length l.addresses ≡ endpoint_limit → offers_of l address ≡ offers_at l p
-      offers_placed places = offers_place places ∙ rw (← e, lt-ltb p endpoint_limit h)
+      offers_placed places = offers_place places ∙ rw (found_at, lt-ltb p endpoint_limit h)
 
       pub address_placed : address_at l p ≡ address
-      unfolding place_of
-      address_placed = rw e (address_from (endpoints_of l) 0 (rw (← e) h))
+      address_placed = rw (← found_at) (address_at_place (rw found_at h))

@@ -1,31 +1,15 @@
 -- Laws of appending: which row of its table answers, what acceptance says, and the bytes written in turn. Assumes nothing.
-use Prim.Native.Nat.{ℕ, ◌+◌, ◌≤◌, ◌<◌}
+use Prim.Native.Nat.{ℕ, ◌+◌, ◌≤◌}
 use mathlib.Core.{Path.{◌≡◌, refl, sym, ap, ap₂, ◌∙◌}, List.{List, [], ◌∷◌, ◌++◌, append_assoc}, Bool.{Bool, true, false, cond}}
 use native.Mathlib.Omega.{arith}
 use lib.{ListN.{length, take, drop, length-append, length-take}, Seq.{take_at, drop-drop, drop_at}, Dec.{eqb}}
-use borrow.Author.Tests.{lt-ltb, le-ltb, ltb-false, eq-eqb, ne_eqb, eqb-true, not-false}
+use borrow.Author.Tests.{ltb-false, eq-eqb, eqb-true, not-false}
 use Rattle.wire.specs.{Numbers.{bytes_of}, Writes.{overlay}, Rows.{◌⇒◌}, Uvc.{no_room}}
 use Rattle.wire.proofs.Laws.{Writes.{fits, same_length}, Rows.{quiet}}
-use Rattle.frame.specs.{declared.writer.Appended.{Appended}, Ids.{is_known}}
+use Rattle.frame.specs.{Writer.{Appended}, Ids.{is_known}}
 use Rattle.frame.specs.{Writer.{item_bytes, end_of, append_refusal, appended_of, written_of}, Codes.{invalid_id, too_long, longest_block}}
 
 module _ (room at id len : ℕ) where
-  pub id_invalid : is_known id ≡ false → invalid_id ≡ append_refusal room at id len
-  unfolding append_refusal
-  id_invalid k = simp k
-
-  pub end_long : is_known id ≡ true → longest_block < end_of at len → too_long ≡ append_refusal room at id len
-  unfolding append_refusal
-  end_long k a = simp (k, lt-ltb _ _ a)
-
-  pub room_short : is_known id ≡ true → end_of at len ≤ longest_block → room < end_of at len → no_room ≡ append_refusal room at id len
-  unfolding append_refusal
-  room_short k a b = simp (k, le-ltb _ _ a, lt-ltb _ _ b)
-
-  pub all_fits : is_known id ≡ true → end_of at len ≤ longest_block → end_of at len ≤ room → 0 ≡ append_refusal room at id len
-  unfolding append_refusal
-  all_fits k a b = simp (k, le-ltb _ _ a, le-ltb _ _ b)
-
   -- none of the tests held
   pub record Fits : Type 0 where
     pub known : is_known id ≡ true
@@ -37,11 +21,6 @@ module _ (room at id len : ℕ) where
   accepted e =
       let q = (quiet ((_ ⇒ invalid_id) ∷ (_ ⇒ too_long) ∷ (_ ⇒ no_room) ∷ []) [] refl e).0 in
       record { known = not-false _ q.0; short = ltb-false _ _ q.1.0; roomy = ltb-false _ _ q.1.1.0 }
-
-  pub refuses : (code : ℕ) → code ≡ append_refusal room at id len → (code ≡ 0 → ⊥)
-      → ◌≡◌ {A = Appended} (record { code = code; end = 0 }) (appended_of room at id len)
-  unfolding appended_of
-  refuses code e n = rw (← e) (simp (ne_eqb _ _ n))
 
   pub reports : append_refusal room at id len ≡ 0 → ◌≡◌ {A = Appended} (record { code = 0; end = end_of at len }) (appended_of room at id len)
   unfolding appended_of
@@ -58,10 +37,6 @@ module _ (room at id len : ℕ) where
       go false t e = e
 
 module _ (buf : List ℕ) (at id : ℕ) (payload : List ℕ) where
-  pub leaves : (append_refusal (length buf) at id (length payload) ≡ 0 → ⊥) → buf ≡ written_of buf at id payload
-  unfolding written_of
-  leaves n = simp (ne_eqb _ _ n)
-
   pub writes : append_refusal (length buf) at id (length payload) ≡ 0 → overlay buf at (item_bytes id payload) ≡ written_of buf at id payload
   unfolding written_of
   writes e = simp (eq-eqb _ _ e)

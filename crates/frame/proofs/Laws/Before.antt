@@ -3,7 +3,7 @@ use Prim.Native.Nat.{ℕ, zero, suc}
 use mathlib.Core.{Path.{◌≡◌, refl, ap, ◌∙◌}, List.{List, []}, Bool.{Bool, true, false, cond}}
 use lib.{ListN.{length, drop}, Dec.{ltb, eqb}}
 use borrow.Author.Tests.{eqb-true}
-use Rattle.frame.specs.declared.{items.Head.{Head}, items.Head.TheVariants.{Bad, Whole}}
+use Rattle.frame.specs.Items.{Head, Bad, Whole}
 use Rattle.frame.specs.{Ids.{is_known}, Codes.{invalid_id, too_long, longest_block}, Theorems.{read_before}}
 use Rattle.frame.specs.Items.{MetadataItem, BlockReading, refused, sound, item_id, item_size, item_refusal_under, item_refusal}
 use Rattle.frame.specs.Items.{first_item_under, first_item, ◌before◌, follow, item_in, items_in_under, items_in, items_from_under, found_in}

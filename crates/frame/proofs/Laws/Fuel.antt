@@ -4,7 +4,7 @@ use mathlib.Core.{Path.{◌≡◌, refl, sym, ap, ◌∙◌}, List.{List, []}, B
 use native.Mathlib.Omega.{arith}
 use lib.{ListN.{length, drop, length-drop}, Dec.{ltb}}
 use borrow.Author.Tests.{ltb-true, le-ltb, lt-ltb}
-use Rattle.frame.specs.declared.{items.Head.{Head}, items.Head.TheVariants.{Bad, Whole}}
+use Rattle.frame.specs.Items.{Head, Bad, Whole}
 use Rattle.frame.specs.Items.{BlockReading, sound, first_item, ◌before◌, follow, items_in_under, items_in, items_from_under, items_from}
 use Rattle.frame.specs.Items.{item_in}
 use Rattle.frame.proofs.Laws.Heads.{Says, says}

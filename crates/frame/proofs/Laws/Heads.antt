@@ -4,7 +4,7 @@ use mathlib.Core.{Path.{◌≡◌, refl, sym}, List.{List, [], ◌∷◌}, Bool.
 use native.Mathlib.Omega.{arith}
 use lib.{ListN.{length}, Dec.{ltb, eqb}}
 use borrow.Author.Tests.{lt-ltb, le-ltb, ltb-false, eqb-true, eqb-false, not-false}
-use Rattle.frame.specs.{declared.{items.Head.{Head}, items.Head.TheVariants.{Bad, Whole}}, Ids.{is_readable}}
+use Rattle.frame.specs.{Items.{Head, Bad, Whole}, Ids.{is_readable}}
 use Rattle.frame.specs.{Items.{item_id, item_size, item_refusal_under, item_refusal, first_item_under, first_item}}
 use Rattle.frame.specs.Codes.{truncated, invalid_id, short_size}
 use Rattle.wire.specs.Rows.{◌⇒◌}
@@ -19,18 +19,6 @@ module _ (s : List ℕ) where
   module _ (id : ℕ) (taken : Bool) (a : 8 ≤ length s) (i : id ≡ item_id s) (k : taken ≡ is_readable id) where
     is : (b : Bool) → taken ≡ b → is_readable (item_id s) ≡ b
     is b e = cc
-
-    pub head_invalid : taken ≡ false → Bad invalid_id ≡ first_item s
-    unfolding first_item_under item_refusal_under
-    head_invalid b = simp (le-ltb _ _ a, is false b)
-
-    pub head_small : taken ≡ true → item_size s < 8 → Bad short_size ≡ first_item s
-    unfolding first_item_under item_refusal_under
-    head_small b c = simp (le-ltb _ _ a, is true b, lt-ltb _ _ c)
-
-    pub head_past : taken ≡ true → 8 ≤ item_size s → length s < item_size s → Bad truncated ≡ first_item s
-    unfolding first_item_under item_refusal_under
-    head_past b c d = simp (le-ltb _ _ a, is true b, le-ltb _ _ c, lt-ltb _ _ d)
 
     pub head_whole : (size : ℕ) → size ≡ item_size s → taken ≡ true → 8 ≤ size → size ≤ length s → Whole id size ≡ first_item s
     unfolding first_item_under item_refusal_under

@@ -4,7 +4,7 @@ use mathlib.Core.{Path.{◌≡◌, refl, sym, ap, ◌∙◌}, List.{List, [], �
 use native.Mathlib.Omega.{arith}
 use lib.{ListN.{length, drop, length-append, length-drop}, Dec.{ltb}, Seq.{take-append-le, drop-append-le}}
 use borrow.Author.Tests.{ltb-true, ltb-false}
-use Rattle.frame.specs.declared.{items.Head.{Head}, items.Head.TheVariants.{Bad, Whole}}
+use Rattle.frame.specs.Items.{Head, Bad, Whole}
 use Rattle.frame.specs.Items.{MetadataItem, BlockReading, refused, sound, first_item, ◌before◌, follow, items_from, item_in}
 use Rattle.frame.proofs.Laws.{Heads.{Sound, sound_head, head_of}, Fuel.{nothing_left, one_then}, Bytes.{in-front}}
 

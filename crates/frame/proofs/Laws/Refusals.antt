@@ -3,7 +3,7 @@ use Prim.Native.Nat.{ℕ, zero, suc, ◌+◌}
 use mathlib.Core.{Path.{◌≡◌, refl}, List.{List, [], ◌∷◌}, Bool.{Bool, true, false, cond}}
 use lib.{ListN.{length}, Dec.{eqb}}
 use Rattle.wire.specs.Writes.{overlay}
-use Rattle.frame.specs.declared.writer.Appended.{Appended}
+use Rattle.frame.specs.Writer.{Appended}
 use Rattle.frame.specs.Items.{MetadataItem, BlockReading, refused, sound, block_items, refused_item, nth_item, found_in, count_in}
 use Rattle.frame.specs.Items.{block_item, block_count}
 use Rattle.frame.specs.Writer.{item_bytes, end_of, append_refusal, appended_of, written_of}

@@ -3,9 +3,9 @@ use Prim.Native.Nat.{ℕ, zero, suc, ◌+◌, ◌-◌, ◌≤◌, ◌<◌}
 use mathlib.Core.{Path.{◌≡◌, refl, sym, ap, ap₂, ◌∙◌}, List.{List, [], ◌∷◌}, Bool.{Bool, not}}
 use native.Mathlib.{Omega.{arith}, Numerals.{add-one}}
 use lib.{ListN.{length, drop, length-take, length-drop}, Seq.{drop-drop}}
-use borrow.Author.Tests.{eq-eqb, ne_eqb, lt-ltb, le-ltb}
-use Rattle.frame.specs.declared.{items.Head.{Head}, items.Head.TheVariants.{Bad, Whole}, items.Found.{Found}, items.Survey.{Survey}}
-use Rattle.frame.specs.{Codes.{no_item, too_long, longest_block}, Ids.{is_known}}
+use borrow.Author.Tests.{eq-eqb, ne_eqb, le-ltb}
+use Rattle.frame.specs.{Items.{Head, Bad, Whole, Found}, Steps.{Survey}}
+use Rattle.frame.specs.{Codes.{no_item, longest_block}, Ids.{is_known}}
 use Rattle.frame.specs.Items.{MetadataItem, BlockReading, refused, sound, first_item, ◌before◌, follow, items_from, block_items_under}
 use Rattle.frame.specs.Items.{block_items, item_in, refused_item, found_item, nth_item}
 use Rattle.frame.specs.Steps.{survey_of, stopped_at, pass_item, walked_over, onward}
@@ -53,9 +53,9 @@ abbrev pub Left : (k at n : ℕ) → Found → List ℕ → Type 0
 Left k at n found s = onward k at n found (items_from (drop at s)) ≡ survey_of k (items_from s)
 
 -- nothing is passed yet, and nothing found
-pub begins : (k : ℕ) (found : Found) (s : List ℕ) → found ≡ refused_item no_item → Left k 0 0 found s
+pub begins : (k : ℕ) (s : List ℕ) → Left k 0 0 (refused_item no_item) s
 unfolding onward
-begins k found s e = rw e (go (items_from s))
+begins k s = go (items_from s)
   where
     go : (f : BlockReading) → onward k 0 0 (refused_item no_item) f ≡ survey_of k f
     go (refused code) = refl
@@ -69,11 +69,6 @@ onward_before : (k at n : ℕ) (found : Found) (i : MetadataItem) (f : BlockRead
 unfolding onward walked_over
 onward_before k at n found i (refused code) = refl
 onward_before k at n found i (sound is) = refl
-
--- the longest block
-pub too_long_lem : (k : ℕ) (s : List ℕ) → longest_block < length s → stopped_at too_long ≡ survey_of k (block_items s)
-unfolding block_items_under
-too_long_lem k s h = simp (lt-ltb _ _ h)
 
 pub short_enough : (s : List ℕ) → length s ≤ longest_block → items_from s ≡ block_items s
 unfolding block_items_under
@@ -95,9 +90,9 @@ pub record Meets (k at n : ℕ) (found : Found) (s : List ℕ) (h : Head) : Type
   pub ahead : at < length s
   pub head : first_item (drop at s) ≡ h
 
-pub meets : (k at n : ℕ) (found : Found) (s rest : List ℕ) (g h : Head) → length s ≤ longest_block → Left k at n found s → at < length s
-    → rest ≡ drop at s → g ≡ first_item rest → g ≡ h → Meets k at n found s h
-meets k at n found s rest g h short left l r e f = record { short = short; left = left; ahead = l; head = ap first_item (sym r) ∙ sym e ∙ f }
+pub meets : {k at n : ℕ} {found : Found} (s rest : List ℕ) (h : Head) → length s ≤ longest_block → Left k at n found s → at < length s
+    → rest ≡ drop at s → h ≡ first_item rest → Meets k at n found s h
+meets s rest h short left l r e = record { short = short; left = left; ahead = l; head = ap first_item (sym r) ∙ sym e }
 
 module _ (k at n : ℕ) (found : Found) (s : List ℕ) where
   here : (h : Head) → Meets k at n found s h → items_from (drop at s) ≡ follow items_from (drop at s) h

@@ -8,13 +8,10 @@ use borrow.Author.Tests.{eq-eqb, ne_eqb, eqb-true, eqb-false, le-leb, lt-leb, le
 use Rattle.wire.specs.Endpoints.{first_address, last_address, places}
 use Rattle.snapshot.specs.{Keys.{keys, metadata_key, hdr_key, throttle_key}, Given.{over, last_of}}
 use Rattle.snapshot.proofs.Laws.Given.{over_assoc}
-use Rattle.controls.specs.declared.{Setting.{Setting}, HeldNumber.{HeldNumber}}
+use Rattle.controls.specs.declared.Setting.{Setting}
+use Rattle.std.specs.declared.option.Option.TheVariants.{Some, None}
+use Rattle.controls.specs.Controls.{HeldNumber, HeldEv, HeldThrottle}
 use Rattle.controls.specs.declared.Setting.TheVariants as S
-use Rattle.exposure.specs.declared.HeldEv.{HeldEv}
-use Rattle.exposure.specs.declared.HeldEv.TheVariants as E
-use Rattle.controls.specs.declared.HeldNumber.TheVariants as N
-use Rattle.throttle.specs.declared.HeldThrottle.{HeldThrottle}
-use Rattle.throttle.specs.declared.HeldThrottle.TheVariants as T
 use Rattle.entries.proofs.Laws.Held.{put-at, put_elsewhere, length-put}
 use Rattle.settings.specs.{declared.settings.Settings.{Settings}, Settings.{no_settings, setting_key, put}}
 use Rattle.settings.specs.{Held.{ev_held, face_held, number_held, metadata_held, hdr_held, throttle_held, settings_held}, Items.{put_all}}
@@ -137,9 +134,9 @@ unfolding settings_held no_settings
 none_held k = go (eqb k 0) (leb k places) (eqb k metadata_key) (eqb k hdr_key) (eqb k throttle_key) refl refl
   where
     go : (a b m h t : Bool) → eqb k 0 ≡ a → leb k places ≡ b
-        → cond a (ev_held E.Unset)
+        → cond a (ev_held None)
         (cond b (face_held (first_address + (k - 1)) (get_or (replicate {A = ℕ} places 0) (k - 1) 0))
-        (cond m (metadata_held N.Unset) (cond h (hdr_held N.Unset) (cond t (throttle_held T.Unset) none)))) ≡ none
+        (cond m (metadata_held None) (cond h (hdr_held None) (cond t (throttle_held None) none)))) ≡ none
     go true b m h t p q = refl
     go false true m h t p q =
         let z : get_or (replicate {A = ℕ} places 0) (k - 1) 0 ≡ 0 =
@@ -165,17 +162,17 @@ unfolding settings_held
 held_named c k s e = go (eqb k 0) (leb k places) (eqb k metadata_key) (eqb k hdr_key) (eqb k throttle_key) refl refl refl refl refl e
   where
     of_ev : (h : HeldEv) → ev_held h ≡ some s → Named 0 s
-    of_ev E.Unset q = absurd (none_never s q)
-    of_ev (E.Held x) q = some_is (Named 0) (S.Ev x) s q (refl, tt)
+    of_ev None q = absurd (none_never s q)
+    of_ev (Some x) q = some_is (Named 0) (S.Ev x) s q (refl, tt)
 
     of_number : (n : ℕ) (control : ℕ → Setting) → ((m : ℕ) → Named n (control m)) → (h : HeldNumber) → number_held control h ≡ some s
         → Named n s
-    of_number n control p N.Unset q = absurd (none_never s q)
-    of_number n control p (N.Held m) q = some_is (Named n) (control m) s q (p m)
+    of_number n control p None q = absurd (none_never s q)
+    of_number n control p (Some m) q = some_is (Named n) (control m) s q (p m)
 
     of_throttle : (h : HeldThrottle) → throttle_held h ≡ some s → Named throttle_key s
-    of_throttle T.Unset q = absurd (none_never s q)
-    of_throttle (T.Held x) q = some_is (Named throttle_key) (S.Throttle x) s q (refl, tt)
+    of_throttle None q = absurd (none_never s q)
+    of_throttle (Some x) q = some_is (Named throttle_key) (S.Throttle x) s q (refl, tt)
 
     of_face : (flags : ℕ) (b : Bool) → eqb flags 0 ≡ b → 1 ≤ k → k ≤ places
         → cond b none (some (S.Face (first_address + (k - 1)) flags)) ≡ some s → Named k s

@@ -11,7 +11,8 @@ use Rattle.flags.specs.Flags.{bits_of, count, one_flag}
 use Rattle.wire.specs.Selectors as selectors
 use Rattle.wire.proofs.Laws.{Rows.{quiet}, Below.{all-at, all_of}}
 use Rattle.snapshot.specs.Keys.{keys}
-use Rattle.controls.specs.{declared.{Item.{Item}, Item.TheVariants.{Refused, Given}, Setting.{Setting}}, Controls.{item_of}}
+use Rattle.controls.specs.Controls.{Item, Refused, Given, item_of}
+use Rattle.controls.specs.declared.Setting.{Setting}
 use Rattle.controls.specs.declared.Setting.TheVariants as S
 use Rattle.exposure.specs.Exposure.{ev_item, ev_flags, ev_value}
 use Rattle.face.specs.Limits.{face_valid, offers_of}

@@ -13,7 +13,9 @@ use Rattle.profile.specs.{declared.Profile.{Profile}, Profile.{profile_valid, pr
 use Rattle.profile.proofs.Laws.{Profile.{valid_presence}, KnownControl.{control_known}}
 use Rattle.settings.specs.Items.{given_of, set_gives, put_all}
 use Rattle.settings.proofs.Laws.Kept.{control_kept}
-use Rattle.camera.specs.{declared.{record.Camera.{Camera}, calls.Outcome.{Outcome}}, Record.{record_well_formed, puts}}
+use Rattle.camera.specs.declared.record.Camera.{Camera}
+use Rattle.camera.specs.Outcomes.{Outcome}
+use Rattle.camera.specs.Record.{record_well_formed, puts}
 use Rattle.camera.specs.Requests.{rules, table, accepts_set, request_gives, requested_code, outcome_of, outcome_by, request_done, requested}
 use Rattle.camera.proofs.Laws.Record.{formed_profile}
 use Rattle.invariants.proofs.Laws.{Held.{Each}, Kept.{Good, item_good, given_good, all_good, puts_formed}}

@@ -3,8 +3,9 @@ use Prim.Native.Nat.{ℕ, ◌≤◌, ◌<◌}
 use mathlib.Core.{Path.{◌≡◌, refl}, Bool.{Bool, true, false, cond}, List.{List, ◌++◌}}
 use lib.{ListN.{length, drop}, Seq.{take_at}, Dec.{eqb}}
 use borrow.Author.Tests.{le-leb, lt-leb, eqb-true}
-use Rattle.wire.specs.Uvc.{malformed_snapshot, no_room}
-use Rattle.snapshot.specs.Form.{well_formed}
+use Rattle.wire.specs.{declared.refusal.Refusal.{Refusal}, Refusals.{code_of}, Uvc.{malformed_snapshot, no_room}}
+use Rattle.snapshot.specs.Form.{well_formed, form_code}
+use Rattle.snapshot.proofs.Laws.Form.{form_refused}
 use Rattle.merging.specs.Merging.{merged, merge_code, merge_len, merge_out, handed_merge, Alike}
 
 -- the verdict, the length reported and the buffer afterwards
@@ -12,14 +13,21 @@ abbrev pub Answer : List ℕ → List ℕ → List ℕ → ℕ → ℕ → List 
 Answer s t out code len after = (code ≡ merge_code s t out) × ((len ≡ merge_len s t out) × (after ≡ merge_out s t out))
 
 module _ (s t out : List ℕ) where
-  pub first_malformed : well_formed s ≡ false → Answer s t out malformed_snapshot 0 out
+  first_malformed : well_formed s ≡ false → Answer s t out malformed_snapshot 0 out
   unfolding merge_code merge_len merge_out
   first_malformed e = simp e (refl, (refl, refl))
 
+  -- as its verdict refuses it
+  pub first_refused : (r : Refusal) → code_of r ≡ form_code s → Answer s t out (code_of r) 0 out
+  first_refused r h = let p = form_refused s r h in rw p.1 (first_malformed p.0)
+
   module _ (e : well_formed s ≡ true) where
-    pub second_malformed : well_formed t ≡ false → Answer s t out malformed_snapshot 0 out
+    second_malformed : well_formed t ≡ false → Answer s t out malformed_snapshot 0 out
     unfolding merge_code merge_len merge_out
     second_malformed f = simp (e, f) (refl, (refl, refl))
+
+    pub second_refused : (r : Refusal) → code_of r ≡ form_code t → Answer s t out (code_of r) 0 out
+    second_refused r h = let p = form_refused t r h in rw p.1 (second_malformed p.0)
 
     module _ (f : well_formed t ≡ true) where
       pub short : length out < length (merged s t) → Answer s t out no_room 0 out

@@ -2,15 +2,17 @@
 use Prim.Native.Nat.{ℕ, zero, suc, ◌+◌, ◌-◌, ◌≤◌, ◌<◌, min}
 use native.Mathlib.{Omega.{arith}, Nat.{add-zero}, Numerals.{add-one}}
 use mathlib.Core.{Path.{◌≡◌, refl, sym, ap, ap₂, ◌∙◌}, Bool.{Bool, true, false}, List.{List, ◌++◌, append-nil}, Option.{none}}
-use lib.{ListN.{length, take, drop, length-append, length-drop}, Seq.{length-take-le}, Dec.{leb}}
-use borrow.Author.Tests.{leb-true, leb-false}
+use lib.{ListN.{length, take, drop, length-append, length-drop}, Seq.{length-take-le}, Dec.{leb, eqb}}
+use borrow.Author.Tests.{leb-true, leb-false, eqb-true, eqb-false}
+use Rattle.std.specs.{Prelude.{Option, Some}, Option.{option_eq}}
 use Rattle.wire.specs.Writes.{overlay}
-use Rattle.wire.proofs.Laws.Writes.{no_bytes, append, same_length}
+use Rattle.wire.proofs.Laws.Writes.{no_bytes, append}
 use Rattle.snapshot.specs.{Keys.{keys, record_length, longest_snapshot}, Form.{well_formed}}
-use Rattle.snapshot.specs.{Records.{key_at, decode, record_bytes, records, encode}, Given.{over, overs}}
+use Rattle.snapshot.specs.{Records.{key_at, some_key, decode, record_bytes, records, encode}, Given.{over, overs}}
 use Rattle.merging.specs.Merging.{merged}
 use Rattle.snapshot.proofs.Laws.Maps.{records_split}
 use Rattle.snapshot.proofs.Laws.Walk.{At, first-at, none_before, record_at_lem, next-at, next_within, next_above, none_between}
+use Rattle.snapshot.proofs.Laws.Handed.{handed_some, some_handed, same_handed}
 use Rattle.merging.proofs.Laws.Merging.{merged_length}
 
 -- the merged records of the keys below k
@@ -57,13 +59,12 @@ pub record Written (s t old out : List ℕ) (a x b y n : ℕ) : Type 0 where
   pub long : n ≡ length (front s t (min x y))
   pub is : out ≡ overlay old 0 (front s t (min x y))
 
-pub unwritten : (s t old : List ℕ) {x y : ℕ} → well_formed s ≡ true → well_formed t ≡ true → x ≡ key_at (drop 0 s) → y ≡ key_at (drop 0 t)
-    → Written s t old old 0 x 0 y 0
+pub unwritten : (s t old : List ℕ) → well_formed s ≡ true → well_formed t ≡ true
+    → Written s t old old 0 (key_at (drop 0 s)) 0 (key_at (drop 0 t)) 0
 unfolding records
-unwritten s t old p q e f =
+unwritten s t old p q =
     let g = front_same s t 0 (min (key_at (drop 0 s)) (key_at (drop 0 t))) (omega arith)
     (λ i l u. (none_before s p i (omega arith), none_before t q i (omega arith))) in
-    rw (e, f)
     record {
       first = first-at s p;
       second = first-at t q;
@@ -83,9 +84,6 @@ module _ {s t old out : List ℕ} {a x b y n : ℕ} (w : Written s t old out a x
         ap₂ (λ o i. overlay o i r) w.is w.long ∙ append old (front s t (min x y)) r ∙ ap (overlay old 0) (sym h),
       )
 
-  pub write_length : length out ≡ length old
-  write_length = ap length w.is ∙ same_length old 0 (front s t (min x y))
-
   pub write_end : keys ≤ min x y → (n ≡ length (merged s t)) × (out ≡ overlay old 0 (merged s t))
   write_end h =
       let q : min x y ≡ keys = omega (arith, w.first.few, w.second.few) in
@@ -95,19 +93,14 @@ module _ {s t old out : List ℕ} {a x b y n : ℕ} (w : Written s t old out a x
   pub write_short : n ≤ longest_snapshot
   write_short = omega (arith, w.long, w.first.few, front_short s t (min x y) (omega (arith, w.first.few)))
 
--- a step goes on to a greater key
-pub step_above : {s : List ℕ} {a x p x' : ℕ} → At s a x → x < keys → p ≡ record_length x → x' ≡ key_at (drop (a + p) s) → x < x'
-step_above w h e i = rw (i, e) (next_above w h)
-
 -- the first's record where its key is the lesser
 module _ {s t old out : List ℕ} {a x b y n : ℕ} (w : Written s t old out a x b y n) (h : x < y) where
   first_key : x < keys
   first_key = omega (arith, w.second.few)
 
-  pub write_first : {p x' : ℕ} {u out' : List ℕ} → p ≡ record_length x → u ≡ take p (drop a s) → out' ≡ overlay out n u
-      → x' ≡ key_at (drop (a + p) s)
-      → Written s t old out' (a + p) x' b y (n + p)
-  write_first e f g i =
+  write_first : {p : ℕ} {u out' : List ℕ} → p ≡ record_length x → u ≡ take p (drop a s) → out' ≡ overlay out n u
+      → Written s t old out' (a + p) (key_at (drop (a + p) s)) b y (n + p)
+  write_first e f g =
       let r = take (record_length x) (drop a s) in
       let z : length r ≡ record_length x =
       length-take-le (record_length x) (drop a s) (omega (arith, next_within w.first first_key, length-drop a s)) in
@@ -118,7 +111,7 @@ module _ {s t old out : List ℕ} {a x b y n : ℕ} (w : Written s t old out a x
       let q =
       put w x (min x₁ y) r (omega arith)
       (ap₂ (λ c d. record_bytes (over c d)) (record_at_lem w.first first_key) (w.second_none x (omega arith) h)) same in
-      rw (g, i, f, e)
+      rw (g, f, e)
       record {
         first = next-at w.first first_key;
         second = w.second;
@@ -129,12 +122,12 @@ module _ {s t old out : List ℕ} {a x b y n : ℕ} (w : Written s t old out a x
       }
 
 -- of equal keys the first's record is passed over
-pub pass_first : {s t old out : List ℕ} {a x b y n : ℕ} (w : Written s t old out a x b y n) → x ≡ y → x < keys
-    → {p x' : ℕ} → p ≡ record_length x → x' ≡ key_at (drop (a + p) s) → Written s t old out (a + p) x' b y n
-pass_first {s} {t} {old} {a = a} {x} {y = y} w q l e i =
+pass_first : {s t old out : List ℕ} {a x b y n : ℕ} (w : Written s t old out a x b y n) → x ≡ y → x < keys
+    → {p : ℕ} → p ≡ record_length x → Written s t old out (a + p) (key_at (drop (a + p) s)) b y n
+pass_first {s} {t} {old} {a = a} {x} {y = y} w q l e =
     let up = next_above w.first l in
     let m : min x y ≡ min (key_at (drop (a + record_length x) s)) y = omega arith in
-    rw (i, e)
+    rw e
     record {
       first = next-at w.first l;
       second = w.second;
@@ -149,10 +142,9 @@ module _ {s t old out : List ℕ} {a x b y n : ℕ} (w : Written s t old out a x
   second_key : y < keys
   second_key = omega (arith, w.first.few)
 
-  pub write_second : {p y' : ℕ} {u out' : List ℕ} → p ≡ record_length y → u ≡ take p (drop b t) → out' ≡ overlay out n u
-      → y' ≡ key_at (drop (b + p) t)
-      → Written s t old out' a x (b + p) y' (n + p)
-  write_second e f g i =
+  write_second : {p : ℕ} {u out' : List ℕ} → p ≡ record_length y → u ≡ take p (drop b t) → out' ≡ overlay out n u
+      → Written s t old out' a x (b + p) (key_at (drop (b + p) t)) (n + p)
+  write_second e f g =
       let r = take (record_length y) (drop b t) in
       let z : length r ≡ record_length y =
       length-take-le (record_length y) (drop b t) (omega (arith, next_within w.second second_key, length-drop b t)) in
@@ -161,7 +153,7 @@ module _ {s t old out : List ℕ} {a x b y n : ℕ} (w : Written s t old out a x
       let same = front_same s t (suc y) (min x y₁) (omega arith)
       (λ i lo hi. (w.first_none i (omega arith) (omega arith), none_between w.second second_key i lo (omega arith))) in
       let q = put w y (min x y₁) r (omega arith) (ap (λ d. record_bytes (over (decode s y) d)) (record_at_lem w.second second_key)) same in
-      rw (g, i, f, e)
+      rw (g, f, e)
       record {
         first = w.first;
         second = next-at w.second second_key;
@@ -170,3 +162,58 @@ module _ {s t old out : List ℕ} {a x b y n : ℕ} (w : Written s t old out a x
         long = ap (λ m. n + m) (sym z) ∙ q.0;
         is = q.1;
       }
+
+-- a turn, by the keys as the code has them: it takes the lesser key, and goes on to a greater one
+module _ {s t old out : List ℕ} {a x b y n : ℕ} (w : Written s t old out a x b y n) {key p : ℕ} {o q : Option ℕ} (f : o ≡ some_key x)
+    (g : q ≡ some_key y) (e : Some key ≡ some_key (min x y)) (l : p ≡ record_length key) where
+  is_equal : (v : Bool) → v ≡ option_eq eqb o q → v ≡ eqb x y
+  is_equal v h = h ∙ ap₂ (option_eq eqb) f g ∙ same_handed x y w.first.few w.second.few
+
+  is_first : (v : Bool) → v ≡ option_eq eqb o (Some key) → v ≡ eqb x key
+  is_first v h =
+      let k = handed_some (min x y) key e in
+      h ∙ ap₂ (option_eq eqb) f (some_handed key k.1) ∙ same_handed x key w.first.few (omega (arith, k.1))
+
+  module _ (h : true ≡ option_eq eqb o q) where
+    same : (x ≡ y) × ((key ≡ x) × (key < keys))
+    same =
+        let k = handed_some (min x y) key e in
+        let i = eqb-true x y (sym (is_equal true h)) in
+        (i, (omega (arith, k.0), k.1))
+
+    pub both_written : Written s t old out (a + p) (key_at (drop (a + p) s)) b y n
+    both_written = pass_first w same.0 (omega (arith, same.1.0, same.1.1)) (l ∙ ap record_length same.1.0)
+
+    pub both_above : x < key_at (drop (a + p) s)
+    both_above = rw (l, same.1.0) (next_above w.first (omega (arith, same.1.0, same.1.1)))
+
+  module _ (h : false ≡ option_eq eqb o q) where
+    module _ (i : true ≡ option_eq eqb o (Some key)) where
+      lesser_first : (x < y) × (key ≡ x)
+      lesser_first =
+          let k = handed_some (min x y) key e in
+          let d = eqb-false x y (sym (is_equal false h)) in
+          let j = eqb-true x key (sym (is_first true i)) in
+          (omega (arith, k.0), sym j)
+
+      pub first_written : {u out' : List ℕ} → u ≡ take p (drop a s) → out' ≡ overlay out n u
+          → Written s t old out' (a + p) (key_at (drop (a + p) s)) b y (n + p)
+      first_written = write_first w lesser_first.0 (l ∙ ap record_length lesser_first.1)
+
+      pub first_above : x < key_at (drop (a + p) s)
+      first_above = rw (l, lesser_first.1) (next_above w.first (first_key w lesser_first.0))
+
+    module _ (i : false ≡ option_eq eqb o (Some key)) where
+      lesser_second : (y < x) × (key ≡ y)
+      lesser_second =
+          let k = handed_some (min x y) key e in
+          let d = eqb-false x y (sym (is_equal false h)) in
+          let j = eqb-false x key (sym (is_first false i)) in
+          (omega (arith, k.0), omega (arith, k.0))
+
+      pub second_written : {u out' : List ℕ} → u ≡ take p (drop b t) → out' ≡ overlay out n u
+          → Written s t old out' a x (b + p) (key_at (drop (b + p) t)) (n + p)
+      second_written = write_second w lesser_second.0 (l ∙ ap record_length lesser_second.1)
+
+      pub second_above : y < key_at (drop (b + p) t)
+      second_above = rw (l, lesser_second.1) (next_above w.second (second_key w lesser_second.0))

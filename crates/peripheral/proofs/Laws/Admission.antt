@@ -22,5 +22,5 @@ module _ (p : Peripheral) (setup payload : List ℕ) (formed : record_well_forme
   unfolding request_tests
   admission_state z = admission_formed (table p) setup payload formed ∙ rw (sym is, eq-eqb tests 0 z)
 
--- what the proof of `refusal` goes by
+-- what the proof of `admit` goes by
 pub ruleset admission_rules = (admission_unformed, admission_tests, admission_state)

@@ -1,26 +1,17 @@
--- A signed number's columns, by its 32 bits. Assumes nothing.
-use mathlib.Core.{Path.{◌≡◌, ap, sym, ◌∙◌}, Bool.{true, false}}
-use Prim.Native.Nat.{ℕ, suc, ◌+◌, ◌-◌, ◌^◌, ◌<◌}
+-- A signed number's columns, by its absolute value. Assumes nothing.
+use mathlib.Core.{Path.{◌≡◌, refl}, Bool.{true, false}}
+use Prim.Native.Nat.{suc}
 use native.Mathlib.Omega.{arith}
-use lib.{IntN.{ℤ, pos}, Signed.{lt_z}}
-use mir.{Syntax.{w32}, Val.{SFits}}
-use Rattle.wire.specs.Numbers.{bits32}
-use Rattle.wire.proofs.Laws.Signed.{lower, upper}
+use borrow.Author.Tests.{ltb-true}
+use lib.{IntN.{ℤ, pos, negsuc, nat_abs}, Signed.{lt_z}}
 use Rattle.printing.specs.Printing.{decimal_columns, signed_columns}
 
-pub below_zero : (v : ℤ) (bits sign columns : ℕ) → SFits w32 v → lt_z v (pos 0) ≡ true → bits ≡ bits32 v → sign ≡ 1
-    → columns ≡ decimal_columns (2 ^ 32 - bits) → sign + columns ≡ signed_columns v
-unfolding bits32 signed_columns
-below_zero v bits sign columns r t e s f =
-    let d = lower v t in
-    let small : d.0 < 2 ^ 31 = rw d.1 at r.sfits in
-    let n : bits ≡ 2 ^ 32 - suc d.0 = e ∙ ap bits32 d.1 in
-    let m : 2 ^ 32 - bits ≡ suc d.0 = omega arith in
-    omega (arith, f ∙ ap decimal_columns m, ap signed_columns d.1)
+pub below_zero : (v : ℤ) → lt_z v (pos 0) ≡ true → suc (decimal_columns (nat_abs v)) ≡ signed_columns v
+unfolding signed_columns
+below_zero (pos n) h = absurd (omega (arith, ltb-true n 0 h))
+below_zero (negsuc n) h = refl
 
-pub not_below : (v : ℤ) (bits columns : ℕ) → lt_z v (pos 0) ≡ false → bits ≡ bits32 v → columns ≡ decimal_columns bits
-    → columns ≡ signed_columns v
-unfolding bits32 signed_columns
-not_below v bits columns t e f =
-    let d = upper v t in
-    f ∙ ap decimal_columns (e ∙ ap bits32 d.1) ∙ sym (ap signed_columns d.1)
+pub not_below : (v : ℤ) → lt_z v (pos 0) ≡ false → decimal_columns (nat_abs v) ≡ signed_columns v
+unfolding signed_columns
+not_below (pos n) h = refl
+not_below (negsuc n) h = cc

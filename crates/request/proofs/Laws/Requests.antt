@@ -5,7 +5,9 @@ use native.Mathlib.Omega.{arith}
 use lib.{Dec.{eqb, ltb}, ListN.{length}}
 use borrow.Author.Tests.{ne_eqb, eqb-true}
 use Rattle.wire.specs.{Rows.{Row, ◌⇒◌, answers, first_of}, Uvc.{malformed_record, no_room}}
-use Rattle.request.specs.{declared.reply.Sent.{Sent}, Setup.{setup_selector, setup_code, setup_w_length, is_set_request}, Table.{Table}}
+use Rattle.request.specs.Reply.{Sent}
+use Rattle.request.specs.Setup.{setup_selector, setup_code, setup_w_length, is_set_request}
+use Rattle.request.specs.Table.{Table}
 use Rattle.request.specs.Tests.{request_tests, value_tests, admission, asked, sent_count, request_rows, request_code}
 use Rattle.request.specs.Reply.{sent_length, sent_of, reply_of}
 use Rattle.request.specs.Requests.{request_count, replied, result_by, done_by, requested_by}

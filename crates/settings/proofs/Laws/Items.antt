@@ -6,13 +6,16 @@ use native.Mathlib.{Nat.{zero-add}, Numerals.{add-one}, Omega.{arith}}
 use lib.{Dec.{eqb}, ListN.{get_or}}
 use borrow.Author.Tests.{ne_eqb, eqb-true}
 use Rattle.wire.specs.Selectors.{face}
-use Rattle.controls.specs.{declared.{Item.{Item}, Item.TheVariants.{Refused, Given}, Setting.{Setting}}, Controls.{item_code, first_refusal}}
+use Rattle.controls.specs.Controls.{Item, Refused, Given, item_code, first_refusal}
+use Rattle.controls.specs.declared.Setting.{Setting}
 use Rattle.controls.specs.declared.Setting.TheVariants as S
-use Rattle.entries.specs.declared.FacesTaken.{FacesTaken}
+use Rattle.entries.specs.Entries.{FacesTaken}
 use Rattle.entries.specs.Entries.{entry_address, entry_flags, entry_refusal, face_item, entries_put, faces_taken}
 use Rattle.entries.proofs.Laws.Entries.{entry_code, taken_entries}
 use Rattle.profile.specs.{declared.Profile.{Profile}, Items.{profile_item, set_refusal}}
-use Rattle.settings.specs.{declared.{settings.Settings.{Settings}, items.SetTaken.{SetTaken}}, Settings.{put}}
+use Rattle.settings.specs.declared.settings.Settings.{Settings}
+use Rattle.settings.specs.Items.{SetTaken}
+use Rattle.settings.specs.Settings.{put}
 use Rattle.settings.specs.Items.{given_of, all_given, put_all, set_gives, set_taken}
 
 -- one more
@@ -69,6 +72,21 @@ one_item p h selector payload n =
     rw (ne_eqb selector face n, append-nil (given_of i), ← one_code i)
     (ap (λ s. record { code = item_code i; settings = s }) (one_given h i))
 
+-- by what the code's item is
+module _ (p : Profile) (h : Settings) (selector : ℕ) (payload : List ℕ) (other : selector ≡ face → ⊥) where
+  of_item : Item → SetTaken
+  of_item i = record { code = item_code i; settings = put_all h (given_of i) }
+
+  pub one_refused : {code : ℕ} → Refused code ≡ profile_item p selector payload 0
+      → ◌≡◌ {A = SetTaken} (record { code = code; settings = h }) (set_taken p h selector payload)
+  unfolding of_item item_code given_of put_all
+  one_refused e = ap of_item e ∙ one_item p h selector payload other
+
+  pub one_taken : {s : Setting} → Given s ≡ profile_item p selector payload 0
+      → ◌≡◌ {A = SetTaken} (record { code = 0; settings = put h s }) (set_taken p h selector payload)
+  unfolding of_item item_code given_of put_all
+  one_taken e = ap of_item e ∙ one_item p h selector payload other
+
 -- entries of face authentication, one after the other
 abbrev with_face : Settings → List ℕ → Settings
 with_face h l = record { ev = h.ev; face = l; metadata = h.metadata; hdr = h.hdr; throttle = h.throttle }
@@ -95,7 +113,8 @@ face_refusal_lem p payload = ap (first_refusal (get_or payload 0 0) 0) (fun_ext 
 pub face_set : (p : Profile) (h : Settings) (payload : List ℕ) {taken : FacesTaken} → taken ≡ faces_taken p.face h.face payload
     → ◌≡◌ {A = SetTaken} (record { code = taken.code; settings = with_face h taken.held }) (set_taken p h face payload)
 unfolding set_taken set_gives faces_taken profile_item
-face_set p h payload {taken} is = rw (is, face_refusal_lem p payload) (ap (λ s. record { code = code; settings = s }) (go (eqb code 0) refl))
+face_set p h payload {taken} is =
+    rw (is, face_refusal_lem p payload) (ap (λ s. record { code = code; settings = s }) (go (eqb code 0) refl))
   where
     n : ℕ
     n = get_or payload 0 0
@@ -108,3 +127,6 @@ face_set p h payload {taken} is = rw (is, face_refusal_lem p payload) (ap (λ s.
         ≡ cond b (put_all h (all_given n 0 (λ i. given_of (face_item p.face payload i)))) h
     go true e = sym (entries_put_lem h payload n (face_item p.face payload) (taken_entries p.face payload n (eqb-true _ 0 e)))
     go false e = refl
+
+-- what `set` goes by
+pub ruleset set_by = (one_refused, one_taken, face_set)

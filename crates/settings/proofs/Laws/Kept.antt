@@ -5,17 +5,14 @@ use Prim.Native.Nat.{ℕ, suc, ◌+◌, ◌<◌}
 use native.Mathlib.{Numerals.{sub-one}, Omega.{arith}}
 use lib.{Dec.{eqb}, ListN.{get_or}}
 use borrow.Author.Tests.{ne_eqb, le-leb}
+use Rattle.std.specs.Prelude.{Result, Ok, Err, is_ok}
 use Rattle.wire.specs.{Uvc.{invalid_control, invalid_request}, Endpoints.{first_address, places}, Rows.{◌⇒◌, first_of, all_below}}
-use Rattle.wire.specs.Selectors.{ev, face, metadata, hdr, throttle}
+use Rattle.wire.specs.{declared.refusal.Refusal.{Refusal}, Refusals.{verdict}, Selectors.{face}}
+use Rattle.wire.proofs.Laws.{Refusals.{refused}, Below.{all_same, below_front}}
 use Rattle.snapshot.specs.Keys.{ev_key, metadata_key, hdr_key, throttle_key}
-use Rattle.controls.specs.declared.{EvSetting.{EvSetting}, ThrottleSetting.{ThrottleSetting}, Setting.{Setting}}
+use Rattle.controls.specs.declared.Setting.{Setting}
 use Rattle.controls.specs.declared.Setting.TheVariants as S
-use Rattle.exposure.specs.Exposure.{ev_refusal}
-use Rattle.metadata.specs.Metadata.{metadata_refusal}
-use Rattle.hdr.specs.Hdr.{hdr_refusal}
-use Rattle.throttle.specs.Throttle.{throttle_refusal}
 use Rattle.entries.specs.Entries.{setting_refusal, face_kept, faces_kept}
-use Rattle.wire.proofs.Laws.Below.{all_same, below_front}
 use Rattle.profile.specs.{declared.Profile.{Profile}, Profile.{has, is_settable, profile_valid, profile_refusal}}
 use Rattle.settings.specs.{declared.settings.Settings.{Settings}, Settings.{setting_selector}}
 use Rattle.settings.specs.Held.{ev_held, metadata_held, hdr_held, throttle_held, settings_held}
@@ -33,28 +30,15 @@ module _ (p : Profile) where
       go false t = refl
 
   -- all but metadata take one
-  pub kept_settable : (s : Setting) → is_settable p (setting_selector s) ≡ true
+  kept_settable : (s : Setting) → is_settable p (setting_selector s) ≡ true
       → has p (setting_selector s) && eqb (value_refusal p s) 0 ≡ kept p (some s)
   unfolding kept
   kept_settable s t = rw (control_kept (setting_selector s), t, and-true (has p (setting_selector s)))
 
-  pub kept_ev : (s : EvSetting) → has p ev && eqb (ev_refusal p.ev s.flags s.value) 0 ≡ kept p (some (S.Ev s))
-  unfolding value_refusal
-  kept_ev s = kept_settable (S.Ev s) refl
-
-  pub kept_hdr : (n : ℕ) → has p hdr && eqb (hdr_refusal p.hdr n) 0 ≡ kept p (some (S.Hdr n))
-  unfolding value_refusal
-  kept_hdr n = kept_settable (S.Hdr n) refl
-
-  pub kept_throttle : (s : ThrottleSetting)
-      → has p throttle && eqb (throttle_refusal p.throttle s.mode s.percent) 0 ≡ kept p (some (S.Throttle s))
-  unfolding value_refusal
-  kept_throttle s = kept_settable (S.Throttle s) refl
-
-  pub kept_metadata : (n : ℕ)
-      → has p metadata && p.metadata.writable && eqb (metadata_refusal p.metadata n) 0 ≡ kept p (some (S.Metadata n))
-  unfolding kept value_refusal
-  kept_metadata n = rw (control_kept metadata)
+-- a test's result, as its number says it
+pub accepted : {A : Type 0} (r : Result A Refusal) → is_ok r ≡ eqb (verdict r) 0
+accepted (Ok a) = refl
+accepted (Err e) = sym (refused e)
 
 -- the record test: the five controls in turn
 abbrev keeps : Profile → Settings → ℕ → Bool
@@ -84,11 +68,12 @@ in-turn true e f m h t = refl
 in-turn false e f m h t = refl
 
 pub formed_controls : (p : Profile) (s : Settings)
-    → profile_valid p && kept p (ev_held s.ev) && faces_kept (has p face) p.face s.face && kept p (metadata_held s.metadata)
+    → settings_well_formed p s
+    ≡ profile_valid p && kept p (ev_held s.ev) && faces_kept (has p face) p.face s.face && kept p (metadata_held s.metadata)
     && kept p (hdr_held s.hdr) && kept p (throttle_held s.throttle)
-    ≡ settings_well_formed p s
 unfolding settings_well_formed_under faces_kept all_below settings_held
 formed_controls p s =
-    in-turn (profile_valid p) _ _ _ _ _
+    sym
+    (in-turn (profile_valid p) _ _ _ _ _
     ∙ ap (λ b. profile_valid p && (b && keeps p s metadata_key && keeps p s hdr_key && keeps p s throttle_key))
-    (ap (λ b. keeps p s ev_key && b) (sym (all_same places _ _ (keeps_place p s))) ∙ sym (below_front places (keeps p s)))
+    (ap (λ b. keeps p s ev_key && b) (sym (all_same places _ _ (keeps_place p s))) ∙ sym (below_front places (keeps p s))))

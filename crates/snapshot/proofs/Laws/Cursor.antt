@@ -1,14 +1,15 @@
 -- A cursor that goes through the keys, one after the other: what code that reads a snapshot goes by. Assumes nothing.
 use Prim.Native.Nat.{ℕ, ◌+◌, ◌-◌, ◌≤◌, ◌<◌}
 use native.Mathlib.{Omega.{arith}, Numerals.{add-one}}
-use mathlib.Core.{Path.{◌≡◌, refl, sym, ap, ap₂, ◌∙◌}, Bool.{Bool, true, false, cond, ◌&&◌, true≢false}, List.{List, [], ◌∷◌}}
+use mathlib.Core.{Path.{◌≡◌, refl, sym, ap, ◌∙◌}, Bool.{Bool, true, false, cond}, List.{List, [], ◌∷◌}}
 use mathlib.Core.Option.{none, some}
-use lib.{ListN.{length, take, drop, length-drop}, Seq.{drop-drop}, Dec.{leb, ltb, eqb}}
-use borrow.Author.Tests.{le-leb, lt-leb, lt-ltb, leb-true, ltb-true, eq-eqb, ne_eqb}
-use Rattle.wire.specs.{declared.parts.Part.{Part}, Parts.{nowhere}}
-use Rattle.snapshot.specs.{Keys.{keys, record_length}, Form.{sound_record, stated_key, is_empty, well_formed}}
-use Rattle.snapshot.specs.{Records.{stands, key_at, passed, skip, from, record_at, decode, record_bytes, record_place}, Steps.{EndsBelow}}
-use Rattle.snapshot.proofs.Laws.{Sound.{and_left, and_right, stands_long}, Form.{formed_from}, Stay.{other_stands, stay}}
+use lib.{ListN.{length, take, drop, length-drop}, Seq.{drop-drop}, Dec.{eqb}}
+use borrow.Author.Tests.{lt-leb, eq-eqb, ne_eqb}
+use Rattle.std.specs.Prelude.{Some, None}
+use Rattle.snapshot.specs.{Keys.{keys, record_length}, Form.{is_empty, well_formed}}
+use Rattle.snapshot.specs.{Records.{stands, key_at, some_key, passed, skip, from, record_at, decode, record_place}, Steps.{EndsBelow}}
+use Rattle.snapshot.proofs.Laws.{Sound.{stands_long}, Form.{formed_from}, Stay.{other_stands, none_stands, stay}}
+use Rattle.snapshot.proofs.Laws.Handed.{handed_some, handed_none, handed_stands}
 
 passed_long : (k : ℕ) (s : List ℕ) → passed k s ≤ length s
 unfolding passed
@@ -26,37 +27,30 @@ skip_passed k s = go (stands k s)
     go true = refl
     go false = refl
 
-record_passed : (k : ℕ) (s : List ℕ) → record_bytes (record_at k s) ≡ take (passed k s) s
-unfolding record_at passed
-record_passed k s = go (stands k s)
-  where
-    go : (b : Bool) → record_bytes (cond b (some (take (record_length k) s)) none) ≡ take (cond b (record_length k) 0) s
-    go true = refl
-    go false = refl
-
--- nothing but a record has bytes, so a key that is none passes as many as its records have
-pub is_passed : (k : ℕ) (t : List ℕ) → key_at t ≡ k → record_length k ≡ passed k t
-unfolding passed stands key_at
-is_passed k t e = go (sound_record t) refl e
-  where
-    go : (b : Bool) → sound_record t ≡ b → cond b (stated_key t) keys ≡ k
-        → record_length k ≡ cond (b && eqb (stated_key t) k) (record_length k) 0
-    go true p e = simp (eq-eqb (stated_key t) k e)
-    go false p e = ap record_length (sym e)
-
-pub not_passed : (k : ℕ) (t : List ℕ) → (key_at t ≡ k → ⊥) → 0 ≡ passed k t
+is_passed : (k : ℕ) (s : List ℕ) → stands k s ≡ true → record_length k ≡ passed k s
 unfolding passed
-not_passed k t e = simp (other_stands k t e)
+is_passed k s h = simp h refl
 
 pub start : (s : List ℕ) → EndsBelow s 0 0
 unfolding from
 start s = record { within = omega arith; here = refl }
 
 module _ (s : List ℕ) (at k : ℕ) (c : EndsBelow s at k) where
-  -- the record that is passed is that of key k
-  pub cursor_record : take (passed k (drop at s)) (drop at s) ≡ record_bytes (decode s k)
-  unfolding decode
-  cursor_record = sym (record_passed k (drop at s)) ∙ ap (λ l. record_bytes (record_at k l)) c.here
+  -- a record of key k at the cursor is that of s, and where none stands there s has none
+  module _ (h : stands k (drop at s) ≡ true) where
+    pub cursor_record : decode s k ≡ some (take (record_length k) (drop at s))
+    unfolding decode record_at
+    cursor_record = rw (← c.here) (simp h refl)
+
+    pub cursor_place : k < keys → record { at = at; len = record_length k } ≡ record_place s k
+    unfolding record_place passed
+    cursor_place l =
+        let a : at ≡ length s - length (from s k) = omega (arith, c.within, ap length c.here, length-drop at s) in
+        simp (lt-leb keys k l, ← c.here, h) (ap (λ i. record { at = i; len = record_length k }) (rw (← c.here) at a))
+
+  pub cursor_none : stands k (drop at s) ≡ false → decode s k ≡ none
+  unfolding decode record_at
+  cursor_none h = rw (← c.here) (simp h refl)
 
   pub cursor_within : at + passed k (drop at s) ≤ length s
   cursor_within = omega (arith, c.within, passed_long k (drop at s), length-drop at s)
@@ -69,23 +63,11 @@ module _ (s : List ℕ) (at k : ℕ) (c : EndsBelow s at k) where
   }
 
   -- where no record of a key from k up to j stands at the cursor, nothing is passed
-  pub cursor_stay : (j : ℕ) → k ≤ j → ((i : ℕ) → k ≤ i → i < j → key_at (drop at s) ≡ i → ⊥) → EndsBelow s at j
+  pub cursor_stay : (j : ℕ) → k ≤ j → ((i : ℕ) → k ≤ i → i < j → stands i (drop at s) ≡ false) → EndsBelow s at j
   cursor_stay j h n = record {
     within = c.within;
-    here = c.here ∙ sym (stay s k j h (λ i p q. rw (← c.here) (other_stands i (drop at s) (n i p q))));
+    here = c.here ∙ sym (stay s k j h (λ i p q. rw (← c.here) (n i p q)));
   }
-
-  -- and stands at the cursor
-  pub cursor_place : k < keys → {n : ℕ} → n ≡ passed k (drop at s) → record { at = at; len = n } ≡ record_place s k
-  unfolding record_place
-  cursor_place h {n} e =
-      let a : at ≡ length s - length (from s k) = omega (arith, c.within, ap length c.here, length-drop at s) in
-      simp (lt-leb keys k h) (ap₂ {C = Part} (λ i m. record { at = i; len = m }) a (e ∙ ap (passed k) c.here))
-
--- a number that is no key has its record nowhere
-pub no_place : (s : List ℕ) (k : ℕ) → keys ≤ k → nowhere ≡ record_place s k
-unfolding record_place
-no_place s k h = simp (le-leb keys k h)
 
 -- behind the last key, the bytes are well formed where nothing is left
 pub end : (s : List ℕ) (at : ℕ) → EndsBelow s at keys → eqb at (length s) ≡ well_formed s
@@ -96,15 +78,19 @@ end s at c = go (drop at s) (length-drop at s) ∙ ap is_empty c.here ∙ sym (f
     go (b ∷ t) e = ne_eqb at (length s) (omega arith)
 
 -- going from record to record, with the lowest key that may follow: on to the next while it ascends and is below the key, and else done
-module _ (s : List ℕ) (at low k key : ℕ) (c : EndsBelow s at low) (e : k ≡ key_at (drop at s)) where
-  pub cursor_on : (leb low k && ltb k key) ≡ true → (low ≤ k) × ((k < key) × EndsBelow s (at + record_length k) (k + 1))
-  cursor_on h =
-      let l = leb-true low k (and_left _ (ltb k key) h) in
-      let d = cursor_stay s at low c k l (λ i p q f. omega arith) in
-      (l, (ltb-true k key (and_right (leb low k) _ h), rw (is_passed k (drop at s) (sym e)) (next s at k d)))
+module _ (s : List ℕ) (at low : ℕ) (c : EndsBelow s at low) where
+  module _ (k : ℕ) (e : Some k ≡ some_key (key_at (drop at s))) where
+    others : (j : ℕ) → low ≤ j → ((i : ℕ) → low ≤ i → i < j → k ≡ i → ⊥) → EndsBelow s at j
+    others j l n = cursor_stay s at low c j l (λ i a b. other_stands i (drop at s) (λ f. n i a b ((handed_some _ k e).0 ∙ f)))
 
-  pub cursor_done : (leb low k && ltb k key) ≡ false → low ≤ key → EndsBelow s at key
-  cursor_done h l =
-      cursor_stay s at low c key l
-      (λ i p q f.
-      let g : k ≡ i = e ∙ f in true≢false (sym (simp (le-leb low k (omega arith), lt-ltb k key (omega arith))) ∙ h))
+    pub cursor_on : low ≤ k → EndsBelow s (at + record_length k) (k + 1)
+    cursor_on l = rw (is_passed k (drop at s) (handed_stands k _ e)) (next s at k (others k l (λ i a b f. omega arith)))
+
+    pub cursor_below : (key : ℕ) → k < low → low ≤ key → EndsBelow s at key
+    cursor_below key h l = others key l (λ i a b f. omega arith)
+
+    pub cursor_above : (key : ℕ) → key ≤ k → low ≤ key → EndsBelow s at key
+    cursor_above key h l = others key l (λ i a b f. omega arith)
+
+  pub cursor_over : (key : ℕ) → None ≡ some_key (key_at (drop at s)) → low ≤ key → EndsBelow s at key
+  cursor_over key e l = cursor_stay s at low c key l (λ i a b. none_stands i (drop at s) (handed_none _ e))

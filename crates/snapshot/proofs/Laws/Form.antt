@@ -5,7 +5,10 @@ use mathlib.Core.{Path.{◌≡◌, refl, sym, ap, ◌∙◌}, Bool.{Bool, true, 
 use mathlib.Core.Option.{Option, none, some}
 use lib.{ListN.{length, take, drop, length-drop, take-append-drop}, Dec.{leb}}
 use borrow.Author.Tests.{le-leb, lt-leb, leb-true, leb-false}
-use Rattle.snapshot.specs.{Keys.{keys, record_length}, Form.{stated_length, sound_record, stated_key, is_empty, formed, well_formed}}
+use Rattle.wire.specs.{declared.refusal.Refusal.{Refusal}, Refusals.{code_of}, Uvc.{malformed_snapshot}}
+use Rattle.wire.proofs.Laws.Refusals.{not_accepted}
+use Rattle.snapshot.specs.Keys.{keys, record_length}
+use Rattle.snapshot.specs.Form.{stated_length, sound_record, stated_key, is_empty, formed, well_formed, form_code}
 use Rattle.snapshot.specs.Records.{stands, skip, from, record_at, decode, record_bytes, records, encode, Good}
 use Rattle.snapshot.proofs.Laws.Sound.{sound_parts, parts_sound, sound_of, stands_sound, sound_stands, stands_size, stands_long}
 use Rattle.snapshot.proofs.Laws.Sound.{stands_some}
@@ -112,3 +115,21 @@ encode_formed m g = formed_from (encode m) ∙ ap is_empty (from_records m g key
 pub nil_formed : well_formed [] ≡ true
 unfolding well_formed formed
 nil_formed = refl
+
+-- what the verdict on the form says, accepted or refused
+pub form_accepted : (s : List ℕ) → 0 ≡ form_code s → well_formed s ≡ true
+unfolding form_code
+form_accepted s h = go (well_formed s) refl h
+  where
+    go : (b : Bool) → well_formed s ≡ b → 0 ≡ cond b 0 malformed_snapshot → well_formed s ≡ true
+    go true e h = e
+    go false e h = absurd (omega arith)
+
+pub form_refused : (s : List ℕ) (e : Refusal) → code_of e ≡ form_code s → (well_formed s ≡ false) × (code_of e ≡ malformed_snapshot)
+unfolding form_code
+form_refused s r h = go (well_formed s) refl h
+  where
+    go : (b : Bool) → well_formed s ≡ b → code_of r ≡ cond b 0 malformed_snapshot
+        → (well_formed s ≡ false) × (code_of r ≡ malformed_snapshot)
+    go true e h = absurd (not_accepted r h)
+    go false e h = (e, h)

@@ -30,6 +30,11 @@ stands_key k t e = let p = stands_sound k t e in simp (parts_sound t p.0) p.1
 pub other_stands : (k : ℕ) (t : List ℕ) → (key_at t ≡ k → ⊥) → stands k t ≡ false
 other_stands k t h = not-true _ (λ e. h (stands_key k t e))
 
+-- a key that is none is no record's
+pub none_stands : (k : ℕ) (t : List ℕ) → keys ≤ key_at t → stands k t ≡ false
+unfolding key_at
+none_stands k t h = not-true _ (λ e. let p = stands_sound k t e in omega (arith, h, stands_key k t e, (sound_of t p.0).key, p.1))
+
 pub stay : (s : List ℕ) (low k : ℕ) → low ≤ k → ((i : ℕ) → low ≤ i → i < k → stands i (from s low) ≡ false) → from s k ≡ from s low
 unfolding from
 stay s low zero h n = let e : 0 ≡ low = omega arith in ap (from s) e

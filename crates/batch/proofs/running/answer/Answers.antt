@@ -1,7 +1,7 @@
 -- The reply is laid over `out` first, and then what stands before it.
-use Rattle.std.proofs.Common.{◌∙◌}
+use Rattle.std.proofs.Common.{◌∙◌, sym}
 use Rattle.wire.specs.Numbers.{bytes_of}
-use Rattle.batch.proofs.Laws.Running.{answer_laid}
+use Rattle.batch.proofs.Laws.Running.{front_laid, handed_on}
 use Rattle.batch.proofs.running.answer.Goals as goal
 
 pub returns-clause-out_after : goal.returns-clause-out_after
@@ -9,5 +9,12 @@ unfolding bytes_of
 returns-clause-out_after c =
     let a = c.args in
     c.copy.ensures
-    ∙ rw c.bytes16-count.ensures (answer_laid a.camera a.setup.now a.payload.now a.out.now a.at c.requires c.request-done.ensures.value
+    ∙ rw (c.bytes-length.ensures, c.status-code.ensures, c.unwrap_or-count.ensures)
+    (front_laid a.camera a.setup.now a.payload.now a.out.now a.at c.requires c.request-done.result c.request-done.ensures.value
     c.request-done.ensures.reply_after)
+
+pub returns-clause-value : goal.returns-clause-value
+returns-clause-value c =
+    let a = c.args in
+    rw c.unwrap_or-count.ensures
+    (handed_on a.camera a.setup.now a.payload.now a.out.now a.at c.requires c.request-done.result c.request-done.ensures.value)

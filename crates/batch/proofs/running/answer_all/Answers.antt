@@ -1,5 +1,5 @@
 -- Each turn lays one more answer over `out`, and there is room for it.
-use Rattle.std.proofs.Common.{arith}
+use Rattle.std.proofs.Common.{arith, refl}
 use Rattle.batch.proofs.Laws.Running.{accepted, answered_none, same_long, room_here, count_here, answered_next, answered_all}
 use Rattle.batch.proofs.running.answer_all.Goals as goal
 
@@ -16,27 +16,28 @@ answer-done-requires c =
       room_here _ _ _ t v c.setup_at-setup.ensures.bytes c.data_length-len.ensures.0 c.loop-at-test.true c.part_at-payload.ensures.bytes,
     )
 
-pub overflow_add-written : goal.overflow_add-written
-overflow_add-written c =
+pub overflow_add-count : goal.overflow_add-count
+overflow_add-count c =
     let t = accepted _ _ _ c.requires in
     let room =
     count_here _ _ _ t c.loop-at.invariant c.setup_at-setup.ensures.bytes c.data_length-len.ensures.0 c.loop-at-test.true
-    c.part_at-payload.ensures.bytes c.answer-done.ensures.value in
-    omega arith
+    c.part_at-payload.ensures.bytes refl in
+    omega (arith, room, c.answer-done.ensures.value.0)
 
-pub overflow_add-written-in-loop-at : goal.overflow_add-written-in-loop-at
-overflow_add-written-in-loop-at c =
+pub overflow_add-count-in-loop-at : goal.overflow_add-count-in-loop-at
+overflow_add-count-in-loop-at c =
     let t = accepted _ _ _ c.requires in
     let room =
     count_here _ _ _ t c.loop-at.invariant c.setup_at-setup.ensures.bytes c.data_length-len.ensures.0 c.loop-at-test.true
-    c.part_at-payload.ensures.bytes c.answer-done.ensures.value in
-    omega arith
+    c.part_at-payload.ensures.bytes refl in
+    omega (arith, room, c.answer-done.ensures.value.0)
 
 pub loop-at-preserved : goal.loop-at-preserved
 loop-at-preserved c =
     let t = accepted _ _ _ c.requires in
-    answered_next _ _ _ t c.loop-at.invariant c.setup_at-setup.ensures.bytes c.data_length-len.ensures.0 c.loop-at-test.true
-    c.part_at-payload.ensures.bytes c.answer-done.ensures.value c.answer-done.ensures.out_after
+    rw (c.answer-done.ensures.value.0, c.answer-done.ensures.value.1)
+    (answered_next _ _ _ t c.loop-at.invariant c.setup_at-setup.ensures.bytes c.data_length-len.ensures.0 c.loop-at-test.true
+    c.part_at-payload.ensures.bytes refl c.answer-done.ensures.out_after)
 
 pub returns-clause-value : goal.returns-clause-value
 returns-clause-value c =

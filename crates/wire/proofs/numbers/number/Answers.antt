@@ -6,7 +6,7 @@ use Rattle.wire.proofs.numbers.number.Goals as goal
 
 pub loop-j-init : goal.loop-j-init
 unfolding le_at number
-loop-j-init c = let e : c.args.k - c.args.k ≡ 0 = omega arith in (omega arith, rw e)
+loop-j-init c = let e : c.args.k - c.args.k ≡ 0 = omega arith in rw e
 
 pub overflow_mul-n : goal.overflow_mul-n
 overflow_mul-n c = omega (arith, below 7 (c.args.k - c.loop-j.j) c.tail-p.result.now c.loop-j.j c.type_inv.p (omega arith))
@@ -22,7 +22,7 @@ overflow_add-n c =
     )
 
 pub loop-j-preserved : goal.loop-j-preserved
-loop-j-preserved c = (omega arith, omega (arith, lower c.args.k c.tail-p.result.now c.loop-j.j (omega arith) (omega arith)))
+loop-j-preserved c = omega (arith, lower c.args.k c.tail-p.result.now c.loop-j.j (omega arith) (omega arith))
 
 pub returns : goal.returns
 returns c =
@@ -31,5 +31,5 @@ returns c =
     let z : c.loop-j.j ≡ 0 = omega arith in
     let f : k - 0 ≡ k = omega arith in
     let n : c.loop-j.n ≡ le_at k s c.args.i =
-    rw (z, f) at c.loop-j.invariant.1 ∙ rw (rest c.tail-p.ensures) (at-start k s c.args.i) in
+    rw (z, f) at c.loop-j.invariant ∙ rw (rest c.tail-p.ensures) (at-start k s c.args.i) in
     (n, rw n (below k k s c.args.i c.type_inv.s (omega arith)))

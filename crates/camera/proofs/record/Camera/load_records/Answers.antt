@@ -1,28 +1,24 @@
 -- Record by record, as the laws of loading have each turn. Assumes nothing.
-use native.Mathlib.Omega.{arith}
-use Rattle.camera.proofs.Laws.Loading.{nothing_loaded, load_above, load_next, load_end, stops_at}
+use borrow.Author.Rules.{rules}
+use Rattle.wire.proofs.Laws.Refusals.{not_accepted}
+use Rattle.camera.proofs.Laws.Loading.{nothing_loaded, load_smaller, load_stops, load_next}
 use Rattle.camera.proofs.record.Camera.load_records.Goals as goal
 
 pub loop-key-init : goal.loop-key-init
-loop-key-init c =
-    let w = nothing_loaded _ _ c.requires c.key_at-key.ensures in
-    record { loads = w; stops = stops_at _ _ w }
+loop-key-init c = nothing_loaded _ _ c.requires
 
 pub loop-key-smaller : goal.loop-key-smaller
-loop-key-smaller c =
-    omega (
-      arith,
-      load_above _ _ c.loop-key.invariant.loads c.loop-key-test.true c.record_length-size.ensures c.part_at-r.ensures.bytes
-          c.record_item-item.ensures c.item_code-code.ensures c.key_at-key-in-loop-key.ensures,
-    )
+loop-key-smaller c = load_smaller _ _ c.loop-key.invariant c.in-Some.ensures c.record_length-len.ensures
 
--- the record is taken: its number is 0
 pub loop-key-preserved : goal.loop-key-preserved
 loop-key-preserved c =
-    let w =
-    load_next _ _ c.loop-key.invariant.loads c.loop-key-test.true c.record_length-size.ensures c.part_at-r.ensures.bytes
-    c.record_item-item.ensures c.item_code-code.ensures (omega arith) c.put_item-settings.ensures c.key_at-key-in-loop-key.ensures in
-    record { loads = w; stops = stops_at _ _ w }
+    load_next _ _ c.loop-key.invariant c.in-Some.ensures c.record_length-len.ensures c.part_at-record.ensures.bytes
+    c.in_ok-settings.ensures
 
-pub returns : goal.returns
-returns c = load_end _ _ c.loop-key.invariant.loads c.loop-key-test.false c.with_settings.ensures
+-- the record is refused
+pub returns-in_err-settings : goal.returns-in_err-settings
+returns-in_err-settings c =
+    let stops =
+    load_stops _ _ c.loop-key.invariant c.in-Some.ensures c.record_length-len.ensures c.part_at-record.ensures.bytes
+    c.in_err-settings.ensures (not_accepted _) in
+    search rules

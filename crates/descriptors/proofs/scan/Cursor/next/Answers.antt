@@ -1,51 +1,43 @@
 -- Out of the parent, or by what the descriptor is found to be.
-use Rattle.std.proofs.Common.{arith}
-use Rattle.descriptors.proofs.Laws.Rows.{told_refused, told_opaque, told_subset, told_property, told_sound, told_faulty}
-use Rattle.descriptors.proofs.Laws.{Sound.{known_as}, Scan.{bounds, leaves, stops, skips, passes, enters}}
+use Rattle.std.proofs.Common.{arith, sym}
+use Rattle.descriptors.proofs.Laws.{Sound.{known_as}, Scan.{bounds, leaves, stops, skips, finds, passes_by, enters}}
 use Rattle.descriptors.proofs.scan.Cursor.next.Goals as goal
 
 pub returns-then-self : goal.returns-then-self
-returns-then-self c = leaves _ _ _ c.requires c.if-self.true _ c.out.ensures
+returns-then-self c = leaves _ _ _ c.requires.0 c.requires.1 c.if-self.true _ c.around.ensures
 
-pub behind-requires : goal.behind-requires
-behind-requires c =
-    let b = bounds _ _ _ c.requires in
-    omega (arith, known_as _ _ _ _ _ (told_opaque _ _ _ _ c.look.ensures c.in-Opaque.is))
+pub overflow_add-result : goal.overflow_add-result
+overflow_add-result c =
+    let b = bounds _ _ _ c.requires.0 c.requires.1 in
+    omega (arith, known_as _ _ _ _ _ (sym (rw c.in-Ok-Opaque.field-0-is at c.in-Ok-Opaque.ensures)))
 
-pub property_refusal-code-requires : goal.property_refusal-code-requires
-property_refusal-code-requires c =
-    let b = bounds _ _ _ c.requires in
-    omega (arith, told_property _ _ _ _ c.look.ensures c.in-Property.is)
+pub overflow_add-result-in-Ok-Property : goal.overflow_add-result-in-Ok-Property
+overflow_add-result-in-Ok-Property c =
+    let b = bounds _ _ _ c.requires.0 c.requires.1 in
+    omega (arith, known_as _ _ _ _ _ (sym (rw c.in-Ok-Property.field-0-is at c.in-Ok-Property.ensures)))
 
-pub pass-requires : goal.pass-requires
-pass-requires c =
-    let b = bounds _ _ _ c.requires in
-    omega (arith, told_property _ _ _ _ c.look.ensures c.in-Property.is)
+pub overflow_add-result-in-Ok-Subset-2 : goal.overflow_add-result-in-Ok-Subset-2
+overflow_add-result-in-Ok-Subset-2 c =
+    let b = bounds _ _ _ c.requires.0 c.requires.1 in
+    omega (arith, known_as _ _ _ _ _ (sym (rw c.in-Ok-Subset.field-0-is at c.in-Ok-Subset.ensures)))
 
-pub into_subset-requires : goal.into_subset-requires
-into_subset-requires c =
-    let b = bounds _ _ _ c.requires in
-    omega (arith, known_as _ _ _ _ _ (told_subset _ _ _ _ c.look.ensures c.in-Subset.is))
+pub returns-in-Err : goal.returns-in-Err
+returns-in-Err c = stops _ _ _ c.requires.0 c.requires.1 c.if-self.false _ c.in-Err.ensures
 
-pub returns-in-Refused : goal.returns-in-Refused
-returns-in-Refused c =
-    stops _ _ _ c.requires c.if-self.false _ (told_refused _ _ _ _ c.look.ensures c.in-Refused.is) _ c.stop.ensures
+pub returns-in-Ok-Opaque : goal.returns-in-Ok-Opaque
+returns-in-Ok-Opaque c =
+    skips _ _ _ c.requires.0 c.requires.1 c.if-self.false _ (rw c.in-Ok-Opaque.field-0-is at c.in-Ok-Opaque.ensures)
 
-pub returns-in-Opaque : goal.returns-in-Opaque
-returns-in-Opaque c =
-    skips _ _ _ c.requires c.if-self.false _ (told_opaque _ _ _ _ c.look.ensures c.in-Opaque.is) _ c.behind.ensures
+pub returns-then-self-k : goal.returns-then-self-k
+returns-then-self-k c =
+    let here = rw c.in-Ok-Property.field-0-is at c.in-Ok-Property.ensures in
+    finds _ _ _ c.requires.0 c.requires.1 c.if-self.false _ here c.if-self-k.true
 
--- of a property its own refusal decides
-pub returns-then-code-eq0 : goal.returns-then-code-eq0
-returns-then-code-eq0 c =
-    let found = told_sound _ _ _ _ c.look.ensures c.in-Property.is c.property_refusal-code.ensures c.if-code-eq0.true in
-    passes _ _ _ c.requires c.if-self.false _ found _ c.pass.ensures
+pub returns-else-self-k : goal.returns-else-self-k
+returns-else-self-k c =
+    let here = rw c.in-Ok-Property.field-0-is at c.in-Ok-Property.ensures in
+    passes_by _ _ _ c.requires.0 c.requires.1 c.if-self.false _ here c.if-self-k.false
 
-pub returns-else-code-eq0 : goal.returns-else-code-eq0
-returns-else-code-eq0 c =
-    let found = told_faulty _ _ _ _ c.look.ensures c.in-Property.is c.property_refusal-code.ensures c.if-code-eq0.false in
-    stops _ _ _ c.requires c.if-self.false _ found _ c.stop-else-code-eq0.ensures
-
-pub returns-in-Subset : goal.returns-in-Subset
-returns-in-Subset c =
-    enters _ _ _ c.requires c.if-self.false _ _ (told_subset _ _ _ _ c.look.ensures c.in-Subset.is) _ c.into_subset.ensures
+pub returns-in-Ok-Subset : goal.returns-in-Ok-Subset
+returns-in-Ok-Subset c =
+    enters _ _ _ c.requires.0 c.requires.1 c.if-self.false _ _ (rw c.in-Ok-Subset.field-0-is at c.in-Ok-Subset.ensures)

@@ -1,9 +1,0 @@
--- `capitals`: the index stays in the array.
-use Rattle.std.proofs.Common.{◌-◌, ◌≤◌}
-use Rattle.printing.proofs.capitals.Given as goal
-
-abbrev pub invariant-loop-i : goal.invariant-loop-i
-invariant-loop-i l = l.i ≤ 16
-
-abbrev pub decreases-loop-i : goal.decreases-loop-i
-decreases-loop-i l = 16 - l.i
