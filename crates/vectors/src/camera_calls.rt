@@ -4,22 +4,11 @@ use crate::words::{Bytes, octet, place, word};
 use crate::{print, record};
 use camera::Camera;
 use request::Done;
-use wire::{Numbered, Refusal};
-
-// Writes number and count, and hands the next record on.
-fn told<E: Numbered>(camera: Camera, done: Result<Done<Camera>, E>) -> Camera {
-    print::code(wire::status(done));
-    let Done { count, next } = done.unwrap_or(Done {
-        count: 0,
-        next: camera,
-    });
-    print::count(count);
-    next
-}
+use wire::Refusal;
 
 // A call that writes nothing.
 fn changed(camera: Camera, next: Result<Camera, Refusal>) -> Camera {
-    told(camera, next.map(|next| Done { count: 0, next }))
+    print::done(camera, next.map(|next| Done { count: 0, next }))
 }
 
 // A request: room for the reply, setup, payload.
@@ -29,7 +18,7 @@ fn request(camera: Camera, call: &[u8]) -> Camera {
     let mut room = [0xEEu8; LENT];
     let reply = first(&mut room, usize::from(octet(word(call, 1), 0)));
     let done = camera.request(setup.as_slice(), payload.as_slice(), reply);
-    let next = told(camera, done);
+    let next = print::done(camera, done);
     print::bytes(reply);
     next
 }
@@ -58,7 +47,7 @@ fn run_batch(camera: Camera, call: &[u8]) -> Camera {
     let mut room = [0xEEu8; LENT_ANSWERS];
     let out = first(&mut room, place(word(call, 1)));
     let done = batch::run(camera, given.first(len), out);
-    let next = told(camera, done);
+    let next = print::done(camera, done);
     print::bytes(out);
     next
 }

@@ -27,9 +27,7 @@ fn stands(p: Peripheral) -> Peripheral {
 
 // Writes number and count, and what is left in the buffer that was lent.
 fn told(p: Peripheral, done: Result<Done<Peripheral>, Refusal>, lent: &[u8]) -> Peripheral {
-    print::code(wire::status(done));
-    let Done { count, next } = done.unwrap_or(Done { count: 0, next: p });
-    print::count(count);
+    let next = print::done(p, done);
     print::bytes(lent);
     record(next);
     next

@@ -1,5 +1,7 @@
 // What a row's answer is written with: a blank, and behind it the answer.
 use printing::{Case, text};
+use request::Done;
+use wire::Numbered;
 
 // A number in so many digits of hex.
 pub(crate) fn hex(n: u64, digits: usize) {
@@ -16,6 +18,17 @@ pub(crate) fn code(n: u8) {
 pub(crate) fn count(n: usize) {
     text(b" ");
     printing::decimal(n as u64);
+}
+
+// A unit's call: number and count. The next record is handed on, which after a refusal is the one that came in.
+pub(crate) fn done<R: Copy, E: Numbered>(came: R, done: Result<Done<R>, E>) -> R {
+    code(wire::status(done));
+    let Done { count: bytes, next } = done.unwrap_or(Done {
+        count: 0,
+        next: came,
+    });
+    count(bytes);
+    next
 }
 
 pub(crate) fn signed(value: i32) {
