@@ -22,8 +22,8 @@ is_refused R.MalformedRecord = refl
 is_refused R.Cut = refl
 
 -- the number that a result stands for: 0 where it is not refused
-abbrev pub verdict : {A : Type 0} → Result A Refusal → ℕ
-verdict = number_by code_of
+abbrev pub batch_verdict : {A : Type 0} → Result A Refusal → ℕ
+batch_verdict = number_by code_of
 
 -- what a batch to the camera c comes to: a refusal has a count of 0 and the record as it came in
 abbrev pub of_batch : Camera → Result (Done Camera) Refusal → Outcome

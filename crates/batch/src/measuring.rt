@@ -4,7 +4,7 @@ ghost use Rattle.std.specs.Prelude.{◌≤◌, ◌<◌, ◌^◌};
 ghost use Rattle.wire.specs.Rows.{first_of};
 ghost use Rattle.request.specs.Answers.{longest_answer};
 ghost use Rattle.profile.specs.Profile.{profile_valid};
-ghost use Rattle.batch.specs.{Refusals.{verdict}, Answers.{reply_length}, Batch.{batch_tests}};
+ghost use Rattle.batch.specs.{Refusals.{batch_verdict}, Answers.{reply_length}, Batch.{batch_tests}};
 
 use crate::packing::{data_length, setup_at};
 use crate::refusal::Refusal;
@@ -32,7 +32,7 @@ fn reply_length(p: Profile, setup: &[u8], payload: &[u8]) -> usize
 // Whether a batch is refused whole. No more than room + 1 bytes are counted, so that no sum wraps.
 pub(crate) fn check(p: Profile, packed: &[u8], room: usize) -> Result<(), Refusal>
     requires { (profile_valid p ≡ true) × (room < 2 ^ 63) }
-    ensures { verdict result ≡ first_of (batch_tests p packed.now room) }
+    ensures { batch_verdict result ≡ first_of (batch_tests p packed.now room) }
 {
     let mut needed = 0;
     let mut at = 0;

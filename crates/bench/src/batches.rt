@@ -58,7 +58,7 @@ fn exchange(setup: &[u8], payload: &[u8], answer: &[u8]) {
 fn exchanges(packed: &[u8], out: &[u8]) {
     let mut requests = packed;
     let mut answers = out;
-    while 0 < requests.len() {
+    while !requests.is_empty() {
         let setup = wire::head(requests, 8);
         let behind = wire::tail(requests, 8);
         let len = payload_length(setup);

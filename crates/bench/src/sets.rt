@@ -2,7 +2,6 @@
 use crate::print;
 use descriptors::RegistryProperty;
 use printing::text;
-use wire::Numbered;
 
 fn interface(first: Option<u8>) {
     match first {
@@ -42,12 +41,9 @@ fn properties(set: &[u8]) {
 fn row(name: &[u8], set: &[u8]) {
     print::label(name, 24);
     print::number(set.len(), 8);
-    let (code, offset) = match descriptors::check(set) {
-        Ok(()) => (0, 0),
-        Err(fault) => (fault.refusal.code(), fault.offset),
-    };
-    print::code(code, 8);
-    print::number(offset, 0);
+    let checked = descriptors::check(set);
+    print::code(wire::status(checked), 8);
+    print::number(checked.err().map_or(0, |fault| fault.offset), 0);
     print::end();
     properties(set);
 }

@@ -1,8 +1,8 @@
 // Loading a snapshot: its form, then each record as a SET; all or nothing.
 ghost use mathlib.Core.{Path.{◌≡◌}, Bool.{true}};
 ghost use Rattle.snapshot.specs.Form.{well_formed};
-ghost use Rattle.controls.specs.Controls.{item};
-ghost use Rattle.settings.specs.Items.{taken};
+ghost use Rattle.controls.specs.Controls.{item_told};
+ghost use Rattle.settings.specs.Items.{set_told};
 ghost use Rattle.camera.specs.{Outcomes.{of_change}, Loading.{selector_at, record_item, loaded}, Steps.{item_taken, load_done}};
 
 use crate::record::Camera;
@@ -26,7 +26,7 @@ impl Camera {
     // A record of a key, as a SET.
     #[tactic(auto, using(crate::proofs::Laws::Loading::as_set))]
     fn record_item(self, key: usize, bytes: &[u8]) -> Result<Setting, Refusal>
-        ensures { item result ≡ record_item self.profile self.streaming key bytes.now }
+        ensures { item_told result ≡ record_item self.profile self.streaming key bytes.now }
     {
         let selector = selector_at(key);
         self.check_set(selector)?;
@@ -36,7 +36,7 @@ impl Camera {
     // The settings with a record of a key.
     #[tactic(auto, using(crate::proofs::Laws::Loading::taking))]
     fn take_record(self, settings: Settings, key: usize, bytes: &[u8]) -> Result<Settings, Refusal>
-        ensures { taken settings result ≡ item_taken settings (record_item self.profile self.streaming key bytes.now) }
+        ensures { set_told settings result ≡ item_taken settings (record_item self.profile self.streaming key bytes.now) }
     {
         Ok(settings.put(self.record_item(key, bytes)?))
     }

@@ -1,7 +1,7 @@
 // Requests to the extension unit: document 01's nine tests, then a SET or a GET.
 ghost use Rattle.std.specs.Prelude.{◌≡◌, length};
 ghost use Rattle.wire.specs.Refusals.{verdict};
-ghost use Rattle.request.specs.{Setup.{setup_w_length}, Reply.{sent, sent_of, reply_of}, Tests.{asked}};
+ghost use Rattle.request.specs.{Setup.{setup_w_length}, Reply.{sent_told, sent_of, reply_of}, Tests.{asked}};
 ghost use Rattle.camera.specs.{Outcomes.{of_change, of_request}, Steps.{set_done}};
 ghost use Rattle.camera.specs.Requests.{state_refusal, control_refusal, table, requested, requested_reply};
 
@@ -40,7 +40,7 @@ impl Camera {
 
     // Test 9 of a GET, then as much of its answer as wLength asks for; how much that is.
     fn get(self, setup: &[u8], reply: &mut [u8]) -> Result<usize, Refusal>
-        ensures value { sent result ≡ sent_of (asked (table self) setup.now) (setup_w_length setup.now) (length reply.old) }
+        ensures value { sent_told result ≡ sent_of (asked (table self) setup.now) (setup_w_length setup.now) (length reply.old) }
         ensures reply_after { reply.new
             ≡ reply_of (asked (table self) setup.now) (setup_w_length setup.now) reply.old }
     {

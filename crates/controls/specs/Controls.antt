@@ -12,9 +12,9 @@ pub data Item : Type 0 where
   Given : Setting → Item
 
 -- the code's result as an item
-abbrev pub item : Result Setting Refusal → Item
-item (Ok s) = Given s
-item (Err e) = Refused (code_of e)
+abbrev pub item_told : Result Setting Refusal → Item
+item_told (Ok s) = Given s
+item_told (Err e) = Refused (code_of e)
 
 -- what an item comes to by the number that its tests give: 0 is acceptance
 unfoldable pub item_of : ℕ → Setting → Item

@@ -6,7 +6,7 @@
 
 ghost use Rattle.std.specs.Prelude.{◌≡◌};
 ghost use Rattle.wire.specs.Refusals.{verdict};
-ghost use Rattle.controls.specs.Controls.{item, item_of};
+ghost use Rattle.controls.specs.Controls.{item_told, item_of};
 
 use wire::Refusal;
 
@@ -36,7 +36,7 @@ pub enum Setting {
 // What an item of a SET comes to by its value tests: the setting, or the refusal.
 #[tactic(auto, using(wire::proofs::Laws::Refusals::refused), unfolding(crate::specs::Controls::item_of))]
 pub fn item_of(tested: Result<(), Refusal>, s: Setting) -> Result<Setting, Refusal>
-    ensures { item result ≡ item_of (verdict tested) s }
+    ensures { item_told result ≡ item_of (verdict tested) s }
 {
     tested?;
     Ok(s)

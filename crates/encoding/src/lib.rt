@@ -5,11 +5,11 @@
 
 ghost use Rattle.std.specs.Prelude.{◌≡◌, ◌≤◌, length};
 ghost use Rattle.wire.specs.Writes.{overlay};
-ghost use Rattle.throttle.specs.Throttle.{throttle_bytes};
-ghost use Rattle.encoding.specs.Encoding.{framed, no_limits, record_of, encoded};
+ghost use Rattle.encoding.specs.Encoding.{framed, record_of, encoded};
 
-use controls::{Setting, ThrottleSetting};
+use controls::Setting;
 use settings::Settings;
+use throttle::ThrottleLimits;
 use wire::selectors;
 
 // Writes a record at a place, as far as out reaches: its length and its kind, two bytes each, then the payload that would set the control.
@@ -24,16 +24,12 @@ fn put_record(out: &mut [u8], at: usize, kind: u8, payload: &[u8])
     wire::copy(out, at, wire::head(&record, 4 + payload.len()));
 }
 
-// The throttle's payload with a tail of zeros.
-#[tactic(auto, using(crate::proofs::Laws::Encoding::throttle_laid))]
-fn throttle_bytes(s: ThrottleSetting) -> [u8; 20]
-    ensures { result ≡ throttle_bytes s no_limits }
-{
-    let mut b = [0u8; 20];
-    wire::put32(&mut b, 0, s.mode);
-    wire::put32(&mut b, 4, s.percent);
-    b
-}
+// Behind a throttle's setting in a snapshot stand zeros.
+const NO_LIMITS: ThrottleLimits = ThrottleLimits {
+    minimum: 0,
+    maximum: 0,
+    step: 0,
+};
 
 #[tactic(auto, using(crate::proofs::Laws::Encoding::face_record), unfolding(crate::specs::Encoding::record_of))]
 fn put_setting(out: &mut [u8], at: usize, s: Setting)
@@ -52,7 +48,12 @@ fn put_setting(out: &mut [u8], at: usize, s: Setting)
             &wire::bytes::<4>(u64::from(n)),
         ),
         Setting::Hdr(n) => put_record(out, at, selectors::HDR, &wire::bytes::<4>(u64::from(n))),
-        Setting::Throttle(s) => put_record(out, at, selectors::THROTTLE, &throttle_bytes(s)),
+        Setting::Throttle(s) => put_record(
+            out,
+            at,
+            selectors::THROTTLE,
+            &throttle::bytes(s, NO_LIMITS),
+        ),
     }
 }
 

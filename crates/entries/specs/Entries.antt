@@ -98,9 +98,9 @@ pub record FacesTaken : Type 0 where
   pub held : List ℕ
 
 -- what the code's result comes to, where `held` are the settings that came in
-abbrev pub taken : List ℕ → Result (List ℕ) Refusal → FacesTaken
-taken held (Ok next) = record { code = 0; held = next }
-taken held (Err e) = record { code = code_of e; held = held }
+abbrev pub faces_told : List ℕ → Result (List ℕ) Refusal → FacesTaken
+faces_told held (Ok next) = record { code = 0; held = next }
+faces_told held (Err e) = record { code = code_of e; held = held }
 
 -- what a SET's payload comes to: the first refusal of its entries, or 0 and the settings with all of them
 unfoldable pub faces_taken : FaceLimits → List ℕ → List ℕ → FacesTaken

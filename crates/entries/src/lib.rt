@@ -8,8 +8,8 @@ ghost use Rattle.std.specs.Prelude.{ℕ, ◌<◌, ◌+◌, ◌^◌, get_or, IsOk
 ghost use Rattle.wire.specs.Endpoints.{first_address, places};
 ghost use Rattle.face.specs.Limits.{offers_of};
 ghost use Rattle.wire.specs.Refusals.{verdict};
-ghost use Rattle.controls.specs.Controls.{item};
-ghost use Rattle.entries.specs.Entries.{taken, face_set_length, entry_tests, face_item, flags_kept, faces_kept, put_face, faces_taken};
+ghost use Rattle.controls.specs.Controls.{item_told};
+ghost use Rattle.entries.specs.Entries.{faces_told, face_set_length, entry_tests, face_item, flags_kept, faces_kept, put_face, faces_taken};
 
 use controls::Setting;
 use face::{FaceLimits, endpoints_of, offers_of, place_of};
@@ -45,7 +45,7 @@ fn check(offers: u8, seen: bool, flags: u64) -> Result<(), Refusal>
 // What the one entry of a snapshot's record comes to.
 #[tactic(auto, using(crate::proofs::Laws::Entries::first_refused, crate::proofs::Laws::Entries::first_given))]
 pub fn item(l: FaceLimits, payload: &[u8]) -> Result<Setting, Refusal>
-    ensures { item result ≡ face_item l payload.now 0 }
+    ensures { item_told result ≡ face_item l payload.now 0 }
 {
     let address = wire::byte(payload, 1);
     let flags = wire::flag_word(payload, 2);
@@ -85,7 +85,7 @@ pub fn take(
     held: [u8; endpoints::PLACES],
     payload: &[u8],
 ) -> Result<[u8; endpoints::PLACES], Refusal>
-    ensures { taken held result ≡ faces_taken l held payload.now }
+    ensures { faces_told held result ≡ faces_taken l held payload.now }
 {
     let mut seen = [false; endpoints::LIMIT];
     let mut next = held;

@@ -6,7 +6,7 @@
 
 ghost use Rattle.std.specs.Prelude.{◌≡◌};
 ghost use Rattle.wire.specs.Refusals.{verdict};
-ghost use Rattle.controls.specs.Controls.{item};
+ghost use Rattle.controls.specs.Controls.{item_told};
 ghost use Rattle.request.specs.Answers.{packed};
 ghost use Rattle.exposure.specs.Exposure.{ev_valid, divisor, in_range, ev_refusal, ev_item, ev_bytes, ev_attribute, ev_answer, scaled};
 ghost use Rattle.exposure.specs.Exposure.{sensor_value};
@@ -71,7 +71,7 @@ pub fn check(l: EvLimits, flags: u64, value: i32) -> Result<(), Refusal>
 // What a SET's payload comes to.
 #[tactic(auto, using(crate::proofs::Laws::Item::refused, crate::proofs::Laws::Item::given, crate::proofs::Laws::Item::fits))]
 pub fn item(l: EvLimits, payload: &[u8]) -> Result<Setting, Refusal>
-    ensures { item result ≡ ev_item l payload.now }
+    ensures { item_told result ≡ ev_item l payload.now }
 {
     let flags = wire::flag_word(payload, 0);
     let value = wire::signed32(wire::le32(payload, 7));

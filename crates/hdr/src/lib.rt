@@ -4,7 +4,7 @@
 
 ghost use Rattle.std.specs.Prelude.{◌≡◌};
 ghost use Rattle.wire.specs.Refusals.{verdict};
-ghost use Rattle.controls.specs.Controls.{item};
+ghost use Rattle.controls.specs.Controls.{item_told};
 ghost use Rattle.request.specs.Answers.{packed};
 ghost use Rattle.hdr.specs.Hdr.{hdr_refusal, hdr_item, hdr_attribute, hdr_answer};
 
@@ -34,7 +34,7 @@ pub fn check(l: HdrLimits, n: u32) -> Result<(), Refusal>
 // What a SET's payload comes to.
 #[tactic(auto, unfolding(crate::specs::Hdr::hdr_item))]
 pub fn item(l: HdrLimits, payload: &[u8]) -> Result<Setting, Refusal>
-    ensures { item result ≡ hdr_item l payload.now }
+    ensures { item_told result ≡ hdr_item l payload.now }
 {
     let n = wire::le32(payload, 0);
     item_of(check(l, n), Setting::Hdr(n))

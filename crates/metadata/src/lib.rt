@@ -4,7 +4,7 @@
 
 ghost use Rattle.std.specs.Prelude.{◌≡◌};
 ghost use Rattle.wire.specs.Refusals.{verdict};
-ghost use Rattle.controls.specs.Controls.{item};
+ghost use Rattle.controls.specs.Controls.{item_told};
 ghost use Rattle.request.specs.Answers.{packed};
 ghost use Rattle.metadata.specs.Metadata.{metadata_valid, metadata_refusal, metadata_item, metadata_attribute, metadata_info};
 ghost use Rattle.metadata.specs.Metadata.{metadata_answer};
@@ -42,7 +42,7 @@ pub fn check(l: MetadataLimits, n: u32) -> Result<(), Refusal>
 // What a SET's payload comes to.
 #[tactic(auto, unfolding(crate::specs::Metadata::metadata_item))]
 pub fn item(l: MetadataLimits, payload: &[u8]) -> Result<Setting, Refusal>
-    ensures { item result ≡ metadata_item l payload.now }
+    ensures { item_told result ≡ metadata_item l payload.now }
 {
     let n = wire::le32(payload, 0);
     item_of(check(l, n), Setting::Metadata(n))

@@ -1,7 +1,7 @@
 // Requests to the unit: document 01's nine tests, then a SET or a GET.
 ghost use Rattle.std.specs.Prelude.{◌≡◌, length};
 ghost use Rattle.wire.specs.Refusals.{verdict};
-ghost use Rattle.request.specs.{Setup.{setup_w_length}, Reply.{sent, sent_of, reply_of}, Tests.{admission, asked}};
+ghost use Rattle.request.specs.{Setup.{setup_w_length}, Reply.{sent_told, sent_of, reply_of}, Tests.{admission, asked}};
 ghost use Rattle.peripheral.specs.{Outcomes.{of_change, of_request}, Requests.{table, requested, requested_reply}, Steps.{set_done}};
 
 use crate::record::Peripheral;
@@ -39,7 +39,7 @@ impl Peripheral {
     // Test 9 of a GET, then as much of its answer as wLength asks for; how much that is.
     #[tactic(auto, using(crate::proofs::Laws::Answers::answer_rules))]
     fn get(self, setup: &[u8], reply: &mut [u8]) -> Result<usize, Refusal>
-        ensures value { sent result ≡ sent_of (asked (table self) setup.now) (setup_w_length setup.now) (length reply.old) }
+        ensures value { sent_told result ≡ sent_of (asked (table self) setup.now) (setup_w_length setup.now) (length reply.old) }
         ensures reply_after { reply.new
             ≡ reply_of (asked (table self) setup.now) (setup_w_length setup.now) reply.old }
     {

@@ -7,7 +7,7 @@
 ghost use mathlib.Core.{Path.{◌≡◌}, Bool.{cond}};
 ghost use Rattle.std.specs.Prelude.{◌≤◌};
 ghost use Rattle.wire.specs.Refusals.{verdict};
-ghost use Rattle.controls.specs.Controls.{item};
+ghost use Rattle.controls.specs.Controls.{item_told};
 ghost use Rattle.request.specs.Table.{has_control};
 ghost use Rattle.profile.specs.Items.{profile_item};
 ghost use Rattle.profile.specs.Profile.{has, presence_valid, profile_valid, is_settable, profile_refusal, set_length, extension_unit};
@@ -155,7 +155,7 @@ impl Profile {
     // The first item of a SET's payload, and the only one but of face authentication.
     #[tactic(auto, unfolding(crate::specs::Items::profile_item))]
     pub fn item(self, selector: u8, payload: &[u8]) -> Result<Setting, Refusal>
-        ensures { item result ≡ profile_item self selector payload.now 0 }
+        ensures { item_told result ≡ profile_item self selector payload.now 0 }
     {
         match selector {
             selectors::EV => exposure::item(self.ev, payload),

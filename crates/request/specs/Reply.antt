@@ -10,9 +10,9 @@ pub record Sent : Type 0 where
   pub count : ℕ
 
 -- what the code's result reports
-abbrev pub sent : Result ℕ Refusal → Sent
-sent (Ok n) = record { code = 0; count = n }
-sent (Err e) = record { code = code_of e; count = 0 }
+abbrev pub sent_told : Result ℕ Refusal → Sent
+sent_told (Ok n) = record { code = 0; count = n }
+sent_told (Err e) = record { code = code_of e; count = 0 }
 
 -- how many bytes are sent
 abbrev pub sent_length : List ℕ → ℕ → ℕ

@@ -34,9 +34,9 @@ pub record SetTaken : Type 0 where
   pub settings : Settings
 
 -- what the code's result comes to, where h are the settings that came in
-abbrev pub taken : Settings → Result Settings Refusal → SetTaken
-taken h (Ok s) = record { code = 0; settings = s }
-taken h (Err e) = record { code = code_of e; settings = h }
+abbrev pub set_told : Settings → Result Settings Refusal → SetTaken
+set_told h (Ok s) = record { code = 0; settings = s }
+set_told h (Err e) = record { code = code_of e; settings = h }
 
 -- a SET's number, and the settings with all of it or as they were
 unfoldable pub set_taken : Profile → Settings → ℕ → List ℕ → SetTaken

@@ -9,8 +9,8 @@ use wire::endpoints;
 impl Settings {
     // The setting held of a key, or none.
     #[tactic(auto, unfolding(crate::specs::Held::settings_held))]
-    pub fn held(self, key: usize) -> Option<Setting>
-        ensures { result ≡ held_setting (settings_held self key) }
+    pub fn held(&self, key: usize) -> Option<Setting>
+        ensures { result ≡ held_setting (settings_held self.now key) }
     {
         match key {
             snapshot::EV_KEY => Some(Setting::Ev(self.ev?)),

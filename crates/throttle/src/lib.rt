@@ -4,7 +4,7 @@
 
 ghost use Rattle.std.specs.Prelude.{◌≡◌};
 ghost use Rattle.wire.specs.Refusals.{verdict};
-ghost use Rattle.controls.specs.Controls.{item};
+ghost use Rattle.controls.specs.Controls.{item_told};
 ghost use Rattle.request.specs.Answers.{packed};
 ghost use Rattle.throttle.specs.Throttle.{throttle_valid, throttle_refusal, throttle_item, throttle_attribute, throttle_bytes};
 ghost use Rattle.throttle.specs.Throttle.{throttle_answer};
@@ -48,7 +48,7 @@ pub fn check(l: ThrottleLimits, s: ThrottleSetting) -> Result<(), Refusal>
 // What a SET's payload comes to.
 #[tactic(auto, unfolding(crate::specs::Throttle::throttle_item))]
 pub fn item(l: ThrottleLimits, payload: &[u8]) -> Result<Setting, Refusal>
-    ensures { item result ≡ throttle_item l payload.now }
+    ensures { item_told result ≡ throttle_item l payload.now }
 {
     let s = ThrottleSetting {
         mode: wire::le32(payload, 0),
@@ -81,9 +81,9 @@ fn attribute(l: ThrottleLimits, held: Option<ThrottleSetting>, code: u8) -> Thro
     }
 }
 
-// A setting with three numbers behind it: the limits in an answer, zeros in a snapshot.
+// The payload of a setting, with three numbers behind it: the limits in an answer, zeros in a snapshot.
 #[tactic(auto, using(crate::proofs::Laws::Throttle::throttle_written))]
-fn bytes(s: ThrottleSetting, tail: ThrottleLimits) -> [u8; 20]
+pub fn bytes(s: ThrottleSetting, tail: ThrottleLimits) -> [u8; 20]
     ensures { result ≡ throttle_bytes s tail }
 {
     let mut b = [0u8; 20];

@@ -12,7 +12,7 @@ pub(crate) fn hex(n: u64, digits: usize) {
 // Document 01's number, with which an answer begins.
 pub(crate) fn code(n: u8) {
     text(b" =");
-    hex(n as u64, 2);
+    hex(u64::from(n), 2);
 }
 
 pub(crate) fn count(n: usize) {
@@ -38,7 +38,7 @@ pub(crate) fn signed(value: i32) {
 
 // The bytes of a lent buffer.
 pub(crate) fn bytes(s: &[u8]) {
-    if s.len() != 0 {
+    if !s.is_empty() {
         text(b" ");
         printing::bytes(s, b"", Case::Lower);
     }
@@ -46,9 +46,9 @@ pub(crate) fn bytes(s: &[u8]) {
 
 // A part that is handed back, `-` for no bytes.
 pub(crate) fn part(s: &[u8]) {
-    if s.len() == 0 {
+    if s.is_empty() {
         text(b" -");
-        return;
+    } else {
+        bytes(s);
     }
-    bytes(s);
 }

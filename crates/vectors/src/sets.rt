@@ -1,8 +1,8 @@
 // Calls on descriptor sets.
 use crate::print;
 use crate::words::{Bytes, place, word};
-use descriptors::{Fault, RegistryProperty};
-use wire::{Numbered, Part};
+use descriptors::RegistryProperty;
+use wire::Part;
 
 fn interface(first: Option<u8>) {
     match first {
@@ -10,20 +10,6 @@ fn interface(first: Option<u8>) {
             printing::text(b" -");
         }
         Some(n) => print::count(usize::from(n)),
-    }
-}
-
-// The number and the offset of a fault, or those of what is sound.
-fn fault(found: Option<Fault>, offset: usize) {
-    match found {
-        None => {
-            print::code(0);
-            print::count(offset);
-        }
-        Some(fault) => {
-            print::code(fault.refusal.code());
-            print::count(fault.offset);
-        }
     }
 }
 
@@ -38,7 +24,8 @@ fn entry(set: &[u8], k: usize) -> bool {
         value: nowhere,
         interface: None,
     });
-    fault(read.err(), property.offset);
+    print::code(wire::status(read));
+    print::count(read.err().map_or(property.offset, |fault| fault.offset));
     print::count(property.kind);
     interface(property.interface);
     print::part(wire::part_at(set, property.name));
@@ -63,7 +50,9 @@ fn properties(set: &[u8]) {
 
 // The refusal, its offset and what the boot code gets; then each property and the first that is not there.
 fn check(set: &[u8]) {
-    fault(descriptors::check(set).err(), 0);
+    let checked = descriptors::check(set);
+    print::code(wire::status(checked));
+    print::count(checked.err().map_or(0, |fault| fault.offset));
     print::hex(u64::from(descriptors::flandurvi_descriptors_check(set)), 2);
     properties(set);
 }

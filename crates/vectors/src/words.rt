@@ -41,8 +41,13 @@ fn digit(c: u8) -> u8
 pub(crate) fn octet(s: &[u8], i: usize) -> u8 {
     match s.chunks_exact(2).nth(i) {
         None => 0,
-        Some(pair) => 16 * digit(pair[0]) + digit(pair[1]),
+        Some(pair) => octet_of(pair[0], pair[1]),
     }
+}
+
+// The byte of two digits.
+fn octet_of(high: u8, low: u8) -> u8 {
+    16 * digit(high) + digit(low)
 }
 
 // The number of the four bytes from i on.
@@ -73,7 +78,7 @@ impl<const N: usize> Bytes<N> {
     pub(crate) fn of(word: &[u8]) -> Bytes<N> {
         let mut places = [0; N];
         for (place, pair) in places.iter_mut().zip(word.chunks_exact(2)) {
-            *place = 16 * digit(pair[0]) + digit(pair[1]);
+            *place = octet_of(pair[0], pair[1]);
         }
         let len = N.min(word.len() / 2);
         Bytes { places, len }

@@ -7,7 +7,7 @@ use lib.{Dec.{eqb}, ListN.{length}}
 use borrow.Author.Tests.{eq-eqb, ne_eqb, eqb-true}
 use Rattle.wire.specs.{Rows.{◌⇒◌, answers, first_of}, Uvc.{set_cur, invalid_control, invalid_request}}
 use Rattle.request.specs.Setup.{setup_selector, setup_code, setup_w_length, is_set_request}
-use Rattle.request.specs.{Tests.{request_tests, asked, table_refusal}, Reply.{Sent, sent, sent_of, reply_of}}
+use Rattle.request.specs.{Tests.{request_tests, asked, table_refusal}, Reply.{Sent, sent_told, sent_of, reply_of}}
 use Rattle.request.specs.{declared.tests.{Unit.{Unit}, Control.{Control}}, Table.{table_of}}
 use Rattle.request.proofs.Laws.Requests as requests
 use Rattle.profile.specs.Profile.{has, is_settable, profile_refusal, extension_unit, profile_control}
@@ -159,15 +159,15 @@ module _ (c : Camera) (s payload reply : List ℕ) where
           unfolding requested request_done
           a_get = requests.a_get outcome_of (table c) c after s payload reply (record_good c good) passed (sym state_told ∙ y) g
 
-          pub get_refused : {r : Result ℕ Refusal} {e : Refusal} → sent r ≡ gives → r ≡ Err e
+          pub get_refused : {r : Result ℕ Refusal} {e : Refusal} → sent_told r ≡ gives → r ≡ Err e
               → refused (code_of e) c ≡ requested c s payload (length reply)
-          get_refused told is = ap (λ (r : Result ℕ Refusal). outcome_of (sent r).code (sent r).count c) (sym is)
+          get_refused told is = ap (λ (r : Result ℕ Refusal). outcome_of (sent_told r).code (sent_told r).count c) (sym is)
               ∙ ap (λ (n : Sent). outcome_of n.code n.count c) told
               ∙ a_get.0
 
-          pub get_sent : {r : Result ℕ Refusal} {count : ℕ} → sent r ≡ gives → r ≡ Ok count
+          pub get_sent : {r : Result ℕ Refusal} {count : ℕ} → sent_told r ≡ gives → r ≡ Ok count
               → outcome_of 0 count c ≡ requested c s payload (length reply)
-          get_sent told is = ap (λ (r : Result ℕ Refusal). outcome_of (sent r).code (sent r).count c) (sym is)
+          get_sent told is = ap (λ (r : Result ℕ Refusal). outcome_of (sent_told r).code (sent_told r).count c) (sym is)
               ∙ ap (λ (n : Sent). outcome_of n.code n.count c) told
               ∙ a_get.0
 

@@ -36,12 +36,6 @@ framed_laid kind payload h k =
     ∙ take_at (head ++ payload) (drop (4 + length payload) d) n e
     ∙ ap₂ (λ (a b : List ℕ). a ++ b ++ payload) (sym (bytes_byte 1 n (omega arith))) (sym (bytes_byte 1 kind h))
 
--- the throttle's payload
-pub throttle_laid : (s : ThrottleSetting)
-    → overlay (overlay (replicate 20 0) 0 (bytes_of 4 s.mode)) 4 (bytes_of 4 s.percent) ≡ throttle_bytes s no_limits
-unfolding overlay bytes_of throttle_bytes
-throttle_laid s = refl
-
 pub face_record : (address flags : ℕ) → flags < 256
     → framed selector.face (1 ∷ address ∷ flags ∷ 0 ∷ 0 ∷ 0 ∷ 0 ∷ 0 ∷ 0 ∷ []) ≡ record_of (S.Face address flags)
 unfolding record_of

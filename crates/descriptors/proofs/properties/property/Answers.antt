@@ -10,10 +10,10 @@ returns-then-not-good_header c = bad_header _ _ (sym c.good_header.ensures ∙ c
 pub loop-c-init : goal.loop-c-init
 loop-c-init c = begins _ _ _ c.start-c.ensures (sym c.good_header.ensures ∙ c.if-not-good_header.false)
 
-pub returns-in_err-c : goal.returns-in_err-c
-returns-in_err-c c =
+pub returns-in_err-next : goal.returns-in_err-next
+returns-in_err-next c =
     let p = err_from_is_err_and c.from_residual.result c.from_residual.ensures.1 in
-    ap property_told (p.1 ∙ ap Err p.2) ∙ refused_there _ _ _ c.in_err-c.ensures
+    ap property_told (p.1 ∙ ap Err p.2) ∙ refused_there _ _ _ c.in_err-next.ensures
 
 pub returns-in_default : goal.returns-in_default
 returns-in_default c = none_such _ _ _ c.loop-c.invariant c.loop-c-test.false c.in_default.is
