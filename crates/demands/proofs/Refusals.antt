@@ -1,9 +1,13 @@
 -- The owner's demand 1 on the calls that take the record, all at once. Assumes nothing.
-use mathlib.Core.{Path.{◌≡◌, refl, ap}, List.{List}, Bool.{Bool, true, false, cond}}
+use mathlib.Core.{Path.{◌≡◌, refl, ap, sym, ◌∙◌}, List.{List}, Bool.{Bool, true, false, cond}}
 use Prim.Native.Nat.{ℕ}
-use lib.{IntN.{pos}, ListN.{length}}
+use lib.{Dec.{eqb}, IntN.{pos}, ListN.{length}}
 use borrow.Author.Tests.{ne_eqb}
-use Rattle.wire.specs.Uvc.{malformed_record}
+use Rattle.wire.specs.{Uvc.{malformed_record}, declared.refusal.Refusal.{Refusal}, Refusals.{code_of}}
+use Rattle.wire.specs.declared.refusal.Refusal.TheVariants as R
+use Rattle.batch.specs.declared.refusal.Refusal as Batch
+use Rattle.batch.specs.declared.refusal.Refusal.TheVariants as B
+use Rattle.batch.specs.Refusals as batch-refusals
 use Rattle.request.specs.Setup.{setup_selector}
 use Rattle.request.proofs.Laws.Tests.{at_unformed}
 use Rattle.request.proofs.Laws.Requests as laws
@@ -18,7 +22,7 @@ use Rattle.camera.specs.{Loading.{load_code, load_code_under, loaded_under}, Wri
 use Rattle.camera.specs.Calls.{record_code, streamed, sensed}
 use Rattle.batch.specs.Batch.{batch_code, batched, batched_out}
 use Rattle.demands.specs.Calls.{Call, request, stream, load, write, sense, batch, outcome}
-use Rattle.demands.specs.Refusals.{Unchanged}
+use Rattle.demands.specs.Refusals.{Unchanged, ToldApart}
 
 -- a call by its number: where that is not 0, it is refused
 pub by_number : (code : ℕ) (c : Camera) (done : Outcome) → done.code ≡ 0 → ((outcome_by code c done).code ≡ 0 → ⊥)
@@ -82,3 +86,45 @@ malformed_refused c w (load s) = rw w
 malformed_refused c w (write out) = rw w
 malformed_refused c w sense = rw w
 malformed_refused c w (batch packed out) = rw w
+
+-- the refusal of a number
+refusal_of : ℕ → Refusal
+refusal_of n =
+    cond (eqb n 0x02) R.WrongState
+    (cond (eqb n 0x04) R.OutOfRange
+    (cond (eqb n 0x05) R.InvalidUnit
+    (cond (eqb n 0x06) R.InvalidControl
+    (cond (eqb n 0x07) R.InvalidRequest
+    (cond (eqb n 0x08) R.InvalidValue
+    (cond (eqb n 0x20) R.NoRoom
+    (cond (eqb n 0x21) R.MalformedRecord
+    (cond (eqb n 0x22) R.MalformedSnapshot
+    R.Unknown))))))))
+
+read_back : (e : Refusal) → refusal_of (code_of e) ≡ e
+unfolding refusal_of
+read_back R.WrongState = refl
+read_back R.OutOfRange = refl
+read_back R.InvalidUnit = refl
+read_back R.InvalidControl = refl
+read_back R.InvalidRequest = refl
+read_back R.InvalidValue = refl
+read_back R.NoRoom = refl
+read_back R.MalformedRecord = refl
+read_back R.MalformedSnapshot = refl
+read_back R.Unknown = refl
+
+batch_refusal_of : ℕ → Batch.Refusal
+batch_refusal_of n = cond (eqb n 0x20) B.NoRoom (cond (eqb n 0x21) B.MalformedRecord B.Cut)
+
+batch_read_back : (e : Batch.Refusal) → batch_refusal_of (batch-refusals.code_of e) ≡ e
+unfolding batch_refusal_of
+batch_read_back B.NoRoom = refl
+batch_read_back B.MalformedRecord = refl
+batch_read_back B.Cut = refl
+
+pub told_apart : ToldApart
+told_apart = record {
+  calls = λ a b h. sym (read_back a) ∙ ap refusal_of h ∙ read_back b;
+  batches = λ a b h. sym (batch_read_back a) ∙ ap batch_refusal_of h ∙ batch_read_back b;
+}
