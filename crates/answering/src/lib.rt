@@ -17,11 +17,11 @@ pub fn answer(p: Profile, s: Settings, selector: u8, code: u8) -> Answer
     ensures { result ≡ packed (control_answer p s selector code) }
 {
     match selector {
-        selectors::EV => exposure::answer(p.ev, s.ev, code),
+        selectors::EV => p.ev.answer(s.ev, code),
         selectors::FACE => face::answer(p.face, s.face, code),
-        selectors::METADATA => metadata::answer(p.metadata, s.metadata, code),
-        selectors::HDR => hdr::answer(p.hdr, s.hdr, code),
-        _ => throttle::answer(p.throttle, s.throttle, code),
+        selectors::METADATA => p.metadata.answer(s.metadata, code),
+        selectors::HDR => p.hdr.answer(s.hdr, code),
+        _ => p.throttle.answer(s.throttle, code),
     }
 }
 

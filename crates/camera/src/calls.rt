@@ -35,6 +35,7 @@ impl Camera {
     pub fn sensor(self) -> Result<i32, Refusal>
         ensures { of_sensing self result ≡ sensed self }
     {
-        self.check().map(|()| exposure::sensor_value(self.profile.ev, self.settings.ev))
+        self.check()
+            .map(|()| self.profile.ev.sensor_value(self.settings.ev))
     }
 }

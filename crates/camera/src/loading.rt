@@ -8,7 +8,7 @@ ghost use Rattle.camera.specs.{Outcomes.{of_change}, Loading.{selector_at, recor
 use crate::record::Camera;
 use controls::Setting;
 use settings::Settings;
-use wire::{Part, Refusal, endpoints, selectors};
+use wire::{Refusal, endpoints, selectors};
 
 fn selector_at(key: usize) -> u8
     ensures { result ≡ selector_at key }
@@ -48,12 +48,8 @@ impl Camera {
         ensures { of_change self result ≡ load_done self s.now }
     {
         let mut settings = self.settings;
-        let mut at = 0;
-        while let Some(key) = snapshot::key_at(s, at) {
-            let len = snapshot::record_length(key);
-            let record = wire::part_at(s, Part { at, len });
+        for (key, record) in snapshot::records_in(s) {
             settings = self.take_record(settings, key, record)?;
-            at += len;
         }
         Ok(Camera { settings, ..self })
     }

@@ -4,9 +4,10 @@
 // camera: each function goes by its control's limits, the setting held and the payload.
 #![tactic(auto)]
 
-ghost use Rattle.std.specs.Prelude.{◌≡◌};
+ghost use Rattle.std.specs.Prelude.{◌≡◌, ℕ, List};
 ghost use Rattle.wire.specs.Refusals.{verdict};
-ghost use Rattle.controls.specs.Controls.{item_told, item_of};
+ghost use Rattle.controls.specs.Controls.{Item, item_told, item_of};
+ghost use Rattle.controls.specs.declared.Setting.{Setting};
 
 use wire::Refusal;
 
@@ -33,11 +34,40 @@ pub enum Setting {
     Throttle(ThrottleSetting),
 }
 
-// What an item of a SET comes to by its value tests: the setting, or the refusal.
-#[tactic(auto, using(wire::proofs::Laws::Refusals::refused), unfolding(crate::specs::Controls::item_of))]
-pub fn item_of(tested: Result<(), Refusal>, s: Setting) -> Result<Setting, Refusal>
-    ensures { item_told result ≡ item_of (verdict tested) s }
-{
-    tested?;
-    Ok(s)
+// The limits of a control, by which SETs of it are tested.
+pub trait Limits: Copy {
+    type Value: Copy;
+
+    ghost refusal: { Self → Self.Value → ℕ };
+
+    // SET's value tests, and those of a setting held.
+    fn check(self, value: Self::Value) -> Result<(), Refusal>
+        ensures { verdict result ≡ refusal self value };
+}
+
+// Limits of a control whose payload has one value, which any setting of it can hold.
+pub trait OneValue: Limits {
+    ghost value_of: { List ℕ → Self.Value };
+
+    ghost setting_of: { Self.Value → Setting };
+
+    ghost comes_to: { Self → List ℕ → Item };
+
+    fn value(payload: &[u8]) -> Self::Value
+        ensures { result ≡ value_of payload.now };
+
+    fn setting(value: Self::Value) -> Setting
+        ensures { result ≡ setting_of value };
+
+    ghost is_tested: { (l : Self) (b : List ℕ) → item_of (Self.refusal l (value_of b)) (setting_of (value_of b)) ≡ comes_to l b };
+
+    // What a SET's payload comes to.
+    #[tactic(auto, using(wire::proofs::Laws::Refusals::refused), unfolding(crate::specs::Controls::item_of))]
+    final fn item(self, payload: &[u8]) -> Result<Setting, Refusal>
+        ensures { item_told result ≡ comes_to self payload.now }
+    {
+        let value = Self::value(payload);
+        self.check(value)?;
+        Ok(Self::setting(value))
+    }
 }

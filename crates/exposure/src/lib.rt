@@ -11,7 +11,7 @@ ghost use Rattle.request.specs.Answers.{packed};
 ghost use Rattle.exposure.specs.Exposure.{ev_valid, divisor, in_range, ev_refusal, ev_item, ev_bytes, ev_attribute, ev_answer, scaled};
 ghost use Rattle.exposure.specs.Exposure.{sensor_value};
 
-use controls::{EvSetting, Setting};
+use controls::{EvSetting, Limits, Setting};
 use request::{Answer, answer_by};
 use wire::{Refusal, uvc};
 
@@ -26,12 +26,6 @@ pub struct EvLimits {
     pub steps: u8,
 }
 
-pub fn valid(l: EvLimits) -> bool
-    ensures { result ≡ ev_valid l }
-{
-    (-128..=0).contains(&l.minimum) && (0..=127).contains(&l.maximum) && (16..32).contains(&l.steps)
-}
-
 // Steps to a stop, by the place of the step's flag.
 fn divisor(place: u8) -> u8
     ensures { result ≡ divisor place }
@@ -43,43 +37,6 @@ fn divisor(place: u8) -> u8
         3 => 2,
         _ => 1,
     }
-}
-
-// Whether the value lies between the limits, in steps of which d make a stop.
-fn in_range(l: EvLimits, d: u8, value: i32) -> bool
-    ensures { result ≡ in_range l d value }
-{
-    let d = i64::from(d);
-    (i64::from(l.minimum) * d..=i64::from(l.maximum) * d).contains(&i64::from(value))
-}
-
-// SET's value tests on the flags and the value, and those of a setting held.
-#[tactic(auto, unfolding(crate::specs::Exposure::ev_refusal, crate::specs::Exposure::refusal_at))]
-pub fn check(l: EvLimits, flags: u64, value: i32) -> Result<(), Refusal>
-    ensures { verdict result ≡ ev_refusal l flags value }
-{
-    let Some(place) = flags::one_flag(flags, l.steps) else {
-        return Err(Refusal::InvalidValue);
-    };
-    if in_range(l, divisor(place), value) {
-        Ok(())
-    } else {
-        Err(Refusal::OutOfRange)
-    }
-}
-
-// What a SET's payload comes to.
-#[tactic(auto, using(crate::proofs::Laws::Item::refused, crate::proofs::Laws::Item::given, crate::proofs::Laws::Item::fits))]
-pub fn item(l: EvLimits, payload: &[u8]) -> Result<Setting, Refusal>
-    ensures { item_told result ≡ ev_item l payload.now }
-{
-    let flags = wire::flag_word(payload, 0);
-    let value = wire::signed32(wire::le32(payload, 7));
-    check(l, flags, value)?;
-    Ok(Setting::Ev(EvSetting {
-        flags: flags as u8,
-        value,
-    }))
 }
 
 // The payload of a setting.
@@ -97,63 +54,120 @@ const DEFAULT: EvSetting = EvSetting {
     value: 0,
 };
 
-// The flags and the value that a GET asks for.
-#[tactic(auto, unfolding(crate::specs::Exposure::ev_attribute, crate::specs::Exposure::ev_current))]
-fn attribute(l: EvLimits, held: Option<EvSetting>, code: u8) -> EvSetting
-    ensures { result ≡ ev_attribute l held code }
-{
-    match code {
-        uvc::GET_MIN => EvSetting {
-            value: l.minimum,
-            ..DEFAULT
-        },
-        uvc::GET_MAX => EvSetting {
-            value: l.maximum,
-            ..DEFAULT
-        },
-        uvc::GET_RES => EvSetting {
-            flags: l.steps,
-            value: 0,
-        },
-        uvc::GET_CUR => held.unwrap_or(DEFAULT),
-        _ => DEFAULT,
+impl Limits for EvLimits {
+    type Value = EvSetting;
+
+    ghost refusal = { λ l s. ev_refusal l s.flags s.value };
+
+    fn check(self, s: EvSetting) -> Result<(), Refusal> {
+        self.check_flags(u64::from(s.flags), s.value)
     }
 }
 
-#[tactic(auto, unfolding(crate::specs::Exposure::ev_answer))]
-pub fn answer(l: EvLimits, held: Option<EvSetting>, code: u8) -> Answer
-    ensures { result ≡ packed (ev_answer l held code) }
-{
-    let b = bytes(attribute(l, held, code));
-    answer_by(code, 11, 0x13, &b)
-}
-
-// A setting in the sensor's units, exactly.
-#[tactic(auto, unfolding(crate::specs::Exposure::scaled, crate::specs::Exposure::scaled_at))]
-fn scaled(l: EvLimits, s: EvSetting) -> i32
-    ensures { result ≡ scaled l s }
-{
-    if !valid(l) {
-        return 0;
+impl EvLimits {
+    pub fn valid(self) -> bool
+        ensures { result ≡ ev_valid self }
+    {
+        (-128..=0).contains(&self.minimum)
+            && (0..=127).contains(&self.maximum)
+            && (16..32).contains(&self.steps)
     }
-    let Some(place) = flags::one_flag(u64::from(s.flags), l.steps) else {
-        return 0;
-    };
-    let d = divisor(place);
-    if in_range(l, d, s.value) {
-        s.value * (UNITS_PER_STOP / i32::from(d))
-    } else {
-        0
-    }
-}
 
-// What the sensor is handed, in its units: 0 where no setting that SET accepts is held.
-#[tactic(auto, unfolding(crate::specs::Exposure::sensor_value))]
-pub fn sensor_value(l: EvLimits, held: Option<EvSetting>) -> i32
-    ensures { result ≡ sensor_value l held }
-{
-    match held {
-        None => 0,
-        Some(s) => scaled(l, s),
+    // Whether the value lies between the limits, in steps of which d make a stop.
+    fn in_range(self, d: u8, value: i32) -> bool
+        ensures { result ≡ in_range self d value }
+    {
+        let d = i64::from(d);
+        (i64::from(self.minimum) * d..=i64::from(self.maximum) * d).contains(&i64::from(value))
+    }
+
+    // SET's value tests on the flags and the value.
+    #[tactic(auto, unfolding(crate::specs::Exposure::ev_refusal, crate::specs::Exposure::refusal_at))]
+    pub fn check_flags(self, flags: u64, value: i32) -> Result<(), Refusal>
+        ensures { verdict result ≡ ev_refusal self flags value }
+    {
+        let Some(place) = flags::one_flag(flags, self.steps) else {
+            return Err(Refusal::InvalidValue);
+        };
+        if self.in_range(divisor(place), value) {
+            Ok(())
+        } else {
+            Err(Refusal::OutOfRange)
+        }
+    }
+
+    // What a SET's payload comes to.
+    #[tactic(auto, using(crate::proofs::Laws::Item::refused, crate::proofs::Laws::Item::given, crate::proofs::Laws::Item::fits))]
+    pub fn item(self, payload: &[u8]) -> Result<Setting, Refusal>
+        ensures { item_told result ≡ ev_item self payload.now }
+    {
+        let flags = wire::flag_word(payload, 0);
+        let value = wire::signed32(wire::le32(payload, 7));
+        self.check_flags(flags, value)?;
+        Ok(Setting::Ev(EvSetting {
+            flags: flags as u8,
+            value,
+        }))
+    }
+
+    // The flags and the value that a GET asks for.
+    #[tactic(auto, unfolding(crate::specs::Exposure::ev_attribute, crate::specs::Exposure::ev_current))]
+    fn attribute(self, held: Option<EvSetting>, code: u8) -> EvSetting
+        ensures { result ≡ ev_attribute self held code }
+    {
+        match code {
+            uvc::GET_MIN => EvSetting {
+                value: self.minimum,
+                ..DEFAULT
+            },
+            uvc::GET_MAX => EvSetting {
+                value: self.maximum,
+                ..DEFAULT
+            },
+            uvc::GET_RES => EvSetting {
+                flags: self.steps,
+                value: 0,
+            },
+            uvc::GET_CUR => held.unwrap_or(DEFAULT),
+            _ => DEFAULT,
+        }
+    }
+
+    #[tactic(auto, unfolding(crate::specs::Exposure::ev_answer))]
+    pub fn answer(self, held: Option<EvSetting>, code: u8) -> Answer
+        ensures { result ≡ packed (ev_answer self held code) }
+    {
+        let b = bytes(self.attribute(held, code));
+        answer_by(code, 11, 0x13, &b)
+    }
+
+    // A setting in the sensor's units, exactly.
+    #[tactic(auto, unfolding(crate::specs::Exposure::scaled, crate::specs::Exposure::scaled_at))]
+    fn scaled(self, s: EvSetting) -> i32
+        ensures { result ≡ scaled self s }
+    {
+        if !self.valid() {
+            return 0;
+        }
+        let Some(place) = flags::one_flag(u64::from(s.flags), self.steps) else {
+            return 0;
+        };
+        let d = divisor(place);
+        if self.in_range(d, s.value) {
+            s.value * (UNITS_PER_STOP / i32::from(d))
+        } else {
+            0
+        }
+    }
+
+    // What the sensor is handed, in its units: 0 where no setting that SET accepts is held.
+    #[tactic(auto, unfolding(crate::specs::Exposure::sensor_value))]
+    pub fn sensor_value(self, held: Option<EvSetting>) -> i32
+        ensures { result ≡ sensor_value self held }
+    {
+        match held {
+            None => 0,
+            Some(s) => self.scaled(s),
+        }
     }
 }

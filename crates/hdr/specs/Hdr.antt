@@ -1,7 +1,7 @@
 -- Document 01, "HDR": four bytes, 0 off, 1 on, 2 auto.
 use Rattle.std.specs.Prelude.{ℕ}
 use mathlib.Core.{List.{List, [], ◌∷◌}, Bool.{cond, not, ◌&&◌}}
-use Rattle.std.specs.Prelude.{ltb, eqb}
+use Rattle.std.specs.Prelude.{◌≡◌, refl, ltb, eqb}
 use Rattle.wire.specs.{Numbers.{le_at, bytes_of}, Rows.{◌⇒◌, first_of}, Uvc.{get_cur, get_max, invalid_value, out_of_range}}
 use Rattle.controls.specs.{Controls.{HeldNumber, Item, item_of, number_or}}
 use Rattle.hdr.specs.declared.HdrLimits.{HdrLimits}
@@ -20,6 +20,10 @@ unfoldable pub hdr_item : HdrLimits → List ℕ → Item
 hdr_item l payload =
     let n = le_at 4 payload 0 in
     item_of (hdr_refusal l n) (S.Hdr n)
+
+pub hdr_tested : (l : HdrLimits) (b : List ℕ) → item_of (hdr_refusal l (le_at 4 b 0)) (S.Hdr (le_at 4 b 0)) ≡ hdr_item l b
+unfolding hdr_item
+hdr_tested l b = refl
 
 -- MAX is 1, or 3 with Auto; CUR the setting held; MIN, RES and DEF 0
 unfoldable pub hdr_attribute : HdrLimits → HeldNumber → ℕ → ℕ

@@ -1,7 +1,7 @@
 -- Document 01, "Metadata": four bytes, writable or read-only.
 use Rattle.std.specs.Prelude.{ℕ}
 use mathlib.Core.{List.{List, [], ◌∷◌}, Bool.{Bool, cond, not, ◌||◌}}
-use Rattle.std.specs.Prelude.{leb, ltb, eqb}
+use Rattle.std.specs.Prelude.{◌≡◌, refl, leb, ltb, eqb}
 use Rattle.wire.specs.{Numbers.{le_at, bytes_of}, Rows.{◌⇒◌, first_of}, Uvc.{get_cur, get_max, get_res, invalid_value, out_of_range}}
 use Rattle.metadata.specs.declared.MetadataLimits.{MetadataLimits}
 use Rattle.controls.specs.{Controls.{HeldNumber, Item, item_of, number_or}}
@@ -23,6 +23,11 @@ unfoldable pub metadata_item : MetadataLimits → List ℕ → Item
 metadata_item l payload =
     let n = le_at 4 payload 0 in
     item_of (metadata_refusal l n) (S.Metadata n)
+
+pub metadata_tested : (l : MetadataLimits) (b : List ℕ)
+    → item_of (metadata_refusal l (le_at 4 b 0)) (S.Metadata (le_at 4 b 0)) ≡ metadata_item l b
+unfolding metadata_item
+metadata_tested l b = refl
 
 -- writable: RES is MAX, CUR the setting held, MIN and DEF 0; read-only: RES is 0, and the others MAX
 unfoldable pub metadata_attribute : MetadataLimits → HeldNumber → ℕ → ℕ

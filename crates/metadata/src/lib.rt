@@ -3,13 +3,13 @@
 #![tactic(auto)]
 
 ghost use Rattle.std.specs.Prelude.{◌≡◌};
-ghost use Rattle.wire.specs.Refusals.{verdict};
-ghost use Rattle.controls.specs.Controls.{item_told};
+ghost use Rattle.wire.specs.Numbers.{le_at};
 ghost use Rattle.request.specs.Answers.{packed};
-ghost use Rattle.metadata.specs.Metadata.{metadata_valid, metadata_refusal, metadata_item, metadata_attribute, metadata_info};
-ghost use Rattle.metadata.specs.Metadata.{metadata_answer};
+ghost use Rattle.controls.specs.declared.Setting.TheVariants.{Metadata};
+ghost use Rattle.metadata.specs.Metadata.{metadata_valid, metadata_refusal, metadata_item, metadata_tested};
+ghost use Rattle.metadata.specs.Metadata.{metadata_attribute, metadata_info, metadata_answer};
 
-use controls::{Setting, item_of};
+use controls::{Limits, OneValue, Setting};
 use request::{Answer, answer_by};
 use wire::{Refusal, uvc};
 
@@ -19,61 +19,75 @@ pub struct MetadataLimits {
     pub writable: bool,
 }
 
-pub fn valid(l: MetadataLimits) -> bool
-    ensures { result ≡ metadata_valid l }
-{
-    1 <= l.maximum
-}
+impl Limits for MetadataLimits {
+    type Value = u32;
 
-// SET's value tests, and those of a setting held.
-#[tactic(auto, unfolding(crate::specs::Metadata::metadata_refusal))]
-pub fn check(l: MetadataLimits, n: u32) -> Result<(), Refusal>
-    ensures { verdict result ≡ metadata_refusal l n }
-{
-    if l.maximum < n {
-        return Err(Refusal::OutOfRange);
-    }
-    if n != 0 && n != l.maximum {
-        return Err(Refusal::InvalidValue);
-    }
-    Ok(())
-}
+    ghost refusal = { metadata_refusal };
 
-// What a SET's payload comes to.
-#[tactic(auto, unfolding(crate::specs::Metadata::metadata_item))]
-pub fn item(l: MetadataLimits, payload: &[u8]) -> Result<Setting, Refusal>
-    ensures { item_told result ≡ metadata_item l payload.now }
-{
-    let n = wire::le32(payload, 0);
-    item_of(check(l, n), Setting::Metadata(n))
-}
-
-// The number that a GET asks for.
-#[tactic(auto, using(controls::proofs::Laws::Controls::number_read), unfolding(crate::specs::Metadata::metadata_attribute))]
-fn attribute(l: MetadataLimits, held: Option<u32>, code: u8) -> u32
-    ensures { result ≡ metadata_attribute l held code }
-{
-    match code {
-        uvc::GET_MAX => l.maximum,
-        uvc::GET_RES => if l.writable { l.maximum } else { 0 },
-        _ if !l.writable => l.maximum,
-        uvc::GET_CUR => held.unwrap_or(0),
-        _ => 0,
+    #[tactic(auto, unfolding(crate::specs::Metadata::metadata_refusal))]
+    fn check(self, n: u32) -> Result<(), Refusal> {
+        if self.maximum < n {
+            return Err(Refusal::OutOfRange);
+        }
+        if n != 0 && n != self.maximum {
+            return Err(Refusal::InvalidValue);
+        }
+        Ok(())
     }
 }
 
-// The information byte: read-only metadata can be asked for and not set.
-#[tactic(auto, unfolding(crate::specs::Metadata::metadata_info))]
-fn info(l: MetadataLimits) -> u8
-    ensures { result ≡ metadata_info l }
-{
-    if l.writable { 0x03 } else { 0x01 }
+impl OneValue for MetadataLimits {
+    ghost value_of = { λ payload. le_at 4 payload 0 };
+
+    ghost setting_of = { Metadata };
+
+    ghost comes_to = { metadata_item };
+
+    fn value(payload: &[u8]) -> u32 {
+        wire::le32(payload, 0)
+    }
+
+    fn setting(n: u32) -> Setting {
+        Setting::Metadata(n)
+    }
+
+    ghost is_tested = { metadata_tested };
 }
 
-#[tactic(auto, unfolding(crate::specs::Metadata::metadata_answer))]
-pub fn answer(l: MetadataLimits, held: Option<u32>, code: u8) -> Answer
-    ensures { result ≡ packed (metadata_answer l held code) }
-{
-    let b = wire::bytes::<4>(u64::from(attribute(l, held, code)));
-    answer_by(code, 4, info(l), &b)
+impl MetadataLimits {
+    pub fn valid(self) -> bool
+        ensures { result ≡ metadata_valid self }
+    {
+        1 <= self.maximum
+    }
+
+    // The number that a GET asks for.
+    #[tactic(auto, using(controls::proofs::Laws::Controls::number_read), unfolding(crate::specs::Metadata::metadata_attribute))]
+    fn attribute(self, held: Option<u32>, code: u8) -> u32
+        ensures { result ≡ metadata_attribute self held code }
+    {
+        match code {
+            uvc::GET_MAX => self.maximum,
+            uvc::GET_RES => if self.writable { self.maximum } else { 0 },
+            _ if !self.writable => self.maximum,
+            uvc::GET_CUR => held.unwrap_or(0),
+            _ => 0,
+        }
+    }
+
+    // The information byte: read-only metadata can be asked for and not set.
+    #[tactic(auto, unfolding(crate::specs::Metadata::metadata_info))]
+    fn info(self) -> u8
+        ensures { result ≡ metadata_info self }
+    {
+        if self.writable { 0x03 } else { 0x01 }
+    }
+
+    #[tactic(auto, unfolding(crate::specs::Metadata::metadata_answer))]
+    pub fn answer(self, held: Option<u32>, code: u8) -> Answer
+        ensures { result ≡ packed (metadata_answer self held code) }
+    {
+        let b = wire::bytes::<4>(u64::from(self.attribute(held, code)));
+        answer_by(code, 4, self.info(), &b)
+    }
 }

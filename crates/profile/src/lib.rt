@@ -13,7 +13,7 @@ ghost use Rattle.profile.specs.Items.{profile_item};
 ghost use Rattle.profile.specs.Profile.{has, presence_valid, profile_valid, is_settable, profile_refusal, set_length, extension_unit};
 ghost use Rattle.profile.specs.Profile.{payload_length, profile_control};
 
-use controls::Setting;
+use controls::{OneValue, Setting};
 use exposure::EvLimits;
 use face::FaceLimits;
 use hdr::HdrLimits;
@@ -98,10 +98,10 @@ impl Profile {
         ensures { result ≡ profile_valid self }
     {
         presence_valid(self.controls)
-            && (!has(self, selectors::EV) || exposure::valid(self.ev))
+            && (!has(self, selectors::EV) || self.ev.valid())
             && (!has(self, selectors::FACE) || face::valid(self.face))
-            && (!has(self, selectors::METADATA) || metadata::valid(self.metadata))
-            && (!has(self, selectors::THROTTLE) || throttle::valid(self.throttle))
+            && (!has(self, selectors::METADATA) || self.metadata.valid())
+            && (!has(self, selectors::THROTTLE) || self.throttle.valid())
     }
 
     // What a request's tests 2 to 6 go by.
@@ -158,11 +158,11 @@ impl Profile {
         ensures { item_told result ≡ profile_item self selector payload.now 0 }
     {
         match selector {
-            selectors::EV => exposure::item(self.ev, payload),
+            selectors::EV => self.ev.item(payload),
             selectors::FACE => entries::item(self.face, payload),
-            selectors::METADATA => metadata::item(self.metadata, payload),
-            selectors::HDR => hdr::item(self.hdr, payload),
-            _ => throttle::item(self.throttle, payload),
+            selectors::METADATA => self.metadata.item(payload),
+            selectors::HDR => self.hdr.item(payload),
+            _ => self.throttle.item(payload),
         }
     }
 }

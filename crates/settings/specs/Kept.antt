@@ -2,6 +2,8 @@
 use Rattle.std.specs.Prelude.{ℕ}
 use mathlib.Core.{Option.{Option, none, some}, Bool.{Bool, true, ◌&&◌}}
 use Rattle.std.specs.Prelude.{eqb}
+use Rattle.std.specs.declared.option.Option as Core
+use Rattle.std.specs.declared.option.Option.TheVariants.{Some, None}
 use Rattle.snapshot.specs.Keys.{keys}
 use Rattle.controls.specs.declared.Setting.{Setting}
 use Rattle.controls.specs.declared.Setting.TheVariants as S
@@ -26,6 +28,11 @@ value_refusal p (S.Throttle s) = throttle_refusal p.throttle s.mode s.percent
 unfoldable pub kept : Profile → Option Setting → Bool
 kept p none = true
 kept p (some s) = eqb (profile_refusal p (setting_selector s)) 0 && eqb (value_refusal p s) 0
+
+-- the same of one control, by what its SETs are refused for and by the limits' refusals
+unfoldable pub kept_by : {A : Type 0} → ℕ → (A → ℕ) → Core.Option A → Bool
+kept_by closed refusal None = true
+kept_by closed refusal (Some a) = eqb closed 0 && eqb (refusal a) 0
 
 -- the profile is valid, under a limit of endpoints, and every setting keeps its rules; a record with any other is 0x21
 unfoldable pub settings_well_formed_under : ℕ → Profile → Settings → Bool

@@ -5,7 +5,8 @@ use lib.{ListN.{length, take, drop}, Dec.{leb, ltb, eqb}}
 use Rattle.std.specs.Borrow.{Bor}
 use Rattle.std.specs.declared.option.Option as Core
 use Rattle.std.specs.declared.option.Option.TheVariants as H
-use Rattle.wire.specs.{declared.parts.Part.{Part}, Parts.{nowhere, PartOf}}
+use Rattle.wire.specs.{declared.parts.Part.{Part}, Parts.{nowhere, up_to, all_from, PartOf}}
+use Rattle.snapshot.specs.declared.records.Records.{Records}
 use Rattle.snapshot.specs.{Keys.{keys, record_length}, Form.{stated_length, sound_record, stated_key}}
 
 -- a sound record of key k stands at the start of s
@@ -50,6 +51,19 @@ record_place s k = cond (leb keys k) nowhere (record { at = length s - length (f
 abbrev pub RecordAt : Bor (List ℕ) → ℕ → Core.Option (Bor (List ℕ)) → Type 0
 RecordAt s k H.None = decode s.now k ≡ none
 RecordAt s k (H.Some r) = (decode s.now k ≡ some r.now) × PartOf s (record_place s.now k) r
+
+-- the bytes that a walk through records has before it
+abbrev pub unread : Records → Bor (List ℕ)
+unread s = s.rest
+
+-- a step of it: while a sound record stands at their start, that record with its key, whole, and on to what is behind it; else none, and it
+-- stays. A record is that part of the bytes itself, and so is what is behind it
+abbrev pub NextRecord : Records → Core.Option (ℕ × Bor (List ℕ)) → Records → Type 0
+NextRecord s H.None t = (H.None ≡ some_key (key_at s.rest.now)) × (t ≡ s)
+NextRecord s (H.Some e) t =
+    (H.Some e.0 ≡ some_key (key_at s.rest.now))
+    × PartOf s.rest (up_to (record_length e.0)) e.1
+    × PartOf s.rest (all_from s.rest.now (record_length e.0)) t.rest
 
 abbrev pub record_bytes : Option (List ℕ) → List ℕ
 record_bytes none = []

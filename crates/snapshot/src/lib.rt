@@ -14,4 +14,4 @@ pub use form::{check, well_formed};
 pub use keys::{
     EV_KEY, HDR_KEY, KEYS, LONGEST, LONGEST_WRITTEN, METADATA_KEY, THROTTLE_KEY, record_length,
 };
-pub use records::{key_at, record_of};
+pub use records::{Records, key_at, record_of, records_in};

@@ -1,6 +1,7 @@
 // The records of a snapshot: the key of one, and going from one to the next.
-ghost use Rattle.std.specs.Prelude.{◌≡◌, drop};
-ghost use Rattle.snapshot.specs.{Form.{throttle_tail, zeros}, Records.{key_at, some_key, RecordAt}, Steps.{EndsBelow}};
+ghost use Rattle.std.specs.{Prelude.{◌≡◌, drop, length}, Iterator.{at_most}};
+ghost use Rattle.snapshot.specs.{Form.{throttle_tail, zeros}, Records.{key_at, some_key, RecordAt, unread, NextRecord}};
+ghost use Rattle.snapshot.specs.Steps.{EndsBelow};
 
 use crate::keys::{THROTTLE_KEY, key_by, record_length};
 use wire::Part;
@@ -45,6 +46,35 @@ pub fn key_at(s: &[u8], at: usize) -> Option<usize>
     ensures { result ≡ some_key (key_at (drop at s.now)) }
 {
     key_here(wire::tail(s, at))
+}
+
+// Going from record to record as long as they are sound, whatever the order of their keys is: each key with its record.
+#[derive(Clone, Copy)]
+pub struct Records<'a> {
+    rest: &'a [u8],
+}
+
+// The records that stand in s, from its first byte on.
+pub fn records_in(s: &[u8]) -> Records<'_>
+    ensures { unread result ≡ s.entry }
+{
+    Records { rest: s }
+}
+
+impl<'a> Iterator for Records<'a> {
+    type Item = (usize, &'a [u8]);
+
+    ghost next_gives = { NextRecord };
+
+    ghost remaining = { λ s. at_most (length (unread s).now) };
+
+    fn next(&mut self) -> Option<(usize, &'a [u8])> {
+        let key = key_here(self.rest)?;
+        let len = record_length(key);
+        let record = wire::head(self.rest, len);
+        self.rest = wire::tail(self.rest, len);
+        Some((key, record))
+    }
 }
 
 // Where the records of the keys below this one end. It goes from record to record while their keys ascend.

@@ -1,7 +1,7 @@
 -- Document 01, "Throttle": mode and percent, behind them the limits.
 use Rattle.std.specs.Prelude.{ℕ, ◌%◌}
 use mathlib.Core.{List.{List, [], ◌∷◌, ◌++◌}, Bool.{Bool, cond, not, ◌&&◌, ◌||◌}}
-use Rattle.std.specs.Prelude.{leb, ltb, eqb}
+use Rattle.std.specs.Prelude.{◌≡◌, refl, leb, ltb, eqb}
 use Rattle.wire.specs.{Numbers.{le_at, bytes_of}, Rows.{◌⇒◌, first_of}}
 use Rattle.wire.specs.Uvc.{get_cur, get_max, get_min, get_res, invalid_value, out_of_range}
 use Rattle.throttle.specs.declared.ThrottleLimits.{ThrottleLimits}
@@ -34,6 +34,16 @@ throttle_item l payload =
     let mode = le_at 4 payload 0 in
     let percent = le_at 4 payload 4 in
     item_of (throttle_refusal l mode percent) (S.Throttle (record { mode = mode; percent = percent }))
+
+-- the mode and the percent of a payload
+abbrev pub throttle_value : List ℕ → ThrottleSetting
+throttle_value payload = record { mode = le_at 4 payload 0; percent = le_at 4 payload 4 }
+
+pub throttle_tested : (l : ThrottleLimits) (b : List ℕ)
+    → let s = throttle_value b in
+    item_of (throttle_refusal l s.mode s.percent) (S.Throttle s) ≡ throttle_item l b
+unfolding throttle_item
+throttle_tested l b = refl
 
 abbrev pub throttle_default : ThrottleLimits → ThrottleSetting
 throttle_default l = record { mode = 0; percent = l.maximum }

@@ -3,13 +3,12 @@
 #![tactic(auto)]
 
 ghost use Rattle.std.specs.Prelude.{◌≡◌};
-ghost use Rattle.wire.specs.Refusals.{verdict};
-ghost use Rattle.controls.specs.Controls.{item_told};
 ghost use Rattle.request.specs.Answers.{packed};
-ghost use Rattle.throttle.specs.Throttle.{throttle_valid, throttle_refusal, throttle_item, throttle_attribute, throttle_bytes};
-ghost use Rattle.throttle.specs.Throttle.{throttle_answer};
+ghost use Rattle.controls.specs.declared.Setting.TheVariants.{Throttle};
+ghost use Rattle.throttle.specs.Throttle.{throttle_valid, throttle_value, throttle_refusal, throttle_item, throttle_tested};
+ghost use Rattle.throttle.specs.Throttle.{throttle_attribute, throttle_bytes, throttle_answer};
 
-use controls::{Setting, ThrottleSetting, item_of};
+use controls::{Limits, OneValue, Setting, ThrottleSetting};
 use request::{Answer, answer_by};
 use wire::{Refusal, uvc};
 
@@ -20,65 +19,42 @@ pub struct ThrottleLimits {
     pub step: u32,
 }
 
-pub fn valid(l: ThrottleLimits) -> bool
-    ensures { result ≡ throttle_valid l }
-{
-    1 <= l.minimum
-        && l.minimum <= l.maximum
-        && l.maximum <= 100
-        && 1 <= l.step
-        && l.minimum.is_multiple_of(l.step)
-        && l.maximum.is_multiple_of(l.step)
+impl Limits for ThrottleLimits {
+    type Value = ThrottleSetting;
+
+    ghost refusal = { λ l s. throttle_refusal l s.mode s.percent };
+
+    #[tactic(auto, unfolding(crate::specs::Throttle::throttle_refusal))]
+    fn check(self, s: ThrottleSetting) -> Result<(), Refusal> {
+        if !(self.minimum..=self.maximum).contains(&s.percent) {
+            return Err(Refusal::OutOfRange);
+        }
+        if 1 < s.mode || !s.percent.is_multiple_of(self.step) {
+            return Err(Refusal::InvalidValue);
+        }
+        Ok(())
+    }
 }
 
-// SET's value tests, and those of a setting held.
-#[tactic(auto, unfolding(crate::specs::Throttle::throttle_refusal))]
-pub fn check(l: ThrottleLimits, s: ThrottleSetting) -> Result<(), Refusal>
-    ensures { verdict result ≡ throttle_refusal l s.mode s.percent }
-{
-    if !(l.minimum..=l.maximum).contains(&s.percent) {
-        return Err(Refusal::OutOfRange);
-    }
-    if 1 < s.mode || !s.percent.is_multiple_of(l.step) {
-        return Err(Refusal::InvalidValue);
-    }
-    Ok(())
-}
+impl OneValue for ThrottleLimits {
+    ghost value_of = { throttle_value };
 
-// What a SET's payload comes to.
-#[tactic(auto, unfolding(crate::specs::Throttle::throttle_item))]
-pub fn item(l: ThrottleLimits, payload: &[u8]) -> Result<Setting, Refusal>
-    ensures { item_told result ≡ throttle_item l payload.now }
-{
-    let s = ThrottleSetting {
-        mode: wire::le32(payload, 0),
-        percent: wire::le32(payload, 4),
-    };
-    item_of(check(l, s), Setting::Throttle(s))
-}
+    ghost setting_of = { Throttle };
 
-// The mode and the percent that a GET asks for.
-#[tactic(auto, unfolding(crate::specs::Throttle::throttle_attribute, crate::specs::Throttle::throttle_current))]
-fn attribute(l: ThrottleLimits, held: Option<ThrottleSetting>, code: u8) -> ThrottleSetting
-    ensures { result ≡ throttle_attribute l held code }
-{
-    let default = ThrottleSetting {
-        mode: 0,
-        percent: l.maximum,
-    };
-    match code {
-        uvc::GET_MIN => ThrottleSetting {
-            percent: l.minimum,
-            ..default
-        },
-        uvc::GET_MAX => ThrottleSetting { mode: 1, ..default },
-        uvc::GET_RES => ThrottleSetting {
-            percent: l.step,
-            ..default
-        },
-        uvc::GET_CUR => held.unwrap_or(default),
-        _ => default,
+    ghost comes_to = { throttle_item };
+
+    fn value(payload: &[u8]) -> ThrottleSetting {
+        ThrottleSetting {
+            mode: wire::le32(payload, 0),
+            percent: wire::le32(payload, 4),
+        }
     }
+
+    fn setting(s: ThrottleSetting) -> Setting {
+        Setting::Throttle(s)
+    }
+
+    ghost is_tested = { throttle_tested };
 }
 
 // The payload of a setting, with three numbers behind it: the limits in an answer, zeros in a snapshot.
@@ -95,10 +71,47 @@ pub fn bytes(s: ThrottleSetting, tail: ThrottleLimits) -> [u8; 20]
     b
 }
 
-#[tactic(auto, unfolding(crate::specs::Throttle::throttle_answer))]
-pub fn answer(l: ThrottleLimits, held: Option<ThrottleSetting>, code: u8) -> Answer
-    ensures { result ≡ packed (throttle_answer l held code) }
-{
-    let b = bytes(attribute(l, held, code), l);
-    answer_by(code, 20, 0x03, &b)
+impl ThrottleLimits {
+    pub fn valid(self) -> bool
+        ensures { result ≡ throttle_valid self }
+    {
+        1 <= self.minimum
+            && self.minimum <= self.maximum
+            && self.maximum <= 100
+            && 1 <= self.step
+            && self.minimum.is_multiple_of(self.step)
+            && self.maximum.is_multiple_of(self.step)
+    }
+
+    // The mode and the percent that a GET asks for.
+    #[tactic(auto, unfolding(crate::specs::Throttle::throttle_attribute, crate::specs::Throttle::throttle_current))]
+    fn attribute(self, held: Option<ThrottleSetting>, code: u8) -> ThrottleSetting
+        ensures { result ≡ throttle_attribute self held code }
+    {
+        let default = ThrottleSetting {
+            mode: 0,
+            percent: self.maximum,
+        };
+        match code {
+            uvc::GET_MIN => ThrottleSetting {
+                percent: self.minimum,
+                ..default
+            },
+            uvc::GET_MAX => ThrottleSetting { mode: 1, ..default },
+            uvc::GET_RES => ThrottleSetting {
+                percent: self.step,
+                ..default
+            },
+            uvc::GET_CUR => held.unwrap_or(default),
+            _ => default,
+        }
+    }
+
+    #[tactic(auto, unfolding(crate::specs::Throttle::throttle_answer))]
+    pub fn answer(self, held: Option<ThrottleSetting>, code: u8) -> Answer
+        ensures { result ≡ packed (throttle_answer self held code) }
+    {
+        let b = bytes(self.attribute(held, code), self);
+        answer_by(code, 20, 0x03, &b)
+    }
 }

@@ -1,5 +1,5 @@
 -- Loading a snapshot record by record, and what a load answers. Assumes nothing.
-use mathlib.Core.{Path.{◌≡◌, refl, ap, ap₂, sym, ◌∙◌}, List.{List, [], ◌++◌, append-nil}, Option.{Option, none, map, Option-elim}}
+use mathlib.Core.{Path.{◌≡◌, refl, ap, ap₂, sym, ◌∙◌}, List.{List, [], ◌++◌, append-nil}, Option.{Option, none, some, map, Option-elim}}
 use mathlib.Core.Bool.{Bool, true, false, cond, not}
 use Prim.Native.Nat.{ℕ, zero, suc, ◌+◌, ◌-◌, ◌≤◌, ◌<◌}
 use native.Mathlib.{Nat.{zero-add}, Omega.{arith}}
@@ -10,7 +10,7 @@ use Rattle.std.specs.Borrow.{Bor}
 use Rattle.wire.specs.{Uvc.{malformed_snapshot}, Parts.{all_from, PartOf}}
 use Rattle.wire.proofs.Laws.{Parts.{rest}, Refusals.{not_accepted}}
 use Rattle.snapshot.specs.{Keys.{keys, record_length}, Form.{form_code, well_formed}, Records.{key_at, some_key, decode}}
-use Rattle.snapshot.proofs.Laws.Walk.{At, first-at, none_before, record_at_lem, next-at, next_above, none_between}
+use Rattle.snapshot.proofs.Laws.Walk.{Ahead, first_ahead, none_ahead, record_ahead, next_ahead, above_ahead, gap_ahead}
 use Rattle.snapshot.proofs.Laws.Handed.{handed_some, handed_none}
 use Rattle.controls.specs.Controls.{Item, Refused, Given, item_code}
 use Rattle.controls.specs.declared.Setting.{Setting}
@@ -99,98 +99,87 @@ module _ (c : Camera) (s : List ℕ) where
   unfolding Option-elim
   absent_given j e = ap (given_by c.profile c.streaming j) e
 
-  -- what stands before the record of key k: those below it are taken
-  pub record Loads (h : Settings) (at k : ℕ) : Type 0 where
-    pub here : At s at k
+  -- with t left, at the record of key k: those below it are taken
+  pub record Loads (h : Settings) (t : List ℕ) (k : ℕ) : Type 0 where
+    pub ahead : Ahead s t k
     pub is : h ≡ put_all c.settings (all_given k 0 given_at)
     pub taken : (j : ℕ) → j < k → code_at j ≡ 0
 
-  pub nothing_loaded : well_formed s ≡ true → Loads c.settings 0 (key_at (drop 0 s))
+  pub nothing_loaded : {t : List ℕ} → well_formed s ≡ true → t ≡ s → Loads c.settings t (key_at t)
   unfolding put_all all_given
-  nothing_loaded w = record {
-    here = first-at s w;
-    is =
-        sym (ap (put_all c.settings)
-        (given_between given_at 0 (key_at (drop 0 s)) (omega arith) (λ j l u. absent_given j (none_before s w j u))));
-    taken = λ j l. absent_code j (none_before s w j l);
-  }
+  nothing_loaded w e = rw e (record {
+    ahead = first_ahead s w;
+    is = sym (ap (put_all c.settings) (given_between given_at 0 (key_at s) (omega arith) (λ j l u. absent_given j (none_ahead s w j u))));
+    taken = λ j l. absent_code j (none_ahead s w j l);
+  })
 
-  -- a turn, by what the calls ensure
-  module _ {h : Settings} {at k n : ℕ} (w : Loads h at (key_at (drop at s))) (is-key : Some k ≡ some_key (key_at (drop at s)))
-      (is-size : n ≡ record_length k) where
-    here : Loads h at k
+  -- a turn, by what a step of the walk gives: the key k, its record r and what is left behind it
+  module _ {h : Settings} {t t' r : List ℕ} {k : ℕ} (w : Loads h t (key_at t)) (is-key : Some k ≡ some_key (key_at t))
+      (is-record : r ≡ take (record_length k) t) (is-rest : t' ≡ drop (record_length k) t) where
+    here : Loads h t k
     here = rw (handed_some _ _ is-key).0 w
 
     l : k < keys
     l = (handed_some _ _ is-key).1
 
-    pub load_smaller : keys - key_at (drop (at + n) s) < keys - key_at (drop at s)
-    load_smaller =
-        omega (arith, l, (handed_some _ _ is-key).0, ap (λ (x : ℕ). key_at (drop (at + x) s)) is-size, next_above here.here l)
+    abbrev item : Item
+    item = record_item c.profile c.streaming k r
 
-    module _ {r : List ℕ} {i : Item} (is-part : r ≡ take n (drop at s)) (is-item : i ≡ record_item c.profile c.streaming k r) where
-      item_here : i ≡ record_item c.profile c.streaming k (take (record_length k) (drop at s))
-      item_here = is-item ∙ ap (record_item c.profile c.streaming k) (is-part ∙ ap (λ (m : ℕ). take m (drop at s)) is-size)
+    decoded : decode s k ≡ some r
+    decoded = record_ahead here.ahead l ∙ ap some (sym is-record)
 
-      code_here : item_code i ≡ code_at k
-      unfolding Option-elim
-      code_here = ap item_code item_here ∙ sym (ap (code_by c.profile c.streaming k) (record_at_lem here.here l))
+    code_here : item_code item ≡ code_at k
+    unfolding Option-elim
+    code_here = sym (ap (code_by c.profile c.streaming k) decoded)
 
-      given_here : given_of i ≡ given_at k
-      unfolding Option-elim
-      given_here = ap given_of item_here ∙ sym (ap (given_by c.profile c.streaming k) (record_at_lem here.here l))
+    given_here : given_of item ≡ given_at k
+    unfolding Option-elim
+    given_here = sym (ap (given_by c.profile c.streaming k) decoded)
 
-      stops_here : (item_code i ≡ 0 → ⊥) → refused (item_code i) c ≡ load_done c s
-      unfolding load_done load_refusal
-      stops_here bad =
-          let e = code_here ∙ sym (stops code_at keys k here.taken l (λ z. bad (code_here ∙ z))) in
-          rw (← e, ne_eqb (item_code i) 0 bad)
+    stops_here : (item_code item ≡ 0 → ⊥) → refused (item_code item) c ≡ load_done c s
+    unfolding load_done load_refusal
+    stops_here bad =
+        let e = code_here ∙ sym (stops code_at keys k here.taken l (λ z. bad (code_here ∙ z))) in
+        rw (← e, ne_eqb (item_code item) 0 bad)
 
-      next_here : item_code i ≡ 0 → Loads (put_all h (given_of i)) (at + n) (key_at (drop (at + n) s))
-      next_here z =
-          let m : at + n ≡ at + record_length k = ap (λ (x : ℕ). at + x) is-size in
-          let above : k < key_at (drop (at + record_length k) s) = next_above here.here l in
-          let gap : (i : ℕ) → k + 1 ≤ i → i < key_at (drop (at + record_length k) s) → decode s i ≡ none =
-          λ i a b. none_between here.here l i (omega arith) b in
-          rw m (record {
-            here = next-at here.here l;
-            is = ap₂ put_all here.is given_here
-                ∙ sym (puts_next c.settings k given_at)
-                ∙ ap (put_all c.settings)
-                (sym (given_between given_at (k + 1) (key_at (drop (at + record_length k) s)) (omega (arith, above))
-                (λ i a b. absent_given i (gap i a b))));
-            taken = λ i b. go i (leb (k + 1) i) refl (λ a. gap i a b);
-          })
-        where
-          go : (i : ℕ) (b : Bool) → leb (k + 1) i ≡ b → (k + 1 ≤ i → decode s i ≡ none) → code_at i ≡ 0
-          go i true p gap = absent_code i (gap (leb-true (k + 1) i p))
-          go i false p gap =
-              let u = leb-false (k + 1) i p in below_more (λ j. code_at j ≡ 0) k here.taken (sym code_here ∙ z) i (omega arith)
+    next_here : item_code item ≡ 0 → Loads (put_all h (given_of item)) t' (key_at t')
+    next_here z =
+        let u = drop (record_length k) t in
+        let above : k < key_at u = above_ahead here.ahead l in
+        let gap : (i : ℕ) → k + 1 ≤ i → i < key_at u → decode s i ≡ none = λ i a b. gap_ahead here.ahead l i (omega arith) b in
+        rw is-rest (record {
+          ahead = next_ahead here.ahead l;
+          is = ap₂ put_all here.is given_here
+              ∙ sym (puts_next c.settings k given_at)
+              ∙ ap (put_all c.settings)
+              (sym (given_between given_at (k + 1) (key_at u) (omega (arith, above)) (λ i a b. absent_given i (gap i a b))));
+          taken = λ i b. go i (leb (k + 1) i) refl (λ a. gap i a b);
+        })
+      where
+        go : (i : ℕ) (b : Bool) → leb (k + 1) i ≡ b → (k + 1 ≤ i → decode s i ≡ none) → code_at i ≡ 0
+        go i true p gap = absent_code i (gap (leb-true (k + 1) i p))
+        go i false p gap =
+            let u = leb-false (k + 1) i p in below_more (λ j. code_at j ≡ 0) k here.taken (sym code_here ∙ z) i (omega arith)
 
     -- the record is refused, or taken
-    module _ {r : List ℕ} (is-part : r ≡ take n (drop at s)) where
-      abbrev item : Item
-      item = record_item c.profile c.streaming k r
+    pub load_stops : {code : ℕ} → ◌≡◌ {A = SetTaken} (record { code = code; settings = h }) (item_taken h item) → (code ≡ 0 → ⊥)
+        → refused code c ≡ load_done c s
+    unfolding item_taken
+    load_stops e bad =
+        let told = ap (λ (t : SetTaken). t.code) e in
+        rw told (stops_here (λ z. bad (told ∙ z)))
 
-      pub load_stops : {code : ℕ} → ◌≡◌ {A = SetTaken} (record { code = code; settings = h }) (item_taken h item) → (code ≡ 0 → ⊥)
-          → refused code c ≡ load_done c s
-      unfolding item_taken
-      load_stops e bad =
-          let told = ap (λ (t : SetTaken). t.code) e in
-          rw told (stops_here {i = item} is-part refl (λ z. bad (told ∙ z)))
+    pub load_next : {next : Settings} → ◌≡◌ {A = SetTaken} (record { code = 0; settings = next }) (item_taken h item)
+        → Loads next t' (key_at t')
+    unfolding item_taken
+    load_next e = rw (ap (λ (t : SetTaken). t.settings) e) (next_here (sym (ap (λ (t : SetTaken). t.code) e)))
 
-      pub load_next : {next : Settings} → ◌≡◌ {A = SetTaken} (record { code = 0; settings = next }) (item_taken h item)
-          → Loads next (at + n) (key_at (drop (at + n) s))
-      unfolding item_taken
-      load_next e =
-          rw (ap (λ (t : SetTaken). t.settings) e) (next_here {i = item} is-part refl (sym (ap (λ (t : SetTaken). t.code) e)))
-
-  pub load_end : {h : Settings} {at : ℕ} → Loads h at (key_at (drop at s)) → None ≡ some_key (key_at (drop at s))
+  pub load_end : {h : Settings} {t : List ℕ} → Loads h t (key_at t) → None ≡ some_key (key_at t)
       → ◌≡◌ {A = Outcome} (record { code = 0; count = 0; camera = with_settings c h }) (load_done c s)
   unfolding load_done load_refusal load_gives
-  load_end {h} {at} w over =
-      let k = key_at (drop at s) in
-      let q : k ≡ keys = omega (arith, w.here.few, handed_none k over) in
+  load_end {h} {t} w over =
+      let k = key_at t in
+      let q : k ≡ keys = omega (arith, w.ahead.few, handed_none k over) in
       let z = passes code_at keys (λ j u. w.taken j (omega arith)) in
       rw (w.is, q, z)
 

@@ -2,12 +2,15 @@
 use Prim.Native.Nat.{ℕ, ◌≤◌, ◌<◌}
 use native.Mathlib.Omega.{arith}
 use mathlib.Core.{Path.{◌≡◌, refl, sym, ap, ◌∙◌}, Bool.{Bool, true, false, cond, not}, List.{List}}
-use lib.Dec.{ltb, eqb}
+use lib.{ListN.{length, length-drop}, Dec.{ltb, eqb}}
 use borrow.Author.Tests.{ltb-true, ltb-false, lt-ltb, le-ltb, eqb-true, eqb-false, eq-eqb, ne_eqb}
 use Rattle.std.specs.{Prelude.{Option, Some, None}, Option.{option_eq}}
 use Rattle.std.proofs.lemmas.Bool.{not-false, not-true}
-use Rattle.snapshot.specs.{Keys.{keys}, Records.{stands, key_at, some_key}}
-use Rattle.snapshot.proofs.Laws.Stay.{key_stands, other_stands, none_stands}
+use Rattle.std.specs.Borrow.{Bor}
+use Rattle.wire.specs.Parts.{all_from, PartOf}
+use Rattle.wire.proofs.Laws.Parts.{rest}
+use Rattle.snapshot.specs.{Keys.{keys, record_length}, Records.{stands, key_at, some_key}}
+use Rattle.snapshot.proofs.Laws.{Sound.{stands_long, stands_some}, Stay.{key_stands, other_stands, none_stands}}
 
 -- what is handed on is the key, and one of the keys
 pub handed_some : (k j : ℕ) → Some j ≡ some_key k → (j ≡ k) × (j < keys)
@@ -45,6 +48,13 @@ same_handed i j h l = go (ltb i keys) refl (ltb j keys) refl
 -- a record of it stands there
 pub handed_stands : (k : ℕ) (t : List ℕ) → Some k ≡ some_key (key_at t) → stands k t ≡ true
 handed_stands k t e = let p = handed_some (key_at t) k e in ap (λ i. stands i t) p.0 ∙ key_stands t (omega (arith, p.0, p.1))
+
+-- and what is behind it is shorter
+pub behind_shorter : {k n : ℕ} {s r : Bor (List ℕ)} → Some k ≡ some_key (key_at s.now) → n ≡ record_length k
+    → PartOf s (all_from s.now n) r → length r.now < length s.now
+behind_shorter {k} {n} {s} e q p =
+    let h = handed_stands k s.now e in
+    omega (arith, q, stands_long k s.now h, stands_some k s.now h, ap length (rest p), length-drop n s.now)
 
 -- tested for one key: it stands there, or it doesn't
 module _ (k : ℕ) (t : List ℕ) where

@@ -9,12 +9,11 @@ use Rattle.snapshot.specs.{Keys.{keys, record_length}, Form.{well_formed}, Recor
 use Rattle.snapshot.proofs.Laws.{Sound.{stands_nil, stands_long}, Maps.{skip_at}, Form.{empty_nil, formed_from}}
 use Rattle.snapshot.proofs.Laws.Stay.{key_few, key_stands, other_stands, stay}
 
--- s is well formed, and behind the records of the keys below k stands, at `at`, the record of key k, or the end where k is no key
-pub record At (s : List ℕ) (at k : ℕ) : Type 0 where
+-- s is well formed, and t is what is behind its records of the keys below k: the record of key k stands there, or the end where k is no key
+pub record Ahead (s t : List ℕ) (k : ℕ) : Type 0 where
   pub formed : well_formed s ≡ true
-  pub within : at ≤ length s
-  pub here : drop at s ≡ from s k
-  pub key : k ≡ key_at (drop at s)
+  pub here : t ≡ from s k
+  pub key : k ≡ key_at t
   pub few : k ≤ keys
 
 module _ (s : List ℕ) (w : well_formed s ≡ true) where
@@ -37,39 +36,68 @@ module _ (s : List ℕ) (w : well_formed s ≡ true) where
         let e = stay s low j l (λ i a b. other_stands i (from s low) (λ z. omega arith)) in
         rw e (simp (other_stands j (from s low) (λ z. omega arith)))
 
-    land : (at : ℕ) → at ≤ length s → drop at s ≡ from s low → At s at (key_at (drop at s))
-    land at l e =
+    land : (t : List ℕ) → t ≡ from s low → Ahead s t (key_at t)
+    land t e =
         let q = stay s low (key_at (from s low)) low_key (λ i a b. other_stands i (from s low) (λ z. omega arith)) in
-        record { formed = w; within = l; here = e ∙ sym q ∙ ap (λ t. from s (key_at t)) (sym e); key = refl; few = key_few _ }
+        record { formed = w; here = e ∙ sym q ∙ ap (λ t. from s (key_at t)) (sym e); key = refl; few = key_few _ }
 
-  pub first-at : At s 0 (key_at (drop 0 s))
+  pub first_ahead : Ahead s s (key_at s)
   unfolding from
-  first-at = land 0 (omega arith) 0 (omega arith) refl
+  first_ahead = land 0 (omega arith) s refl
+
+  pub none_ahead : (j : ℕ) → j < key_at s → decode s j ≡ none
+  unfolding from
+  none_ahead j h = no_record 0 (omega arith) j (omega arith) h
+
+module _ {s t : List ℕ} {k : ℕ} (p : Ahead s t k) (h : k < keys) where
+  pub standing : stands k t ≡ true
+  standing = ap (λ i. stands i t) p.key ∙ key_stands t (omega (arith, p.key))
+
+  behind : drop (record_length k) t ≡ from s (suc k)
+  unfolding from
+  behind = sym (skip_at k t standing) ∙ ap (skip k) p.here
+
+  pub record_ahead : decode s k ≡ some (take (record_length k) t)
+  unfolding decode record_at
+  record_ahead = rw (← p.here) (simp standing)
+
+  pub next_ahead : Ahead s (drop (record_length k) t) (key_at (drop (record_length k) t))
+  next_ahead = land s p.formed (suc k) (omega arith) (drop (record_length k) t) behind
+
+  pub above_ahead : k < key_at (drop (record_length k) t)
+  above_ahead = rw behind (low_key s p.formed (suc k) (omega arith))
+
+  pub gap_ahead : (j : ℕ) → k < j → j < key_at (drop (record_length k) t) → decode s j ≡ none
+  gap_ahead j l u = no_record s p.formed (suc k) (omega arith) j l (rw (← behind) u)
+
+-- by a place: `at` is where t begins
+pub record At (s : List ℕ) (at k : ℕ) : Type 0 where
+  pub within : at ≤ length s
+  pub ahead : Ahead s (drop at s) k
+  pub few : k ≤ keys
+
+module _ (s : List ℕ) (w : well_formed s ≡ true) where
+  pub first-at : At s 0 (key_at (drop 0 s))
+  first-at = record { within = omega arith; ahead = first_ahead s w; few = key_few _ }
 
   pub none_before : (j : ℕ) → j < key_at (drop 0 s) → decode s j ≡ none
-  unfolding from
-  none_before j h = no_record 0 (omega arith) j (omega arith) h
+  none_before = none_ahead s w
 
 module _ {s : List ℕ} {at k : ℕ} (p : At s at k) (h : k < keys) where
-  standing : stands k (drop at s) ≡ true
-  standing = ap (λ i. stands i (drop at s)) p.key ∙ key_stands (drop at s) (omega (arith, p.key))
-
-  behind : drop (at + record_length k) s ≡ from s (suc k)
-  unfolding from
-  behind = sym (drop-drop (record_length k) at s) ∙ sym (skip_at k (drop at s) standing) ∙ ap (skip k) p.here
-
   pub record_at_lem : decode s k ≡ some (take (record_length k) (drop at s))
-  unfolding decode record_at
-  record_at_lem = rw (← p.here) (simp standing)
+  record_at_lem = record_ahead p.ahead h
 
   pub next_within : at + record_length k ≤ length s
-  next_within = omega (arith, p.within, stands_long k (drop at s) standing, length-drop at s)
+  next_within = omega (arith, p.within, stands_long k (drop at s) (standing p.ahead h), length-drop at s)
+
+  on : drop (record_length k) (drop at s) ≡ drop (at + record_length k) s
+  on = drop-drop (record_length k) at s
 
   pub next-at : At s (at + record_length k) (key_at (drop (at + record_length k) s))
-  next-at = land s p.formed (suc k) (omega arith) (at + record_length k) next_within behind
+  next-at = record { within = next_within; ahead = rw (← on) (next_ahead p.ahead h); few = key_few _ }
 
   pub next_above : k < key_at (drop (at + record_length k) s)
-  next_above = rw behind (low_key s p.formed (suc k) (omega arith))
+  next_above = rw (← on) (above_ahead p.ahead h)
 
   pub none_between : (j : ℕ) → k < j → j < key_at (drop (at + record_length k) s) → decode s j ≡ none
-  none_between j l u = no_record s p.formed (suc k) (omega arith) j l (rw (← behind) u)
+  none_between j l u = gap_ahead p.ahead h j l (rw on u)

@@ -6,12 +6,12 @@ use mir.Val.{SFits}
 use Rattle.std.proofs.Common.{rules}
 use Rattle.exposure.specs.Exposure.{in_range}
 use Rattle.exposure.proofs.Laws.Bounds.{widened_is, limit_is, at_most}
-use Rattle.exposure.proofs.in_range.Goals as goal
+use Rattle.exposure.proofs.EvLimits.in_range.Goals as goal
 
 pub returns : goal.returns
 unfolding in_range
 returns c =
-    let l = c.args.l in
+    let l = c.args.self in
     let d = c.args.d in
     let f : SFits w32 l.minimum = search rules in
     let g : SFits w32 l.maximum = search rules in
