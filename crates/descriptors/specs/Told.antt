@@ -1,6 +1,7 @@
 -- What an answer of `src/` says in document 01's numbers, as the definitions have it: 0 for no refusal. No refusal's number is 0, so that
 -- an answer is known by what it says here (`proofs/Laws/Told.antt`).
 use Rattle.std.specs.Prelude.{ℕ, Option, None, Some, Result, Ok, Err}
+use Rattle.wire.specs.Refusals.{number_by}
 use Rattle.descriptors.specs.declared.{codes.Refusal.{Refusal}, set.Fault.{Fault}, properties.RegistryProperty.{RegistryProperty}}
 use Rattle.descriptors.specs.declared.header.Descriptor.{Descriptor}
 use Rattle.descriptors.specs.declared.header.Descriptor.TheVariants as descriptors
@@ -8,8 +9,7 @@ use Rattle.descriptors.specs.{Codes.{code_of}, Header.{Interface, Nowhere, First
 use Rattle.descriptors.specs.{Set.{FaultAnswer}, Properties.{PropertyAnswer, refused_property}}
 
 abbrev pub refusal_told : {A : Type 0} → Result A Refusal → ℕ
-refusal_told (Ok a) = 0
-refusal_told (Err e) = code_of e
+refusal_told = number_by code_of
 
 abbrev pub fault_told : {A : Type 0} → Result A Fault → FaultAnswer
 fault_told (Ok a) = record { code = 0; offset = 0 }
