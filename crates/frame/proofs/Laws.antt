@@ -12,3 +12,4 @@ pub mod Appended
 pub mod Known
 pub mod Cut
 pub mod Before
+pub mod Told

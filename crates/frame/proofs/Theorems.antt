@@ -3,13 +3,17 @@ use Prim.Native.Nat.{ℕ, ◌^◌, ◌≤◌, ◌<◌}
 use mathlib.Core.{Path.{◌≡◌, refl, sym, ap, ◌∙◌}, List.{List, [], ◌∷◌, ◌++◌}, Bool.{true}}
 use native.Mathlib.Omega.{arith}
 use lib.ListN.{length, take, length-append, get_or-append}
-use Rattle.frame.specs.{Items.{Found}, Codes.{longest_block}, View.{ItemView, Views}}
+use Rattle.frame.specs.{Items.{Found, refused_item}, Codes.{longest_block}, View.{ItemView, Views}}
 use Rattle.frame.specs.{Ids.{is_known, is_newer}, Cut.{without_unknown, known_of, known_index}}
 use Rattle.frame.specs.Items.{MetadataItem, absent, BlockReading, refused, sound, block_items, nth_item, found_in, count_in}
 use Rattle.frame.specs.Items.{Readable, block_item, block_count, block_payload}
 use Rattle.frame.specs.Theorems.{FrameRefused, HandedOut, Viewed, AppendReadsBack, appending, afterwards}
 use Rattle.frame.specs.Theorems.{NoneUnknown, WrittenAgain, Marked, NothingCut, SameItem, SameView, KnownStay, KnownIndex}
-use Rattle.frame.specs.Theorems.{TakenBefore, ReadAsBefore}
+use Rattle.frame.specs.Theorems.{SameTold, KnownTold, TakenBefore, ReadAsBefore}
+use Rattle.std.specs.Prelude.{Result, Ok, Err}
+use Rattle.frame.specs.declared.{view.ItemView.{ItemView as View}, refusals.Refusal.{Refusal}}
+use Rattle.frame.specs.Answers.{code_of, TellsView}
+use Rattle.frame.proofs.Laws.Told.{coded, told_apart}
 use Rattle.frame.specs.{Writer.{layout, Writable}, Calls.{FrameCall, item, count, append, frame_outcome}}
 use Rattle.wire.proofs.Laws.{Numbers.{Bytes}, Parts.{stands_at}}
 use denote.Ref.{Bor}
@@ -165,6 +169,25 @@ known_views block cut is k v w e c p q =
       mark = p.same_mark ∙ s.mark ∙ sym q.same_mark;
       payload = a.bytes ∙ s.payload ∙ sym b.bytes;
     }
+
+-- and of what `item_view` answers for each, a refusal too
+pub known_told : KnownTold
+known_told block cut is k r s e c = go r s
+  where
+    number : (block_item block.now (known_index k is)).code ≡ (block_item cut.now k).code
+    number =
+        let s : SameItem block.now (known_index k is) cut.now k = rw c ((known_stay block.now is e).same k) in
+        s.number
+
+    code : {f : Found} {n : ℕ} → f ≡ refused_item n → f.code ≡ n
+    code h = ap (λ (f : Found). f.code) h
+
+    go : (r s : Result View Refusal) → TellsView block (block_item block.now (known_index k is)) r
+        → TellsView cut (block_item cut.now k) s → SameTold r s
+    go (Ok v) (Ok w) p q = let t = known_views block cut is k _ _ e c p q in (t.its_id, t.mark, t.payload)
+    go (Ok v) (Err f) p q = absurd (omega (arith, coded f, p.same_code, number, code q))
+    go (Err e) (Ok w) p q = absurd (omega (arith, coded e, q.same_code, number, code p))
+    go (Err e) (Err f) p q = told_apart e f (sym (code p) ∙ number ∙ code q)
 
 -- which item of the block that is
 pub known_index_lem : (is : List MetadataItem) (k : ℕ) → KnownIndex is k

@@ -24,6 +24,10 @@ is_refused TooLong = refl
 is_refused NoItem = refl
 is_refused NoRoom = refl
 
+-- A refusal is told from any other by its number: so what the next four say of an answer determines it.
+abbrev pub ToldApart : Type 0
+ToldApart = (e f : Refusal) → code_of e ≡ code_of f → e ≡ f
+
 abbrev pub told_item : Result Item Refusal → Found
 told_item (Ok i) = record { code = 0; id = i.id; unknown = i.unknown; payload = i.payload }
 told_item (Err e) = refused_item (code_of e)

@@ -1,10 +1,11 @@
 -- What the theorems of this crate say: the owner's demands on frame metadata, and what request #105 of document 02 asks.
 use Rattle.std.specs.Prelude.{ℕ, ◌+◌, ◌≤◌, ◌<◌}
 use mathlib.Core.{Path.{◌≡◌}, List.{List, [], ◌∷◌, ◌++◌}, Bool.{true, false}}
-use Rattle.std.specs.Prelude.{length, take, get_or}
+use Rattle.std.specs.Prelude.{length, take, get_or, Result, Ok, Err}
 use Rattle.std.specs.Borrow.{Bor}
+use Rattle.frame.specs.declared.{view.ItemView.{ItemView as View}, refusals.Refusal.{Refusal}}
 use Rattle.wire.specs.Parts.{nowhere}
-use Rattle.frame.specs.{View.{ItemView}, Codes.{invalid_id, no_item}}
+use Rattle.frame.specs.{View.{ItemView}, Answers.{TellsView}, Codes.{invalid_id, no_item}}
 use Rattle.frame.specs.{Ids.{is_known, is_newer}, Cut.{without_unknown, known_of, known_index}}
 use Rattle.frame.specs.Items.{MetadataItem, absent, BlockReading, refused, sound, block_items_under, block_items, refused_item, found_in}
 use Rattle.frame.specs.Items.{Readable, count_in, block_item, block_count, block_payload}
@@ -83,6 +84,19 @@ pub record SameView (v w : ItemView) : Type 0 where
   pub its_id : v.id ≡ w.id
   pub mark : v.unknown ≡ w.unknown
   pub payload : v.payload.now ≡ w.payload.now
+
+-- the same of what two calls of `item_view` answer: of two views, or the same refusal
+abbrev pub SameTold : Result View Refusal → Result View Refusal → Type 0
+SameTold (Ok v) (Ok w) = (v.id ≡ w.id) × (v.unknown ≡ w.unknown) × (v.payload.now ≡ w.payload.now)
+SameTold (Ok v) (Err f) = ⊥
+SameTold (Err e) (Ok w) = ⊥
+SameTold (Err e) (Err f) = e ≡ f
+
+-- #105: what `item_view` answers for known item k of a sound block, and for item k of the block with the unknown ones cut out, is the same
+abbrev pub KnownTold : Type 0
+KnownTold = (block cut : Bor (List ℕ)) (is : List MetadataItem) (k : ℕ) (r s : Result View Refusal) → block_items block.now ≡ sound is
+    → cut.now ≡ without_unknown block.now → TellsView block (block_item block.now (known_index k is)) r
+    → TellsView cut (block_item cut.now k) s → SameTold r s
 
 -- #105: the known items of a sound block are those of the block with the unknown ones cut out, which is sound, no longer, and has no
 -- unknown item; known item k of the block is item k of the cut block.

@@ -3,7 +3,7 @@ ghost use Rattle.std.specs.{Prelude.{◌≡◌, drop, length}, Iterator.{at_most
 ghost use Rattle.snapshot.specs.{Form.{throttle_tail, zeros}, Records.{key_at, some_key, RecordAt, unread, NextRecord}};
 ghost use Rattle.snapshot.specs.Steps.{EndsBelow};
 
-use crate::keys::{THROTTLE_KEY, key_by, record_length};
+use crate::keys::{KEYS, THROTTLE_KEY, key_by, record_length};
 use wire::Part;
 
 // No record has fewer bytes.
@@ -97,6 +97,9 @@ pub(crate) fn start_of(s: &[u8], key: usize) -> usize
 pub fn record_of(s: &[u8], key: usize) -> Option<&[u8]>
     ensures { RecordAt s.entry key result }
 {
+    if KEYS <= key {
+        return None;
+    }
     let at = start_of(s, key);
     if key_at(s, at) != Some(key) {
         return None;

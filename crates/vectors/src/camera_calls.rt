@@ -1,6 +1,6 @@
 // Calls of the camera.
 use crate::buffers::{LENT, LENT_ANSWERS, LONGEST_BATCH, first};
-use crate::words::{Bytes, octet, place, word};
+use crate::words::{Bytes, lay, octet, place, word};
 use crate::{print, record};
 use camera::Camera;
 use request::Done;
@@ -42,11 +42,12 @@ fn load(camera: Camera, call: &[u8]) -> Camera {
 
 // A batch: room for its answers, its requests, and how long it is with zeros behind them, if that is more.
 fn run_batch(camera: Camera, call: &[u8]) -> Camera {
-    let given = Bytes::<LONGEST_BATCH>::of(word(call, 2));
-    let len = given.as_slice().len().max(place(word(call, 3)));
+    let mut bytes = [0; LONGEST_BATCH];
+    let given = lay(word(call, 2), &mut bytes);
+    let len = given.max(place(word(call, 3)));
     let mut room = [0xEEu8; LENT_ANSWERS];
     let out = first(&mut room, place(word(call, 1)));
-    let done = batch::run(camera, given.first(len), out);
+    let done = batch::run(camera, wire::head(&bytes, len), out);
     let next = print::done(camera, done);
     print::bytes(out);
     next

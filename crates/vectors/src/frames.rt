@@ -1,7 +1,7 @@
 // Calls on blocks of frame metadata and on payload headers.
 use crate::buffers::{LENT, first};
 use crate::print;
-use crate::words::{Bytes, number, octet, place, word};
+use crate::words::{Bytes, lay, number, octet, place, word};
 use frame::{Item, Refusal};
 use packet::{Flag, PayloadHeader};
 use wire::Part;
@@ -50,8 +50,9 @@ fn item(call: &[u8]) {
 
 // A block that is too long to show: its first item, and how many it has.
 fn long_block(call: &[u8]) {
-    let given = Bytes::<65536>::of(word(call, 2));
-    let block = given.first(place(word(call, 1)));
+    let mut bytes = [0; 65536];
+    lay(word(call, 2), &mut bytes);
+    let block = wire::head(&bytes, place(word(call, 1)));
     let payload = entry(frame::item(block, 0));
     print::count(payload.at);
     print::count(payload.len);

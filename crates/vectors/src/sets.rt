@@ -1,6 +1,6 @@
 // Calls on descriptor sets.
 use crate::print;
-use crate::words::{Bytes, place, word};
+use crate::words::{Bytes, lay, place, word};
 use descriptors::RegistryProperty;
 use wire::Part;
 
@@ -62,8 +62,9 @@ fn set(call: &[u8]) {
 }
 
 fn long_set(call: &[u8]) {
-    let given = Bytes::<65546>::of(word(call, 2));
-    check(given.first(place(word(call, 1))));
+    let mut bytes = [0; 65546];
+    lay(word(call, 2), &mut bytes);
+    check(wire::head(&bytes, place(word(call, 1))));
 }
 
 fn property(call: &[u8]) {

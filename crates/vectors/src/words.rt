@@ -67,7 +67,16 @@ pub(crate) fn place(s: &[u8]) -> usize {
     number(s, 4) as usize * 0x1_0000_0000 + number(s, 0) as usize
 }
 
-// The bytes that a word gives in hex, as far as there are N places, and how many; zeros behind them.
+// Lays the bytes that a word gives in hex over the start of `places`, as far as there are so many, and says how many.
+pub(crate) fn lay(word: &[u8], places: &mut [u8]) -> usize {
+    for (place, pair) in places.iter_mut().zip(word.chunks_exact(2)) {
+        *place = octet_of(pair[0], pair[1]);
+    }
+    places.len().min(word.len() / 2)
+}
+
+// The bytes that a word gives in hex, as far as there are N places, and how many; zeros behind them. It is handed back by value, so the rows
+// of 64 KiB and more have an array of their own, which `lay` fills in place.
 #[derive(Clone, Copy)]
 pub(crate) struct Bytes<const N: usize> {
     places: [u8; N],
@@ -77,10 +86,7 @@ pub(crate) struct Bytes<const N: usize> {
 impl<const N: usize> Bytes<N> {
     pub(crate) fn of(word: &[u8]) -> Bytes<N> {
         let mut places = [0; N];
-        for (place, pair) in places.iter_mut().zip(word.chunks_exact(2)) {
-            *place = octet_of(pair[0], pair[1]);
-        }
-        let len = N.min(word.len() / 2);
+        let len = lay(word, &mut places);
         Bytes { places, len }
     }
 
@@ -89,11 +95,6 @@ impl<const N: usize> Bytes<N> {
     }
 
     pub(crate) fn as_slice(&self) -> &[u8] {
-        self.first(self.len)
-    }
-
-    // As many of the places, zeros among them, as there are.
-    pub(crate) fn first(&self, len: usize) -> &[u8] {
-        wire::head(&self.places, len)
+        wire::head(&self.places, self.len)
     }
 }

@@ -2,7 +2,7 @@
 ghost use Rattle.std.specs.Prelude.{◌≡◌, ℕ, eqb, false};
 ghost use Rattle.wire.specs.Refusals.{code_of, is_refused, number_by};
 
-// UVC's names for bRequestErrorCode; the last three are 01's.
+// UVC's names for bRequestErrorCode; those from 0x20 to 0x22 are 01's.
 #[derive(Clone, Copy, PartialEq, Eq)]
 pub enum Refusal {
     WrongState = 0x02,

@@ -1,9 +1,15 @@
 -- One turn of the loop of `walk`, by what `read` answered.
-use Rattle.std.proofs.Common.{arith, ◌∙◌}
-use Rattle.descriptors.proofs.Laws.Walk.{goes_on}
+use Rattle.std.proofs.Common.{◌≡◌, ◌∙◌, Err, arith}
+use Rattle.descriptors.proofs.Laws.Walk.{goes_on, ends_here}
 use Rattle.descriptors.proofs.walk.+read_walk.Goals as goal
 
 pub walk-loop-at-preserved : goal.walk-loop-at-preserved
 walk-loop-at-preserved t c =
     let next = goes_on _ _ _ _ (omega arith) (omega arith) _ c.in_ok-at.ensures in
     (omega (arith, next), omega (arith, next), next.2 ∙ c.loop-at.invariant.2)
+
+pub walk-returns-in_err-at : goal.walk-returns-in_err-at
+walk-returns-in_err-at t c =
+    let e : c.from_residual.result ≡ Err c.in_err-at.field-0.0 = grind arith in
+    let here = ends_here _ _ _ _ (omega arith) (omega arith) _ c.in_err-at.ensures in
+    rw e (here ∙ c.loop-at.invariant.2)
