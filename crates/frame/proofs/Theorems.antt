@@ -12,8 +12,9 @@ use Rattle.frame.specs.Theorems.{NoneUnknown, WrittenAgain, Marked, NothingCut, 
 use Rattle.frame.specs.Theorems.{SameTold, KnownTold, TakenBefore, ReadAsBefore}
 use Rattle.std.specs.Prelude.{Result, Ok, Err}
 use Rattle.frame.specs.declared.{view.ItemView.{ItemView as View}, refusals.Refusal.{Refusal}}
-use Rattle.frame.specs.Answers.{code_of, TellsView}
-use Rattle.frame.proofs.Laws.Told.{coded, told_apart}
+use Rattle.frame.specs.Answers.{code_of, is_refused, TellsView}
+use borrow.Author.Tests.{eqb-false}
+use Rattle.frame.proofs.Laws.Told.{told_apart}
 use Rattle.frame.specs.{Writer.{layout, Writable}, Calls.{FrameCall, item, count, append, frame_outcome}}
 use Rattle.wire.proofs.Laws.{Numbers.{Bytes}, Parts.{stands_at}}
 use denote.Ref.{Bor}
@@ -185,8 +186,8 @@ known_told block cut is k r s e c = go r s
     go : (r s : Result View Refusal) → TellsView block (block_item block.now (known_index k is)) r
         → TellsView cut (block_item cut.now k) s → SameTold r s
     go (Ok v) (Ok w) p q = let t = known_views block cut is k _ _ e c p q in (t.its_id, t.mark, t.payload)
-    go (Ok v) (Err f) p q = absurd (omega (arith, coded f, p.same_code, number, code q))
-    go (Err e) (Ok w) p q = absurd (omega (arith, coded e, q.same_code, number, code p))
+    go (Ok v) (Err f) p q = absurd (eqb-false (code_of f) 0 (is_refused f) (sym (p.same_code ∙ number ∙ code q)))
+    go (Err e) (Ok w) p q = absurd (eqb-false (code_of e) 0 (is_refused e) (sym (code p) ∙ number ∙ sym q.same_code))
     go (Err e) (Err f) p q = told_apart e f (sym (code p) ∙ number ∙ code q)
 
 -- which item of the block that is

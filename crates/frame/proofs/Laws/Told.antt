@@ -1,22 +1,12 @@
 -- A refusal's number tells which refusal it is. Assumes nothing.
-use Prim.Native.Nat.{ℕ, ◌<◌}
+use Prim.Native.Nat.{ℕ}
 use mathlib.Core.{Path.{◌≡◌, refl, sym, ap, ◌∙◌}, Bool.{cond}}
-use native.Mathlib.Omega.{arith}
 use lib.Dec.{eqb}
 use Rattle.frame.specs.declared.refusals.Refusal.{Refusal}
 use Rattle.frame.specs.declared.refusals.Refusal.TheVariants.{Truncated, InvalidId, ShortSize, TooLong, NoItem, NoRoom}
 use Rattle.frame.specs.Answers.{code_of, ToldApart}
 
--- no refusal's number is 0
-pub coded : (e : Refusal) → 0 < code_of e
-coded Truncated = omega arith
-coded InvalidId = omega arith
-coded ShortSize = omega arith
-coded TooLong = omega arith
-coded NoItem = omega arith
-coded NoRoom = omega arith
-
--- and no two have one
+-- the refusal of a number
 numbered : ℕ → Refusal
 numbered n =
     cond (eqb n 0x40) Truncated
