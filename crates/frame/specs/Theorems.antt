@@ -94,9 +94,9 @@ SameTold (Err e) (Err f) = e ≡ f
 
 -- #105: what `item_view` answers for known item k of a sound block, and for item k of the block with the unknown ones cut out, is the same
 abbrev pub KnownTold : Type 0
-KnownTold = (block cut : Bor (List ℕ)) (is : List MetadataItem) (k : ℕ) (r s : Result View Refusal) → block_items block.now ≡ sound is
-    → cut.now ≡ without_unknown block.now → TellsView block (block_item block.now (known_index k is)) r
-    → TellsView cut (block_item cut.now k) s → SameTold r s
+KnownTold = (block cut : Bor (List ℕ)) (is : List MetadataItem) (k : ℕ) (r s : Result View Refusal)
+    → block_items block.now ≡ sound is → cut.now ≡ without_unknown block.now
+    → TellsView block (block_item block.now (known_index k is)) r → TellsView cut (block_item cut.now k) s → SameTold r s
 
 -- #105: the known items of a sound block are those of the block with the unknown ones cut out, which is sound, no longer, and has no
 -- unknown item; known item k of the block is item k of the cut block.

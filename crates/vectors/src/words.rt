@@ -75,8 +75,8 @@ pub(crate) fn lay(word: &[u8], places: &mut [u8]) -> usize {
     places.len().min(word.len() / 2)
 }
 
-// The bytes that a word gives in hex, as far as there are N places, and how many; zeros behind them. It is handed back by value, so the rows
-// of 64 KiB and more have an array of their own, which `lay` fills in place.
+// The bytes that a word gives in hex, as far as there are N places, and how many; zeros behind them. It is handed back by value, so
+// the rows of 64 KiB and more have an array of their own, which `lay` fills in place.
 #[derive(Clone, Copy)]
 pub(crate) struct Bytes<const N: usize> {
     places: [u8; N],
